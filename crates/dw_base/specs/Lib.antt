@@ -1,0 +1,5 @@
+pub mod Collect
+pub mod Leb128
+pub mod Numbers
+pub mod Sums
+pub mod Texts

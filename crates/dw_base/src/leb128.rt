@@ -1,0 +1,138 @@
+//! LEB128 numbers.
+ghost use Rattle.std.specs.Prelude.{◌≡◌, ◌<◌, ◌≤◌, ◌+◌, ◌*◌, ◌^◌, ◌%◌, ℕ, ℤ, pos, ◌-ℤ◌, ◌==◌, ◌&&◌, nat_lt, if◌then◌else◌};
+ghost use Rattle.dw_base.specs.Leb128.{uleb_of, sleb_of, fits_i64};
+ghost use Rattle.dw_base.specs.Sums.{Sums, IsEven};
+
+use thiserror::Error;
+
+#[derive(Clone, Copy, Debug, PartialEq, Eq, Error)]
+pub enum LebFault {
+    #[error("the number is cut off")]
+    Truncated,
+    #[error("the number does not fit")]
+    TooWide,
+}
+
+/// The sum of some digits: its low 63 bits, and what is known of the rest.
+#[derive(Clone, Copy)]
+struct Sum {
+    low: u64,
+    shift: u32,
+    zeros: bool,
+    one: bool,
+    full: bool,
+}
+
+const NOTHING: Sum = Sum {
+    low: 0,
+    shift: 0,
+    zeros: true,
+    one: false,
+    full: true,
+};
+
+fn both(a: bool, b: bool) -> bool
+    ensures { result ≡ (a && b) }
+{
+    a && b
+}
+
+fn is_one(sum: Sum, digit: u64) -> bool
+    ensures { result ≡ (if sum.shift == 63 then digit == 1 else sum.one && digit == 0) }
+{
+    if sum.shift == 63 {
+        digit == 1
+    } else {
+        both(sum.one, digit == 0)
+    }
+}
+
+fn added(sum: Sum, digit: u64) -> Sum
+    requires digit { digit < 128 }
+    requires even { IsEven sum.low sum.shift }
+    ensures even { IsEven result.low result.shift }
+    ensures sums { (n total : ℕ) → Sums sum n total → Sums result (n + 1) (total + digit * 128 ^ n) }
+{
+    if sum.shift < 63 {
+        Sum {
+            low: sum.low + (digit << sum.shift),
+            shift: sum.shift + 7,
+            zeros: sum.zeros,
+            one: sum.one,
+            full: sum.full,
+        }
+    } else {
+        Sum {
+            low: sum.low,
+            shift: 70,
+            zeros: both(sum.zeros, digit == 0),
+            one: is_one(sum, digit),
+            full: both(sum.full, digit == 127),
+        }
+    }
+}
+
+/// The unsigned number at a place, and the place after it.
+pub fn uleb(bytes: &[u8], at: u64) -> Result<(u64, u64), LebFault>
+    ensures { result ≡ uleb_of bytes.now at }
+{
+    let mut sum = NOTHING;
+    for i in at as usize..bytes.len() {
+        let byte = bytes[i];
+        sum = added(sum, u64::from(byte) % 128);
+        if byte < 128 {
+            return unsigned(sum, i as u64 + 1);
+        }
+    }
+    Err(LebFault::Truncated)
+}
+
+/// The signed number at a place, and the place after it.
+pub fn sleb(bytes: &[u8], at: u64) -> Result<(i64, u64), LebFault>
+    ensures { result ≡ sleb_of bytes.now at }
+{
+    let mut sum = NOTHING;
+    for i in at as usize..bytes.len() {
+        let byte = bytes[i];
+        sum = added(sum, u64::from(byte) % 128);
+        if byte < 128 {
+            return signed(sum, byte >= 64, i as u64 + 1);
+        }
+    }
+    Err(LebFault::Truncated)
+}
+
+/// The sum, where it fits.
+fn unsigned(sum: Sum, end: u64) -> Result<(u64, u64), LebFault>
+    requires { IsEven sum.low sum.shift }
+    ensures { (n total : ℕ) → Sums sum n total → result ≡ (if nat_lt total (2 ^ 64) then Ok (total, end) else Err LebFault.TooWide) }
+{
+    if sum.zeros {
+        Ok((sum.low, end))
+    } else if sum.one {
+        Ok((sum.low + (1 << 63), end))
+    } else {
+        Err(LebFault::TooWide)
+    }
+}
+
+/// The sum, less the power after its digits where it is negative, where that fits.
+fn signed(sum: Sum, negative: bool, end: u64) -> Result<(i64, u64), LebFault>
+    requires { IsEven sum.low sum.shift }
+    ensures { (n total : ℕ) → Sums sum n total → let v = if negative then pos total -ℤ pos (128 ^ n) else pos total in result ≡ (if fits_i64 v then Ok (v, end) else Err LebFault.TooWide) }
+{
+    let low = sum.low as i64;
+    if negative {
+        if sum.shift < 63 {
+            Ok((low - (1i64 << sum.shift), end))
+        } else if sum.full {
+            Ok((low + i64::MIN, end))
+        } else {
+            Err(LebFault::TooWide)
+        }
+    } else if sum.zeros {
+        Ok((low, end))
+    } else {
+        Err(LebFault::TooWide)
+    }
+}

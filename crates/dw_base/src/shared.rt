@@ -1,0 +1,17 @@
+//! What workers share or give back may be shared and sent.
+use crate::bytes::Bytes;
+use crate::leb128::LebFault;
+use crate::names::Name;
+use crate::numbers::Order;
+use crate::places::{Limits, Place, Section};
+
+fn crosses<T: Send + Sync>() {}
+
+fn all_cross<'a>() {
+    crosses::<Bytes>();
+    crosses::<Name<'a>>();
+    crosses::<&'a Name<'a>>();
+    crosses::<Order>();
+    crosses::<LebFault>();
+    crosses::<(Limits, Place, Section)>();
+}
