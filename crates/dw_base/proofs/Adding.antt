@@ -40,7 +40,6 @@ even_step low d s small few e =
     let b : 2 ^ (s + 7) ≤ 2 ^ 63 = below_top s le in
     record { fits = omega arith; below = λ _. a; steps = omega (arith, e.steps); top = omega arith }
 
-
 more_and : (z : Bool) (h d p : ℕ) → 0 < p → z ≡ (h == 0) → (d ≡ 0) ⊎ (d ≡ 0 → ⊥) → (z && (d == 0)) ≡ (h + d * p == 0)
 more_and z h d p some e (inl n) = let a : (d == 0) ≡ true = eq-eqb d 0 n in let b : h + d * p ≡ h = rw n (omega arith) in rw (a, b) (and_true z ∙ e)
 more_and z h d p some e (inr n) =
@@ -100,7 +99,7 @@ low_sums s d n total small few e h =
       past = λ (far : 63 < s.shift + 7). absurd (omega (arith, e.steps));
       zeros = h.zeros;
       one = h.one;
-      full = rw z' full'
+      full = rw z' full';
     }
 
 -- what the first digit of the high part is, or a later one
@@ -145,7 +144,7 @@ high_sums s d n total z o f small far e zeros one full h =
       past = λ _. omega arith;
       zeros = zeros ∙ step_zeros s.zeros h.high d (128 ^ (n - 9)) pos h.zeros;
       one = one_step s d n total o small far h one h (cases_eq s.shift 63);
-      full = full ∙ step_full s.full h.high d (128 ^ (n - 9)) small few h.full ∙ ap (λ (x : ℕ). h.high + d * 128 ^ (n - 9) + 1 == x) (sym more)
+      full = full ∙ step_full s.full h.high d (128 ^ (n - 9)) small few h.full ∙ ap (λ (x : ℕ). h.high + d * 128 ^ (n - 9) + 1 == x) (sym more);
     }
   where
     nine_digits : (s.shift ≡ 63) ⊎ (s.shift ≡ 63 → ⊥) → 9 ≤ n

@@ -53,7 +53,7 @@ adds_one bytes at i b old new le lt is r adds =
     let t : take ((i - at) + 1) (drop at bytes) ≡ take (i - at) (drop at bytes) ++ b ∷ [] = take_more (drop at bytes) (i - at) 0 long ∙ ap (λ (z : ℕ). take (i - at) (drop at bytes) ++ z ∷ []) y in
     let w : length (take (i - at) (drop at bytes)) ≡ i - at = length-take-le (i - at) (drop at bytes) (omega arith) in
     let s : sum_from 0 (take ((i - at) + 1) (drop at bytes)) ≡ sum_from 0 (take (i - at) (drop at bytes)) + b % 128 * 128 ^ (i - at) =
-      ap (sum_from 0) t ∙ sum_from-push 0 (take (i - at) (drop at bytes)) b ∙ ap (λ (z : ℕ). sum_from 0 (take (i - at) (drop at bytes)) + b % 128 * 128 ^ z) (omega arith) in
+    ap (sum_from 0) t ∙ sum_from-push 0 (take (i - at) (drop at bytes)) b ∙ ap (λ (z : ℕ). sum_from 0 (take (i - at) (drop at bytes)) + b % 128 * 128 ^ z) (omega arith) in
     rw (m, s) (adds (i - at) (sum_from 0 (take (i - at) (drop at bytes))) r.sums)
 
 pub byte_there : (bytes : List ℕ) (at i b : ℕ) → at ≤ i → b ≡ get_or bytes i 0 → get_or (drop at bytes) (i - at) 0 ≡ b
@@ -68,7 +68,7 @@ reads_on bytes at i b old new le lt is big r even adds =
       even = even;
       sums = adds_one bytes at i b old new le lt is r adds;
       high = let m : i + 1 - at ≡ (i - at) + 1 = omega arith in
-        rw m (below_more (λ (k : ℕ). 128 ≤ get_or (drop at bytes) k 0) (i - at) r.high (rw (byte_there bytes at i b le is) big))
+          rw m (below_more (λ (k : ℕ). 128 ≤ get_or (drop at bytes) k 0) (i - at) r.high (rw (byte_there bytes at i b le is) big));
     }
 
 -- the number ends here
@@ -88,7 +88,7 @@ starts bytes at s e =
     rw e (record {
       even = record { fits = omega arith; below = λ _. omega arith; steps = refl; top = omega arith };
       sums = rw z (record { high = 0; is = refl; few = omega arith; count = λ _. refl; past = λ (h : 63 < 0). absurd (omega arith); zeros = refl; one = refl; full = refl });
-      high = λ (k : ℕ) (lt : k < at - at). absurd (omega arith)
+      high = λ (k : ℕ) (lt : k < at - at). absurd (omega arith);
     })
 
 pub length_of : (bytes : List ℕ) (at i : ℕ) → at ≤ i → i < length bytes → at + length (take (i + 1 - at) (drop at bytes)) ≡ i + 1
@@ -102,7 +102,7 @@ unsigned_end bytes at i b old new result le lt is small r adds gives =
     let found : leb_bytes (drop at bytes) ≡ Some (take (i + 1 - at) (drop at bytes)) = ends_here bytes at i b old new le lt is small r adds in
     let e : at + length (take (i + 1 - at) (drop at bytes)) ≡ i + 1 = length_of bytes at i le lt in
     let g : result ≡ (if nat_lt (unsigned_of (take (i + 1 - at) (drop at bytes))) (2 ^ 64) then Ok (unsigned_of (take (i + 1 - at) (drop at bytes)), i + 1) else Err TooWide) =
-      gives (i + 1 - at) (sum_from 0 (take (i + 1 - at) (drop at bytes))) (adds_one bytes at i b old new le lt is r adds) in
+    gives (i + 1 - at) (sum_from 0 (take (i + 1 - at) (drop at bytes))) (adds_one bytes at i b old new le lt is r adds) in
     rw (found, e) g
 
 pub last_there : (bytes : List ℕ) (at i b : ℕ) → at ≤ i → i < length bytes → b ≡ get_or bytes i 0 → get_or (take (i + 1 - at) (drop at bytes)) (length (take (i + 1 - at) (drop at bytes)) - 1) 0 ≡ b

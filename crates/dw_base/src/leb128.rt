@@ -1,19 +1,23 @@
-//! LEB128 numbers.
+//! LEB128 numbers (DWARF 5, section 7.6): seven bits a byte, the lowest first, bit 7 set on all but the last.
 ghost use Rattle.std.specs.Prelude.{◌≡◌, ◌<◌, ◌≤◌, ◌+◌, ◌*◌, ◌^◌, ◌%◌, ℕ, ℤ, pos, ◌-ℤ◌, ◌==◌, ◌&&◌, nat_lt, if◌then◌else◌};
 ghost use Rattle.dw_base.specs.Leb128.{uleb_of, sleb_of, fits_i64};
 ghost use Rattle.dw_base.specs.Sums.{Sums, IsEven};
 
 use thiserror::Error;
 
+/// Why there is no number at a place.
 #[derive(Clone, Copy, Debug, PartialEq, Eq, Error)]
 pub enum LebFault {
+    /// No byte with bit 7 clear stands at or after the place.
     #[error("the number is cut off")]
     Truncated,
+    /// The number is there, and does not fit 64 bits.
     #[error("the number does not fit")]
     TooWide,
 }
 
-/// The sum of some digits: its low 63 bits, and what is known of the rest.
+/// The sum of some digits: its low 63 bits, and what is known of the part above them, counted by 2^63.
+/// `zeros`: that part is 0; `one`: it is 1; `full`: it is all ones.
 #[derive(Clone, Copy)]
 struct Sum {
     low: u64,
@@ -31,12 +35,15 @@ const NOTHING: Sum = Sum {
     full: true,
 };
 
+#[inline(always)]
 fn both(a: bool, b: bool) -> bool
     ensures { result ≡ (a && b) }
 {
     a && b
 }
 
+/// Whether the part above 63 bits is 1 once a digit is added to it.
+#[inline(always)]
 fn is_one(sum: Sum, digit: u64) -> bool
     ensures { result ≡ (if sum.shift == 63 then digit == 1 else sum.one && digit == 0) }
 {
@@ -47,6 +54,8 @@ fn is_one(sum: Sum, digit: u64) -> bool
     }
 }
 
+/// The sum with one more digit: a shift and an addition for the first nine digits.
+#[inline(always)]
 fn added(sum: Sum, digit: u64) -> Sum
     requires digit { digit < 128 }
     requires even { IsEven sum.low sum.shift }
@@ -72,7 +81,10 @@ fn added(sum: Sum, digit: u64) -> Sum
     }
 }
 
-/// The unsigned number at a place, and the place after it.
+/// The unsigned number at offset `at`, and the offset after it. Padding bytes (`80 00` for 0) are allowed.
+/// `Truncated` where no byte with bit 7 clear stands at or after `at`; `TooWide` where one does and the
+/// number passes 2^64 - 1.
+#[inline(always)]
 pub fn uleb(bytes: &[u8], at: u64) -> Result<(u64, u64), LebFault>
     ensures { result ≡ uleb_of bytes.now at }
 {
@@ -87,7 +99,10 @@ pub fn uleb(bytes: &[u8], at: u64) -> Result<(u64, u64), LebFault>
     Err(LebFault::Truncated)
 }
 
-/// The signed number at a place, and the place after it.
+/// The signed number at offset `at`, in two's complement by bit 6 of its last byte, and the offset after
+/// it. Padding bytes are allowed. `Truncated` where no byte with bit 7 clear stands at or after `at`;
+/// `TooWide` where one does and the number does not fit an `i64`.
+#[inline(always)]
 pub fn sleb(bytes: &[u8], at: u64) -> Result<(i64, u64), LebFault>
     ensures { result ≡ sleb_of bytes.now at }
 {
@@ -103,6 +118,7 @@ pub fn sleb(bytes: &[u8], at: u64) -> Result<(i64, u64), LebFault>
 }
 
 /// The sum, where it fits.
+#[inline(always)]
 fn unsigned(sum: Sum, end: u64) -> Result<(u64, u64), LebFault>
     requires { IsEven sum.low sum.shift }
     ensures { (n total : ℕ) → Sums sum n total → result ≡ (if nat_lt total (2 ^ 64) then Ok (total, end) else Err LebFault.TooWide) }
@@ -117,6 +133,7 @@ fn unsigned(sum: Sum, end: u64) -> Result<(u64, u64), LebFault>
 }
 
 /// The sum, less the power after its digits where it is negative, where that fits.
+#[inline(always)]
 fn signed(sum: Sum, negative: bool, end: u64) -> Result<(i64, u64), LebFault>
     requires { IsEven sum.low sum.shift }
     ensures { (n total : ℕ) → Sums sum n total → let v = if negative then pos total -ℤ pos (128 ^ n) else pos total in result ≡ (if fits_i64 v then Ok (v, end) else Err LebFault.TooWide) }

@@ -43,6 +43,8 @@ pub fn text_at<'a>(bytes: &'a [u8], at: u64) -> Option<Name<'a>>
         return None;
     }
     let rest = &bytes[at as usize..];
-    let end = memchr(0, rest)?;
-    Some(Name::new(&rest[..end]))
+    match memchr(0, rest) {
+        None => None,
+        Some(end) => Some(Name::new(&rest[..end])),
+    }
 }
