@@ -1,0 +1,5 @@
+pub mod Placing
+pub mod Faults
+pub mod Grow
+pub mod Spelled
+pub mod Steps

@@ -1,0 +1,5 @@
+pub mod Declarations
+pub mod Law
+pub mod Rows
+pub mod Standard
+pub mod Table
