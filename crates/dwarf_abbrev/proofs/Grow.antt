@@ -1,5 +1,5 @@
 -- The place after an abbreviation is after its own.
-use Rattle.std.proofs.Common.{◌≡◌, ℕ, zero, suc, ◌+◌, ◌<◌, ◌≤◌, ◌==◌, ◌&&◌, ℤ, pos, nat_lt, Bool, true, false, List, [], ◌∷◌, ◌++◌, length, Option, None, Some, is_some, Result, Ok, Err, if◌then◌else◌, refl, sym, ap, ◌∙◌, arith}
+use Rattle.std.proofs.Common.{◌≡◌, ℕ, zero, suc, ◌+◌, ◌<◌, ◌≤◌, ◌==◌, ◌&&◌, ℤ, pos, nat_lt, Bool, true, false, List, [], ◌∷◌, ◌++◌, length, Option, None, Some, is_some, Result, Ok, Err, if◌then◌else◌, refl, arith}
 use Rattle.std.specs.List.{slice_get}
 use Rattle.dw_base.specs.Leb128.{uleb_of, sleb_of}
 use Rattle.dw_base.specs.Collect.{collect, gone_on}
@@ -58,9 +58,9 @@ unfolding spec_at
 spec_up bytes start at =
     up_on at (number_at bytes start at) (λ (name : ℕ × ℕ). number_at bytes start name.1 >>= λ (form : ℕ × ℕ). rest bytes start name form) (lower at (number_at bytes start at) (number_up bytes start at))
     (λ (name : ℕ × ℕ). up_on name.1 (number_at bytes start name.1) (λ (form : ℕ × ℕ). rest bytes start name form) (lower name.1 (number_at bytes start name.1) (number_up bytes start name.1))
-      (λ (form : ℕ × ℕ). either form.1 (form.0 == 0x21) (signed_at bytes start form.1 >>= λ (value : ℤ × ℕ). Ok (made_of name.0 form.0 value.0, value.1)) (if name.0 == 0 && form.0 == 0 then Ok (None, form.1) else Ok (made_of name.0 form.0 (pos 0), form.1))
-        (up_on form.1 (signed_at bytes start form.1) (λ (value : ℤ × ℕ). Ok (made_of name.0 form.0 value.0, value.1)) (lower form.1 (signed_at bytes start form.1) (signed_up bytes start form.1)) (λ (value : ℤ × ℕ). ups value.1 (made_of name.0 form.0 value.0) value.1 (omega arith)))
-        (either form.1 (name.0 == 0 && form.0 == 0) (Ok (None, form.1)) (Ok (made_of name.0 form.0 (pos 0), form.1)) (ups form.1 None form.1 (omega arith)) (ups form.1 (made_of name.0 form.0 (pos 0)) form.1 (omega arith)))))
+    (λ (form : ℕ × ℕ). either form.1 (form.0 == 0x21) (signed_at bytes start form.1 >>= λ (value : ℤ × ℕ). Ok (made_of name.0 form.0 value.0, value.1)) (if name.0 == 0 && form.0 == 0 then Ok (None, form.1) else Ok (made_of name.0 form.0 (pos 0), form.1))
+    (up_on form.1 (signed_at bytes start form.1) (λ (value : ℤ × ℕ). Ok (made_of name.0 form.0 value.0, value.1)) (lower form.1 (signed_at bytes start form.1) (signed_up bytes start form.1)) (λ (value : ℤ × ℕ). ups value.1 (made_of name.0 form.0 value.0) value.1 (omega arith)))
+    (either form.1 (name.0 == 0 && form.0 == 0) (Ok (None, form.1)) (Ok (made_of name.0 form.0 (pos 0), form.1)) (ups form.1 None form.1 (omega arith)) (ups form.1 (made_of name.0 form.0 (pos 0)) form.1 (omega arith)))))
 
 -- items that do not go back
 item_up : {X : Type 0} (at : ℕ) (seen : List X) (r : Result (Option X × ℕ) AbbrevFault) (go : ℕ → List X → Result (List X × ℕ) AbbrevFault) → Up at r → ((mid : ℕ) (more : List X) → Up mid (go mid more)) → Up at (gone_on r seen go)
@@ -92,15 +92,15 @@ made_declaration code tag children specs = Some (record { code = code; tag = tag
 abbrev body : List ℕ → ℕ → ℕ × ℕ → Result (Option Declaration × ℕ) AbbrevFault
 body bytes at code =
     number_at bytes at code.1 >>= λ (tag : ℕ × ℕ).
-      flag_at bytes at tag.1 >>= λ (children : Bool × ℕ).
-        specs_of bytes at children.1 >>= λ (specs : List Spec × ℕ). Ok (made_declaration code.0 tag.0 children.0 specs.0, specs.1)
+    flag_at bytes at tag.1 >>= λ (children : Bool × ℕ).
+    specs_of bytes at children.1 >>= λ (specs : List Spec × ℕ). Ok (made_declaration code.0 tag.0 children.0 specs.0, specs.1)
 
 body_up : (bytes : List ℕ) (at : ℕ) (code : ℕ × ℕ) → Up code.1 (body bytes at code)
 body_up bytes at code =
     up_on code.1 (number_at bytes at code.1) (λ (tag : ℕ × ℕ). flag_at bytes at tag.1 >>= λ (children : Bool × ℕ). specs_of bytes at children.1 >>= λ (specs : List Spec × ℕ). Ok (made_declaration code.0 tag.0 children.0 specs.0, specs.1)) (lower code.1 (number_at bytes at code.1) (number_up bytes at code.1))
     (λ (tag : ℕ × ℕ). up_on tag.1 (flag_at bytes at tag.1) (λ (children : Bool × ℕ). specs_of bytes at children.1 >>= λ (specs : List Spec × ℕ). Ok (made_declaration code.0 tag.0 children.0 specs.0, specs.1)) (flag_up at tag.1 (slice_get bytes tag.1))
-      (λ (children : Bool × ℕ). up_on children.1 (specs_of bytes at children.1) (λ (specs : List Spec × ℕ). Ok (made_declaration code.0 tag.0 children.0 specs.0, specs.1)) (specs_up bytes at children.1)
-        (λ (specs : List Spec × ℕ). ups specs.1 (made_declaration code.0 tag.0 children.0 specs.0) specs.1 (omega arith))))
+    (λ (children : Bool × ℕ). up_on children.1 (specs_of bytes at children.1) (λ (specs : List Spec × ℕ). Ok (made_declaration code.0 tag.0 children.0 specs.0, specs.1)) (specs_up bytes at children.1)
+    (λ (specs : List Spec × ℕ). ups specs.1 (made_declaration code.0 tag.0 children.0 specs.0) specs.1 (omega arith))))
 
 no_declaration_up : (at : ℕ) (f : AbbrevFault) → Up {A = Option Declaration} at (Err f)
 no_declaration_up at f v end e = cc
@@ -117,5 +117,5 @@ declaration_goes bytes at mid seen o e =
     let b = bind_ok (number_at bytes at at) f (o, mid) e in
     let p : at + 1 ≤ b.0.1 = number_up bytes at at b.0.0 b.0.1 b.1 in
     let q : b.0.1 ≤ mid = either b.0.1 (b.0.0 == 0) (Ok (None, b.0.1)) (if is_some (place_of b.0.0 seen) then Err (AbbrevTwice at b.0.0) else body bytes at b.0) (ups b.0.1 None b.0.1 (omega arith))
-      (either b.0.1 (is_some (place_of b.0.0 seen)) (Err (AbbrevTwice at b.0.0)) (body bytes at b.0) (no_declaration_up b.0.1 (AbbrevTwice at b.0.0)) (body_up bytes at b.0)) o mid b.2 in
+    (either b.0.1 (is_some (place_of b.0.0 seen)) (Err (AbbrevTwice at b.0.0)) (body bytes at b.0) (no_declaration_up b.0.1 (AbbrevTwice at b.0.0)) (body_up bytes at b.0)) o mid b.2 in
     (omega arith, leb_inside bytes at at b.0.0 b.0.1 (uleb_of bytes at) refl b.1)

@@ -87,15 +87,18 @@ one_more declarations r old new p none others here =
     record {
       each = λ (i : ℕ) (lt : i < length (declarations ++ r ∷ [])). each i lt (cases_lt i (length declarations));
       found = λ (q i : ℕ) (h : get nat_cmp new q ≡ Some i). found q i h (cases_eq q r.code);
-      distinct = λ (i j : ℕ) (a : i < length (declarations ++ r ∷ [])) (b : j < length (declarations ++ r ∷ [])) (e : code_at (declarations ++ r ∷ []) i ≡ code_at (declarations ++ r ∷ []) j). distinct i j a b e (cases_lt i (length declarations)) (cases_lt j (length declarations))
+      distinct = λ (i j : ℕ) (a : i < length (declarations ++ r ∷ [])) (b : j < length (declarations ++ r ∷ [])) (e : code_at (declarations ++ r ∷ []) i ≡ code_at (declarations ++ r ∷ []) j). distinct i j a b e (cases_lt i (length declarations)) (cases_lt j (length declarations));
     }
   where
     fresh : (i : ℕ) → i < length declarations → code_at declarations i ≡ r.code → ⊥
     fresh i lt = not_placed declarations r.code i none lt
+
     last : (i : ℕ) → i < length (declarations ++ r ∷ []) → length declarations ≤ i → i ≡ length declarations
     last i lt le = omega (arith, length_push declarations r)
+
     end : (i : ℕ) → i ≡ length declarations → code_at (declarations ++ r ∷ []) i ≡ r.code
     end i e = rw e (code_last declarations r)
+
     each : (i : ℕ) → i < length (declarations ++ r ∷ []) → (i < length declarations) ⊎ (length declarations ≤ i) → (code_at (declarations ++ r ∷ []) i ≡ i + 1) ⊎ (get nat_cmp new (code_at (declarations ++ r ∷ []) i) ≡ Some i)
     each i lt (inl l) = rw (code_before declarations r i l) (keep (p.each i l))
       where
@@ -107,6 +110,7 @@ one_more declarations r old new p none others here =
         there : (r.code ≡ length declarations + 1) × (get nat_cmp new r.code ≡ get nat_cmp old r.code) ⊎ (get nat_cmp new r.code ≡ Some (length declarations)) → (r.code ≡ i + 1) ⊎ (get nat_cmp new r.code ≡ Some i)
         there (inl a) = inl (a.0 ∙ ap (λ (k : ℕ). k + 1) (sym (last i lt le)))
         there (inr b) = inr (b ∙ ap (λ (k : ℕ). Some k) (sym (last i lt le)))
+
     found : (q i : ℕ) → get nat_cmp new q ≡ Some i → (q ≡ r.code) ⊎ (q ≡ r.code → ⊥) → (i < length (declarations ++ r ∷ [])) × (code_at (declarations ++ r ∷ []) i ≡ q)
     found q i h (inr ne) =
         let f = p.found q i (sym (others q ne) ∙ h) in
@@ -119,6 +123,7 @@ one_more declarations r old new p none others here =
             let s : Some (length declarations) ≡ Some i = sym b ∙ ap (get nat_cmp new) (sym e) ∙ h in
             let w : i ≡ length declarations = cc in
             (omega (arith, length_push declarations r), end i w ∙ sym e)
+
     distinct : (i j : ℕ) → i < length (declarations ++ r ∷ []) → j < length (declarations ++ r ∷ []) → code_at (declarations ++ r ∷ []) i ≡ code_at (declarations ++ r ∷ []) j → (i < length declarations) ⊎ (length declarations ≤ i) → (j < length declarations) ⊎ (length declarations ≤ j) → i ≡ j
     distinct i j a b e (inl k) (inl l) = p.distinct i j k l (sym (code_before declarations r i k) ∙ e ∙ code_before declarations r j l)
     distinct i j a b e (inl k) (inr l) = absurd (fresh i k (sym (code_before declarations r i k) ∙ e ∙ end j (last j b l)))

@@ -1,8 +1,7 @@
 -- A table read is the table that the standard lays out.
 use Rattle.std.proofs.Common.{◌≡◌, ◌≢◌, ℕ, zero, suc, ◌+◌, ◌<◌, ◌≤◌, ◌==◌, nat_lt, Bool, true, false, List, [], ◌∷◌, ◌++◌, length, Option, None, Some, is_some, Result, Ok, Err, if◌then◌else◌, refl, sym, ap, subst, ◌∙◌, arith}
 use Rattle.std.specs.List.{slice_get}
-use Rattle.std.specs.Option.{option_map}
-use Rattle.std.proofs.lemmas.Bool.{eq-eqb, ne_eqb, eqb-true, eqb-false, lt-ltb}
+use Rattle.std.proofs.lemmas.Bool.{ne_eqb, eqb-true, eqb-false, lt-ltb}
 use Rattle.std.specs.Prelude.{◌⊎◌, ⊤}
 use Rattle.std.proofs.Common.{inl, inr}
 use Rattle.dw_base.specs.Leb128.{sleb_of}
@@ -14,16 +13,16 @@ use Rattle.dwarf_abbrev.specs.declared.fault.AbbrevFault.{AbbrevFault}
 use Rattle.dwarf_abbrev.specs.declared.fault.AbbrevFault.TheVariants.{AbbrevTruncated, AbbrevTwice, ChildrenByte}
 use Rattle.dwarf_abbrev.specs.Declarations.{Declaration, place_of}
 use Rattle.dwarf_abbrev.specs.Table.{◌>>=◌, number_at, spec_at, specs_of, flag_from, flag_at, declaration_at, table_at}
-use Rattle.dwarf_abbrev.specs.Standard.{IsNumber, IsPlain, IsPair, ArePairs, IsLast, IsDeclaration, IsNew, IsTable}
+use Rattle.dwarf_abbrev.specs.Standard.{IsNumber, IsPlain, ArePairs, IsLast, IsDeclaration, IsNew, IsTable}
 use Rattle.dwarf_abbrev.proofs.Grow.{bind_ok, declaration_goes}
-use Rattle.dwarf_abbrev.proofs.Placing.{later, not_later}
+use Rattle.dwarf_abbrev.proofs.Placing.{not_later}
 use Rattle.dwarf_abbrev.proofs.Steps.{number_is, number_gives, bind_gives, spec_is, pair_read, last_read}
 
 -- pairs
 abbrev pub step : List ℕ → ℕ → ℕ → List Spec → Result (Option Spec × ℕ) AbbrevFault
 step bytes start place seen = spec_at bytes start place
 
-spec_found : (bytes : List ℕ) (start at mid : ℕ) (o : Option Spec) → spec_at bytes start at ≡ Ok (o, mid) → (at < mid) × (at < length bytes)
+pub spec_found : (bytes : List ℕ) (start at mid : ℕ) (o : Option Spec) → spec_at bytes start at ≡ Ok (o, mid) → (at < mid) × (at < length bytes)
 spec_found bytes start at mid None e =
     let l = (spec_is bytes start at mid None e).last refl in
     let a = uleb_after bytes at 0 l.0 l.1 in
@@ -83,31 +82,31 @@ pub flag_read : (bytes : List ℕ) (start at : ℕ) (c : Bool) → slice_get byt
 flag_read bytes start at c h = ap (flag_from start at) h ∙ flag_gives start at c
 
 -- a code that is new
-none_new : (code : ℕ) (ds : List Declaration) → place_of code ds ≡ None → IsNew code ds
+pub none_new : (code : ℕ) (ds : List Declaration) → place_of code ds ≡ None → IsNew code ds
 none_new code [] e = tt
 none_new code (d ∷ ds) e = let p = not_later (d.code == code) (place_of code ds) e in (eqb-false d.code code p.0, none_new code ds p.1)
 
-new_none : (code : ℕ) (ds : List Declaration) → IsNew code ds → place_of code ds ≡ None
+pub new_none : (code : ℕ) (ds : List Declaration) → IsNew code ds → place_of code ds ≡ None
 new_none code [] h = refl
 new_none code (d ∷ ds) h = rw (ne_eqb d.code code h.0, new_none code ds h.1) refl
 
 -- an abbreviation
-abbrev made : ℕ → ℕ → Bool → List Spec → Declaration
+abbrev pub made : ℕ → ℕ → Bool → List Spec → Declaration
 made code tag children specs = record { code = code; tag = tag; children = children; specs = specs }
 
-abbrev after_children : List ℕ → ℕ → ℕ → ℕ → Bool × ℕ → Result (Option Declaration × ℕ) AbbrevFault
+abbrev pub after_children : List ℕ → ℕ → ℕ → ℕ → Bool × ℕ → Result (Option Declaration × ℕ) AbbrevFault
 after_children bytes at code tag children = specs_of bytes at children.1 >>= λ (specs : List Spec × ℕ). Ok (Some (made code tag children.0 specs.0), specs.1)
 
-abbrev after_tag : List ℕ → ℕ → ℕ → ℕ × ℕ → Result (Option Declaration × ℕ) AbbrevFault
+abbrev pub after_tag : List ℕ → ℕ → ℕ → ℕ × ℕ → Result (Option Declaration × ℕ) AbbrevFault
 after_tag bytes at code tag = flag_at bytes at tag.1 >>= after_children bytes at code tag.0
 
-abbrev after_code : List ℕ → ℕ → ℕ × ℕ → Result (Option Declaration × ℕ) AbbrevFault
+abbrev pub after_code : List ℕ → ℕ → ℕ × ℕ → Result (Option Declaration × ℕ) AbbrevFault
 after_code bytes at code = number_at bytes at code.1 >>= after_tag bytes at code.0
 
-abbrev after_new : List ℕ → ℕ → ℕ × ℕ → Bool → Result (Option Declaration × ℕ) AbbrevFault
+abbrev pub after_new : List ℕ → ℕ → ℕ × ℕ → Bool → Result (Option Declaration × ℕ) AbbrevFault
 after_new bytes at code twice = if twice then Err (AbbrevTwice at code.0) else after_code bytes at code
 
-abbrev after_start : List ℕ → ℕ → List Declaration → ℕ × ℕ → Result (Option Declaration × ℕ) AbbrevFault
+abbrev pub after_start : List ℕ → ℕ → List Declaration → ℕ × ℕ → Result (Option Declaration × ℕ) AbbrevFault
 after_start bytes at seen code = if code.0 == 0 then Ok (None, code.1) else after_new bytes at code (is_some (place_of code.0 seen))
 
 -- what a step found, and how
@@ -136,10 +135,10 @@ whole bytes at after seen o code n some new e =
     let pairs : ArePairs bytes (a.0.1 + 1) s.0.0 p.0 = subst (λ (k : ℕ). ArePairs bytes k s.0.0 p.0) f.1 p.1 in
     let last : IsLast bytes p.0 after = subst (λ (k : ℕ). IsLast bytes p.0 k) q.1 p.2 in
     let d : IsDeclaration bytes at (made code.0 a.0.0 b.0.0 s.0.0) after =
-      record { tag_at = code.1; children_at = a.0.1; last_at = p.0; code = n; some = some; tag = number_is bytes at code.1 a.0 a.1; children = f.0; pairs = pairs; last = last } in
+    record { tag_at = code.1; children_at = a.0.1; last_at = p.0; code = n; some = some; tag = number_is bytes at code.1 a.0 a.1; children = f.0; pairs = pairs; last = last } in
     record {
       declaration = λ (x : Declaration) (h : o ≡ Some x). subst (λ (x : Declaration). IsDeclaration bytes at x after × IsNew x.code seen) (same_some (made code.0 a.0.0 b.0.0 s.0.0) x (q.0 ∙ h)) (d, new);
-      none = λ (h : o ≡ None). absurd (some_none (made code.0 a.0.0 b.0.0 s.0.0) (q.0 ∙ h))
+      none = λ (h : o ≡ None). absurd (some_none (made code.0 a.0.0 b.0.0 s.0.0) (q.0 ∙ h));
     }
 
 by_twice : (bytes : List ℕ) (at after : ℕ) (seen : List Declaration) (o : Option Declaration) (code : ℕ × ℕ) (t : Bool) → IsNumber bytes at code.0 code.1 → code.0 ≢ 0 → is_some (place_of code.0 seen) ≡ t → after_new bytes at code t ≡ Ok (o, after) → Found bytes at seen o after
@@ -177,7 +176,7 @@ unfolding declaration_at
 end_read bytes at after seen n = bind_gives (number_at bytes at at) (after_start bytes at seen) (0, after) (number_gives bytes at at 0 after n)
 
 -- the whole list: no code of it is one of those seen before
-abbrev AreNew : List Declaration → List Declaration → Type 0
+abbrev pub AreNew : List Declaration → List Declaration → Type 0
 AreNew seen [] = ⊤
 AreNew seen (d ∷ ds) = IsNew d.code seen × AreNew seen ds
 
@@ -189,14 +188,14 @@ right : (code : ℕ) (seen : List Declaration) (d : Declaration) → IsNew code 
 right code [] d h n = (n, tt)
 right code (x ∷ xs) d h n = (h.0, right code xs d h.1 n)
 
-all_left : (seen : List Declaration) (d : Declaration) (ds : List Declaration) → AreNew (seen ++ d ∷ []) ds → AreNew seen ds × IsNew d.code ds
+pub all_left : (seen : List Declaration) (d : Declaration) (ds : List Declaration) → AreNew (seen ++ d ∷ []) ds → AreNew seen ds × IsNew d.code ds
 all_left seen d [] h = (tt, tt)
 all_left seen d (x ∷ xs) h =
     let a = left x.code seen d h.0 in
     let i = all_left seen d xs h.1 in
     ((a.0, i.0), (λ (e : x.code ≡ d.code). a.1 (sym e), i.1))
 
-all_right : (seen : List Declaration) (d : Declaration) (ds : List Declaration) → AreNew seen ds → IsNew d.code ds → AreNew (seen ++ d ∷ []) ds
+pub all_right : (seen : List Declaration) (d : Declaration) (ds : List Declaration) → AreNew seen ds → IsNew d.code ds → AreNew (seen ++ d ∷ []) ds
 all_right seen d [] h n = tt
 all_right seen d (x ∷ xs) h n = (right x.code seen d h.0 (λ (e : d.code ≡ x.code). n.0 (sym e)), all_right seen d xs h.1 n.1)
 
@@ -214,7 +213,7 @@ table_chain bytes at seen (d ∷ ds) h n =
     let i = table_chain bytes h.0 (seen ++ d ∷ []) ds h.3 (all_right seen d ds n.1 h.2) in
     (i.0, (h.0, declaration_read bytes at h.0 seen d h.1 n.0, i.1))
 
-none_seen : (ds : List Declaration) → AreNew [] ds
+pub none_seen : (ds : List Declaration) → AreNew [] ds
 none_seen [] = tt
 none_seen (d ∷ ds) = (tt, none_seen ds)
 

@@ -1,18 +1,14 @@
 -- A step reads just what the standard lays out.
-use Rattle.std.proofs.Common.{◌≡◌, ◌≢◌, ℕ, ◌+◌, ◌<◌, ◌≤◌, ◌==◌, ◌&&◌, ◌⊎◌, ℤ, pos, nat_lt, Bool, true, false, List, [], ◌∷◌, ◌++◌, length, Option, None, Some, is_some, Result, Ok, Err, if◌then◌else◌, refl, sym, ap, subst, ◌∙◌, arith, inl, inr}
-use Rattle.std.specs.List.{slice_get}
+use Rattle.std.proofs.Common.{◌≡◌, ℕ, ◌==◌, ◌&&◌, ◌⊎◌, ℤ, pos, Bool, true, false, List, Option, None, Some, Result, Ok, Err, if◌then◌else◌, refl, sym, ap, subst, ◌∙◌, inl, inr}
 use Rattle.std.proofs.lemmas.Bool.{eq-eqb, ne_eqb, eqb-true, eqb-false, both_ways}
 use Rattle.dw_base.specs.Leb128.{uleb_of, sleb_of}
-use Rattle.dw_base.specs.Collect.{collect}
 use Rattle.dw_base.specs.declared.leb128.LebFault.{LebFault}
 use Rattle.dw_base.specs.declared.leb128.LebFault.TheVariants.{Truncated, TooWide}
 use Rattle.dw_base.proofs.Ends.{ok_parts}
 use Rattle.dwarf_abbrev.specs.declared.spec.Spec.{Spec}
 use Rattle.dwarf_abbrev.specs.declared.fault.AbbrevFault.{AbbrevFault}
-use Rattle.dwarf_abbrev.specs.declared.fault.AbbrevFault.TheVariants.{AbbrevTruncated, AbbrevTwice, ChildrenByte}
-use Rattle.dwarf_abbrev.specs.Declarations.{Declaration, place_of}
-use Rattle.dwarf_abbrev.specs.Table.{◌>>=◌, of_leb, number_at, signed_at, spec_at, specs_of, flag_from, flag_at, declaration_at}
-use Rattle.dwarf_abbrev.specs.Standard.{IsNumber, IsPlain, IsPair, ArePairs, IsLast, IsDeclaration, IsNew}
+use Rattle.dwarf_abbrev.specs.Table.{◌>>=◌, of_leb, number_at, signed_at, spec_at}
+use Rattle.dwarf_abbrev.specs.Standard.{IsNumber, IsPlain, IsPair, IsLast}
 use Rattle.dwarf_abbrev.proofs.Grow.{bind_ok}
 
 -- numbers
@@ -34,16 +30,16 @@ pub bind_gives : {A B : Type 0} (r : Result A AbbrevFault) (f : A → Result B A
 bind_gives r f x e = rw e refl
 
 -- a pair
-abbrev made_of : ℕ → ℕ → ℤ → Spec
+abbrev pub made_of : ℕ → ℕ → ℤ → Spec
 made_of name form value = record { attribute = name; form = form; implicit = value }
 
-abbrev with_value : List ℕ → ℕ → ℕ × ℕ → ℕ × ℕ → Result (Option Spec × ℕ) AbbrevFault
+abbrev pub with_value : List ℕ → ℕ → ℕ × ℕ → ℕ × ℕ → Result (Option Spec × ℕ) AbbrevFault
 with_value bytes start name form = signed_at bytes start form.1 >>= λ (value : ℤ × ℕ). Ok (Some (made_of name.0 form.0 value.0), value.1)
 
-abbrev without : ℕ × ℕ → ℕ × ℕ → Result (Option Spec × ℕ) AbbrevFault
+abbrev pub without : ℕ × ℕ → ℕ × ℕ → Result (Option Spec × ℕ) AbbrevFault
 without name form = if name.0 == 0 && form.0 == 0 then Ok (None, form.1) else Ok (Some (made_of name.0 form.0 (pos 0)), form.1)
 
-abbrev after_form : List ℕ → ℕ → ℕ × ℕ → ℕ × ℕ → Result (Option Spec × ℕ) AbbrevFault
+abbrev pub after_form : List ℕ → ℕ → ℕ × ℕ → ℕ × ℕ → Result (Option Spec × ℕ) AbbrevFault
 after_form bytes start name form = if form.0 == 0x21 then with_value bytes start name form else without name form
 
 both_true : (a b : Bool) → (a && b) ≡ true → (a ≡ true) × (b ≡ true)
@@ -73,11 +69,12 @@ wide bytes start at after o name form n f is e =
     let pair : IsPair bytes at (made_of name.0 form.0 b.0.0) after = record { form_at = name.1; value_at = form.1; attribute = n; form = f; value = inl (is, value) } in
     record {
       pair = λ (s : Spec) (h : o ≡ Some s). let q : made_of name.0 form.0 b.0.0 ≡ s = same_some (made_of name.0 form.0 b.0.0) s (p.0 ∙ h) in subst (λ (s : Spec). IsPair bytes at s after) q pair;
-      last = λ (h : o ≡ None). absurd (some_none (made_of name.0 form.0 b.0.0) (p.0 ∙ h))
+      last = λ (h : o ≡ None). absurd (some_none (made_of name.0 form.0 b.0.0) (p.0 ∙ h));
     }
   where
     same_some : (a b : Spec) → ◌≡◌ {A = Option Spec} (Some a) (Some b) → a ≡ b
     same_some a b e = cc
+
     some_none : (a : Spec) → ◌≡◌ {A = Option Spec} (Some a) None → ⊥
     some_none a e = cc
 
@@ -98,11 +95,12 @@ narrow bytes at after o name form false n f other t e =
     let pair : IsPair bytes at (made_of name.0 form.0 (pos 0)) after = record { form_at = name.1; value_at = form.1; attribute = n; form = f; value = inr (plain, p.1) } in
     record {
       pair = λ (s : Spec) (h : o ≡ Some s). subst (λ (s : Spec). IsPair bytes at s after) (same_some (made_of name.0 form.0 (pos 0)) s (p.0 ∙ h)) pair;
-      last = λ (h : o ≡ None). absurd (some_none (made_of name.0 form.0 (pos 0)) (p.0 ∙ h))
+      last = λ (h : o ≡ None). absurd (some_none (made_of name.0 form.0 (pos 0)) (p.0 ∙ h));
     }
   where
     same_some : (a b : Spec) → ◌≡◌ {A = Option Spec} (Some a) (Some b) → a ≡ b
     same_some a b e = cc
+
     some_none : (a : Spec) → ◌≡◌ {A = Option Spec} (Some a) None → ⊥
     some_none a e = cc
 

@@ -1,5 +1,5 @@
 -- Tables of abbreviations as the standard lays them out (DWARF 5, section 7.5.3): what the bytes are, given the whole list.
-use Rattle.std.specs.Prelude.{ℕ, ◌≡◌, ◌≢◌, ◌+◌, ◌⊎◌, pos, List, [], ◌∷◌, slice_get, Some, Result, Ok, if◌then◌else◌, ⊤}
+use Rattle.std.specs.Prelude.{ℕ, ◌≡◌, ◌≢◌, ◌+◌, ◌⊎◌, pos, List, [], ◌∷◌, slice_get, Some, Ok, if◌then◌else◌, ⊤}
 use Rattle.dw_base.specs.Leb128.{uleb_of, sleb_of}
 use Rattle.dwarf_abbrev.specs.Declarations.{Declaration}
 use Rattle.dwarf_abbrev.specs.declared.spec.Spec.{Spec}

@@ -7,7 +7,6 @@ use Rattle.dw_base.specs.declared.leb128.LebFault.TheVariants.{Truncated, TooWid
 use Rattle.dwarf_abbrev.specs.declared.fault.AbbrevFault.{AbbrevFault}
 use Rattle.dwarf_abbrev.specs.declared.fault.AbbrevFault.TheVariants.{AbbrevTruncated, AbbrevTwice, LebWide, ChildrenByte, Memory}
 use Rattle.dwarf_abbrev.specs.declared.spec.Spec.{Spec}
-
 use Rattle.dwarf_abbrev.specs.Declarations.{Declaration, place_of}
 
 infixl 10 ◌>>=◌
@@ -42,8 +41,8 @@ spec_at bytes start at = do
   name ← number_at bytes start at
   form ← number_at bytes start name.1
   if form.0 == 0x21
-    then (signed_at bytes start form.1 >>= λ (value : ℤ × ℕ). Ok (Some (record { attribute = name.0; form = form.0; implicit = value.0 }), value.1))
-    else (if name.0 == 0 && form.0 == 0 then Ok (None, form.1) else Ok (Some (record { attribute = name.0; form = form.0; implicit = pos 0 }), form.1))
+      then (signed_at bytes start form.1 >>= λ (value : ℤ × ℕ). Ok (Some (record { attribute = name.0; form = form.0; implicit = value.0 }), value.1))
+      else (if name.0 == 0 && form.0 == 0 then Ok (None, form.1) else Ok (Some (record { attribute = name.0; form = form.0; implicit = pos 0 }), form.1))
 
 abbrev pub specs_of : List ℕ → ℕ → ℕ → Result (List Spec × ℕ) AbbrevFault
 specs_of bytes start at = collect (λ (place : ℕ) (seen : List Spec). spec_at bytes start place) (λ (place : ℕ). AbbrevTruncated start) (length bytes) at []
@@ -61,10 +60,10 @@ unfoldable pub declaration_at : List ℕ → ℕ → List Declaration → Result
 declaration_at bytes at seen = do
   code ← number_at bytes at at
   if code.0 == 0 then Ok (None, code.1) else (if is_some (place_of code.0 seen) then Err (AbbrevTwice at code.0) else
-    (number_at bytes at code.1 >>= λ (tag : ℕ × ℕ).
+      (number_at bytes at code.1 >>= λ (tag : ℕ × ℕ).
       flag_at bytes at tag.1 >>= λ (children : Bool × ℕ).
-        specs_of bytes at children.1 >>= λ (specs : List Spec × ℕ).
-          Ok (Some (record { code = code.0; tag = tag.0; children = children.0; specs = specs.0 }), specs.1)))
+      specs_of bytes at children.1 >>= λ (specs : List Spec × ℕ).
+      Ok (Some (record { code = code.0; tag = tag.0; children = children.0; specs = specs.0 }), specs.1)))
 
 -- the table at a place, or its first refusal
 unfoldable pub table_at : List ℕ → ℕ → Result (List Declaration) AbbrevFault

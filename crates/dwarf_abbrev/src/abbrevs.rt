@@ -3,7 +3,7 @@ ghost use Rattle.std.specs.Prelude.{◌≡◌, ◌^◌, ◌<◌, ◌-◌, ◌≢
 ghost use Rattle.std.specs.Option.{option_map};
 ghost use Rattle.dwarf_abbrev.specs.Declarations.{place_of};
 ghost use Rattle.dwarf_abbrev.specs.Rows.{declarations_of, declaration_of, code_at, IsPlaced, Places};
-ghost use Rattle.dwarf_abbrev.specs.Table.{Gives, declaration_at};
+ghost use Rattle.dwarf_abbrev.specs.Table.{Gives, declaration_at, table_at};
 
 use crate::fault::AbbrevFault;
 use crate::pieces::{read_flag, read_number, read_specs};
@@ -110,15 +110,19 @@ fn read_row(
     let (tag, after) = read_number(bytes, at, after)?;
     let (children, after) = read_flag(bytes, at, after)?;
     let (specs, after) = read_specs(alloc, bytes, at, after)?;
-    Ok((Some(Row { code, tag, specs, children }), after))
+    Ok((
+        Some(Row {
+            code,
+            tag,
+            specs,
+            children,
+        }),
+        after,
+    ))
 }
 
 /// Notes the index of a code that isn't its place, counted from 1.
-fn note_place(
-    others: &mut BTreeMap<u64, usize>,
-    code: u64,
-    index: usize,
-) -> Result<(), AllocError>
+fn note_place(others: &mut BTreeMap<u64, usize>, code: u64, index: usize) -> Result<(), AllocError>
     requires { index < 2 ^ 63 }
     ensures { OnOk result (Places others.old others.new code index) }
 {
@@ -128,10 +132,32 @@ fn note_place(
     Ok(())
 }
 
+/// The table that begins at `at`.
+fn read_table(alloc: Global, bytes: &[u8], at: u64) -> Result<Abbrevs, AbbrevFault>
+    ensures { Gives (λ t. t) result (table_at bytes.now at) }
+{
+    let mut rows = Vec::new(alloc);
+    let mut others = BTreeMap::new(alloc);
+    let mut at = at;
+    for _ in 0..bytes.len() {
+        let (found, after) = read_row(alloc, bytes, at, rows.as_slice(), &others)?;
+        at = after;
+        match found {
+            None => return Ok(Abbrevs { rows, others }),
+            Some(row) => {
+                note_place(&mut others, row.code, rows.len())?;
+                rows.push(row)?;
+            }
+        }
+    }
+    Err(AbbrevFault::AbbrevTruncated(at))
+}
+
 impl Abbrevs {
-    ghost use Rattle.std.specs.Prelude.{◌≡◌, length, IfOk};
+    ghost use Rattle.std.specs.Prelude.{◌≡◌};
     ghost use Rattle.std.specs.Option.{option_map};
     ghost use Rattle.dwarf_abbrev.specs.Table.{Gives, table_at};
+    ghost use Rattle.dwarf_abbrev.specs.Law.{Reads};
     ghost use Rattle.dwarf_abbrev.specs.Declarations.{declaration_with};
     ghost use Rattle.dwarf_abbrev.specs.Rows.{shown};
 
@@ -143,23 +169,10 @@ impl Abbrevs {
     /// than 0 and 1 `ChildrenByte`, and a code that an earlier abbreviation has `AbbrevTwice` at the
     /// second one. `Memory` comes only where memory can't be found.
     pub fn read(alloc: Global, bytes: &[u8], at: u64) -> Result<Abbrevs, AbbrevFault>
-        ensures { Gives (λ t. t) result (table_at bytes.now at) }
+        ensures reads { Reads bytes.now at result }
+        ensures gives { Gives (λ t. t) result (table_at bytes.now at) }
     {
-        let mut rows = Vec::new(alloc);
-        let mut others = BTreeMap::new(alloc);
-        let mut at = at;
-        for _ in 0..bytes.len() {
-            let (found, after) = read_row(alloc, bytes, at, rows.as_slice(), &others)?;
-            at = after;
-            match found {
-                None => return Ok(Abbrevs { rows, others }),
-                Some(row) => {
-                    note_place(&mut others, row.code, rows.len())?;
-                    rows.push(row)?;
-                }
-            }
-        }
-        Err(AbbrevFault::AbbrevTruncated(at))
+        read_table(alloc, bytes, at)
     }
 
     /// The abbreviation of a code. `None` exactly where none of the table has it.

@@ -9,6 +9,8 @@ pub mod law;
 mod pieces;
 mod shared;
 pub mod spec;
+#[cfg(test)]
+mod tests;
 
 pub use abbrevs::{Abbrev, Abbrevs};
 pub use fault::AbbrevFault;

@@ -59,12 +59,26 @@ fn read_spec(bytes: &[u8], start: u64, at: u64) -> Result<(Option<Spec>, u64), A
     let (form, after) = read_number(bytes, start, after)?;
     if form == IMPLICIT_CONST {
         let (implicit, after) = read_signed(bytes, start, after)?;
-        return Ok((Some(Spec { attribute, form, implicit }), after));
+        return Ok((
+            Some(Spec {
+                attribute,
+                form,
+                implicit,
+            }),
+            after,
+        ));
     }
     if attribute == 0 && form == 0 {
         return Ok((None, after));
     }
-    Ok((Some(Spec { attribute, form, implicit: 0 }), after))
+    Ok((
+        Some(Spec {
+            attribute,
+            form,
+            implicit: 0,
+        }),
+        after,
+    ))
 }
 
 /// The pairs up to their end, and the offset after it.
