@@ -12,7 +12,7 @@ use Rattle.dwarf_forms.specs.declared.layout.Held.{Held}
 use Rattle.dwarf_forms.specs.declared.layout.Held.TheVariants.{Expr}
 use Rattle.dwarf_forms.specs.declared.given.FormCtx.{FormCtx}
 use Rattle.dwarf_forms.specs.Values.{Plain, Shown}
-use Rattle.dwarf_forms.specs.Values.Plain.{number, signed, bytes, sixteen, text, flag, elsewhere}
+use Rattle.dwarf_forms.specs.Values.Plain.{number, signed, bytes, text, flag, elsewhere}
 
 -- the text at an offset of a section of strings
 abbrev pub or_out : ℕ → Option (List ℕ) → Result (List ℕ) FormFault

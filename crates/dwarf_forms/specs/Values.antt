@@ -113,8 +113,8 @@ or_unknown form (Some l) = Ok l
 unfoldable pub form_at : List ℕ → ℕ → Spec → Result (ℕ × ℕ) FormFault
 form_at unit at spec =
     if spec.form == 0x16
-      then (uleb_at unit at spec.attribute >>= λ (f : ℕ × ℕ). if f.0 == 0x16 || f.0 == 0x21 then Err (FormUnknown f.0) else Ok f)
-      else Ok (spec.form, at)
+    then (uleb_at unit at spec.attribute >>= λ (f : ℕ × ℕ). if f.0 == 0x16 || f.0 == 0x21 then Err (FormUnknown f.0) else Ok f)
+    else Ok (spec.form, at)
 
 -- a form and its value
 pub record Shown : Type 0 where
@@ -131,9 +131,9 @@ pub record Within : Type 0 where
 unfoldable pub value_of : Within → Spec → ℕ → Result (Shown × ℕ) FormFault
 value_of c spec at =
     form_at c.unit at spec >>= λ (f : ℕ × ℕ).
-      or_unknown f.0 (layout_of c.offset_bytes c.address_bytes f.0) >>= λ (l : Layout).
-        read_at l f.0 c.unit f.1 c.order spec >>= λ (v : Plain × ℕ).
-          Ok (record { form = f.0; value = v.0 }, v.1)
+    or_unknown f.0 (layout_of c.offset_bytes c.address_bytes f.0) >>= λ (l : Layout).
+    read_at l f.0 c.unit f.1 c.order spec >>= λ (v : Plain × ℕ).
+    Ok (record { form = f.0; value = v.0 }, v.1)
 
 -- what is left of it where only the place after the value is asked for
 abbrev pub end_of : Result (Shown × ℕ) FormFault → Result ℕ FormFault

@@ -9,6 +9,8 @@ pub mod layout;
 pub mod meaning;
 pub mod reading;
 mod shared;
+#[cfg(test)]
+mod tests;
 
 pub use fault::FormFault;
 pub use given::{FormCtx, FormValue, Given};

@@ -82,11 +82,7 @@ pub fn flag_of(attribute: u64, given: &Given<'_>) -> Result<bool, FormFault>
 
 /// The offset in `.debug_info` of the entry that a value refers to; it can pass 2^64. `AltForm` where
 /// the value's form refers into a supplementary file, `WrongClass` for every other value.
-pub fn target_of(
-    ctx: &FormCtx<'_>,
-    attribute: u64,
-    given: &Given<'_>,
-) -> Result<u128, FormFault>
+pub fn target_of(ctx: &FormCtx<'_>, attribute: u64, given: &Given<'_>) -> Result<u128, FormFault>
     ensures { result ≡ target_in ctx.now attribute (shown given.now) }
 {
     match &given.value {

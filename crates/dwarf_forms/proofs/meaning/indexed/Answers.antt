@@ -1,4 +1,4 @@
-use Rattle.std.proofs.Common.{◌≡◌, ◌+◌, ◌*◌, ◌<◌, length, None, Option, ℕ, refl, arith}
+use Rattle.std.proofs.Common.{◌≡◌, ◌+◌, ◌*◌, ◌<◌, length, None, refl, arith}
 use Rattle.dw_base.specs.Numbers.{number_of}
 use Rattle.dw_base.proofs.Numbering.{is_out}
 use Rattle.dwarf_forms.proofs.meaning.indexed.Goals as goal
