@@ -1,0 +1,7 @@
+pub mod Faults
+pub mod Faulty
+pub mod Grow
+pub mod Placing
+pub mod Refusing
+pub mod Spelled
+pub mod Steps

@@ -1,0 +1,6 @@
+pub mod Declarations
+pub mod Law
+pub mod Refusals
+pub mod Rows
+pub mod Standard
+pub mod Table

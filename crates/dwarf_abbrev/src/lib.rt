@@ -1,0 +1,17 @@
+//! Tables of abbreviations, as `.debug_abbrev` holds them (DWARF 5, section 7.5.3).
+//!
+//! Reading a table takes memory; looking a code up takes none.
+#![tactic(auto)]
+
+pub mod abbrevs;
+pub mod fault;
+pub mod law;
+mod pieces;
+mod shared;
+pub mod spec;
+#[cfg(test)]
+mod tests;
+
+pub use abbrevs::{Abbrev, Abbrevs};
+pub use fault::AbbrevFault;
+pub use spec::Spec;

@@ -1,0 +1,13 @@
+//! What workers share or give back may be shared and sent.
+use crate::abbrevs::{Abbrev, Abbrevs};
+use crate::fault::AbbrevFault;
+use crate::spec::Spec;
+
+fn crosses<T: Send + Sync>() {}
+
+fn all_cross<'t>() {
+    crosses::<Abbrevs>();
+    crosses::<Abbrev<'t>>();
+    crosses::<Spec>();
+    crosses::<AbbrevFault>();
+}

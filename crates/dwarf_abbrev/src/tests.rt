@@ -1,0 +1,88 @@
+//! Tables in bytes, and what reading them answers.
+use crate::abbrevs::Abbrevs;
+use crate::fault::AbbrevFault;
+use crate::spec::Spec;
+
+/// A table with codes out of order: 2 with a padded number and an implicit_const of -2, then 1.
+const TWO: &[u8] = &[
+    0x82, 0x00, 0x24, 0x00, 0x1c, 0x21, 0x7e, 0x03, 0x08, 0x00, 0x00, 0x01, 0x11, 0x01, 0x00, 0x00,
+    0x00,
+];
+
+#[test]
+fn tables_are_refused_for_their_first_wrong_piece(rt: HostRuntime) {
+    let cases: [(&[u8], u64, AbbrevFault); 9] = [
+        (&[1, 0x11, 2, 0, 0, 0], 0, AbbrevFault::ChildrenByte(2, 2)),
+        (
+            &[1, 0x11, 0, 0, 0, 1, 0x24, 0, 0, 0, 0],
+            0,
+            AbbrevFault::AbbrevTwice(5, 1),
+        ),
+        (&[1, 0x11, 1, 0x13], 0, AbbrevFault::AbbrevTruncated(0)),
+        (&[0, 1, 0x11, 1, 0, 0], 1, AbbrevFault::AbbrevTruncated(6)),
+        (&[0], 1, AbbrevFault::AbbrevTruncated(1)),
+        (&[0], 7, AbbrevFault::AbbrevTruncated(7)),
+        (
+            &[
+                1, 0xff, 0xff, 0xff, 0xff, 0xff, 0xff, 0xff, 0xff, 0xff, 0x02,
+            ],
+            0,
+            AbbrevFault::LebWide(1),
+        ),
+        (
+            &[1, 0xff, 0xff, 0xff, 0xff, 0xff, 0xff, 0xff, 0xff, 0xff],
+            0,
+            AbbrevFault::AbbrevTruncated(0),
+        ),
+        (
+            &[
+                1, 0x11, 0, 0x1c, 0x21, 0xff, 0xff, 0xff, 0xff, 0xff, 0xff, 0xff, 0xff, 0xff, 0x01,
+                0, 0, 0,
+            ],
+            0,
+            AbbrevFault::LebWide(5),
+        ),
+    ];
+    for (bytes, at, fault) in cases {
+        match Abbrevs::read(rt.alloc(), bytes, at) {
+            Ok(_) => assert!(rt; false, "a table at {at}"),
+            Err(found) => assert_eq!(rt; found, fault),
+        }
+    }
+}
+
+#[test]
+fn a_code_finds_its_abbreviation(rt: HostRuntime) -> Result<(), AbbrevFault> {
+    let table = Abbrevs::read(rt.alloc(), TWO, 0)?;
+    let specs = [
+        Spec {
+            attribute: 0x1c,
+            form: 0x21,
+            implicit: -2,
+        },
+        Spec {
+            attribute: 3,
+            form: 8,
+            implicit: 0,
+        },
+    ];
+    match table.get(2) {
+        Some(found) => {
+            assert_eq!(rt; (found.code, found.tag, found.children), (2, 0x24, false));
+            assert_eq!(rt; found.specs, &specs[..]);
+        }
+        None => assert!(rt; false),
+    }
+    match table.get(1) {
+        Some(found) => {
+            assert_eq!(rt; (found.code, found.tag, found.children), (1, 0x11, true));
+            assert_eq!(rt; found.specs.len(), 0);
+        }
+        None => assert!(rt; false),
+    }
+    assert!(rt; table.get(0).is_none());
+    assert!(rt; table.get(3).is_none());
+    let empty = Abbrevs::read(rt.alloc(), TWO, 16)?;
+    assert!(rt; empty.get(1).is_none());
+    Ok(())
+}
