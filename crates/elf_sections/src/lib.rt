@@ -12,6 +12,8 @@ mod names;
 mod sections;
 mod shared;
 mod table;
+#[cfg(test)]
+mod tests;
 mod texts;
 
 pub use fault::{ElfFault, Kind};
