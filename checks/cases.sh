@@ -1,0 +1,46 @@
+#!/usr/bin/env bash
+# Runs the built program on each folder of cases/ (see cases/README.md) and compares the exit status, standard
+# output, standard error, the stored file `o` and the files left behind, byte by byte.
+set -u
+export LC_ALL=C
+. "$(dirname "$0")/lib/program.sh"
+
+scratch=$(mktemp -d) || exit 2
+trap 'rm -rf "$scratch"' EXIT
+run=$scratch/run want=$scratch/want
+
+# what, wanted bytes, bytes had: prints what differs
+differs() {
+  cmp -s "$2" "$3" && return 1
+  echo "$1: wanted $(wc -c <"$2") bytes, had $(wc -c <"$3")"
+}
+
+for folder in "$root"/cases/*/; do
+  name=$(basename "$folder")
+  rm -rf "$run" "$want"
+  mkdir "$run" "$want" || exit 2
+  for file in "$folder"file.*.hex; do
+    [ -f "$file" ] || continue
+    input=$(basename "$file" .hex)
+    unhex <"$file" >"$run/${input#file.}"
+    unhex <"$file" >"$want/${input#file.}"
+  done
+  [ -f "${folder}stored.o.hex" ] && unhex <"${folder}stored.o.hex" >"$want/o"
+  sed -n 's/^complaint //p' "${folder}expect" >"$scratch/stderr"
+  : >"$scratch/stdout"
+  [ -f "${folder}printed.txt" ] && cp "${folder}printed.txt" "$scratch/stdout"
+  status=$(sed -n 's/^status //p' "${folder}expect")
+
+  words=()
+  while IFS= read -r word || [ -n "$word" ]; do words+=("$word"); done <"${folder}words"
+  (cd "$run" && exec "$program" ${words[@]+"${words[@]}"}) >"$scratch/out" 2>"$scratch/err" </dev/null
+  had=$?
+
+  wrong=$(
+    [ "$had" = "$status" ] || echo "status $status wanted, $had had"
+    differs "standard output" "$scratch/stdout" "$scratch/out"
+    differs "standard error" "$scratch/stderr" "$scratch/err"
+    diff -rq "$want" "$run"
+  )
+  if [ -z "$wrong" ]; then echo "passed $name"; else echo "failed $name: ${wrong//$'\n'/; }"; fi
+done

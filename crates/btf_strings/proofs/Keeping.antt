@@ -1,0 +1,64 @@
+-- What a table of names keeps, at first and with one name more.
+use Rattle.std.proofs.Common.{◌≡◌, ℕ, ◌<◌, List, [], ◌∷◌, ◌++◌, length, Option, None, Some, IfSome, refl, sym, ap, subst, ◌∙◌, append-nil, append_assoc}
+use Rattle.std.specs.List.{flat_map}
+use Rattle.std.proofs.lemmas.List.{flat_map_more, map-append}
+use Rattle.btf_strings.specs.Names.{Names, base_offset, first_offset, first_string, next_offset, offset_of, own_section, terminated}
+use Rattle.btf_strings.specs.Kept.{IsKept, IsSection, names_of, value_of}
+use Rattle.btf_strings.proofs.Among.{placed_more, value_is}
+use Rattle.btf_strings.proofs.Offsets.{absent, next_is, offset_is}
+use denote.Bor.{Bor}
+
+pub kept_at_first : (base : Option (List ℕ)) (held : List (Bor (List ℕ) × ℕ)) (own : List ℕ) (places : List (Bor (List ℕ) × ℕ))
+    → IfSome base IsSection → places ≡ [] → ((name : List ℕ) → value_of name held ≡ base_offset base name) → own ≡ first_string base
+    → IsKept base held own places
+unfolding own_section
+kept_at_first base held own places section none index first =
+    subst (λ (es : List (Bor (List ℕ) × ℕ)). IsKept base held own es) (sym none)
+    (record { section = section; index = index; bytes = first ∙ sym (append-nil (first_string base)); placed = tt })
+
+-- a new name's place
+pub is_new : (base : Option (List ℕ)) (held : List (Bor (List ℕ) × ℕ)) (own : List ℕ) (places : List (Bor (List ℕ) × ℕ)) (name : List ℕ)
+    → IsKept base held own places → offset_of (record { base = base; own = names_of places }) name ≡ None → value_of name places ≡ None
+is_new base held own places name kept e =
+    value_is (first_offset base) places name kept.placed ∙ (absent (record { base = base; own = names_of places }) name e).own
+
+pub names_more : (places : List (Bor (List ℕ) × ℕ)) (e : Bor (List ℕ) × ℕ) → names_of (places ++ e ∷ []) ≡ names_of places ++ e.0.now ∷ []
+names_more places e = map-append (λ (p : Bor (List ℕ) × ℕ). p.0.now) places (e ∷ [])
+
+pub kept_with_one_more : (base : Option (List ℕ)) (held : List (Bor (List ℕ) × ℕ)) (own : List ℕ) (places : List (Bor (List ℕ) × ℕ)) (name : Bor (List ℕ)) (at : ℕ)
+    → IsKept base held own places → at ≡ next_offset (record { base = base; own = names_of places })
+    → IsKept base held ((own ++ name.now) ++ 0 ∷ []) (places ++ (name, at) ∷ [])
+unfolding own_section
+kept_with_one_more base held own places name at kept is =
+    record {
+      section = kept.section;
+      index = kept.index;
+      bytes =
+          append_assoc own name.now (0 ∷ [])
+          ∙ ap (λ (xs : List ℕ). xs ++ (name.now ++ 0 ∷ [])) kept.bytes
+          ∙ flat_map_more terminated (first_string base) (names_of places) name.now
+          ∙ ap (λ (ns : List (List ℕ)). first_string base ++ flat_map terminated ns) (sym (names_more places (name, at)));
+      placed = placed_more (first_offset base) places (name, at) kept.placed (is ∙ next_is (record { base = base; own = names_of places }));
+    }
+
+-- what the table shows with one name more
+pub view_with_one_more : (t : Names) (base : Option (List ℕ)) (places more : List (Bor (List ℕ) × ℕ)) (name : Bor (List ℕ)) (at : ℕ)
+    → record { base = base; own = names_of places } ≡ t → more ≡ places ++ (name, at) ∷ []
+    → record { base = base; own = names_of more } ≡ record t { own = t.own ++ name.now ∷ [] }
+view_with_one_more t base places more name at view e =
+    ap (λ (es : List (Bor (List ℕ) × ℕ)). let n : Names = record { base = base; own = names_of es } in n) e
+    ∙ ap (λ (ns : List (List ℕ)). let n : Names = record { base = base; own = ns } in n) (names_more places (name, at))
+    ∙ ap (λ (s : Names). let n : Names = record s { own = s.own ++ name.now ∷ [] } in n) view
+
+-- where a name is looked up
+pub found_in_base : (base : Option (List ℕ)) (held : List (Bor (List ℕ) × ℕ)) (own : List ℕ) (places : List (Bor (List ℕ) × ℕ)) (name : List ℕ) (v : ℕ)
+    → IsKept base held own places → 0 < length name → value_of name held ≡ Some v → Some v ≡ offset_of (record { base = base; own = names_of places }) name
+found_in_base base held own places name v kept some e =
+    let b : base_offset base name ≡ Some v = sym (kept.index name) ∙ e in
+    sym (offset_is (record { base = base; own = names_of places }) name some ∙ rw b refl)
+
+pub found_in_own : (base : Option (List ℕ)) (held : List (Bor (List ℕ) × ℕ)) (own : List ℕ) (places : List (Bor (List ℕ) × ℕ)) (name : List ℕ)
+    → IsKept base held own places → 0 < length name → value_of name held ≡ None → value_of name places ≡ offset_of (record { base = base; own = names_of places }) name
+found_in_own base held own places name kept some e =
+    let b : base_offset base name ≡ None = sym (kept.index name) ∙ e in
+    value_is (first_offset base) places name kept.placed ∙ sym (offset_is (record { base = base; own = names_of places }) name some ∙ rw b refl)

@@ -1,0 +1,24 @@
+-- What a walk has ahead of it.
+use Rattle.std.specs.Prelude.{ℕ, ◌≡◌, ◌≤◌, ◌<◌, List, [], ◌∷◌, length, Option, None, Some, Result, Ok, Err, ⊤}
+use Rattle.dwarf_abbrev.specs.Declarations.{Declaration}
+use Rattle.dwarf_forms.specs.Values.{Within, within, IsContext}
+use Rattle.entry_tree.specs.declared.fault.WalkFault.{WalkFault}
+use Rattle.entry_tree.specs.declared.entry.Entry.{Entry}
+use Rattle.entry_tree.specs.declared.walk.Next.{Next}
+use Rattle.entry_tree.specs.Reads.{values_at}
+use Rattle.entry_tree.specs.Items.{Given, Coming, with_first, listed, coming_from}
+
+abbrev pub given_entry : Entry → Given
+given_entry e = record { at = e.at; depth = e.depth; tag = e.tag; values = listed (values_at (within e.ctx) e.specs.now e.from) }
+
+-- what was found, and what comes after it
+abbrev pub ahead : Within → List Declaration → ℕ → Result (Option Next) WalkFault → Coming
+ahead c declarations first (Err f) = record { entries = []; ending = Some f }
+ahead c declarations first (Ok None) = record { entries = []; ending = None }
+ahead c declarations first (Ok (Some n)) = with_first (given_entry n.entry) (coming_from c declarations first n.at n.lists)
+
+-- one step of a walk: the first entry that comes, or what ends the walk
+abbrev pub Steps : Coming → Coming → Result (Option Given) WalkFault → Type 0
+Steps old new (Ok (Some e)) = old ≡ with_first e new
+Steps old new (Ok None) = (old ≡ record { entries = []; ending = None }) × (new ≡ old)
+Steps old new (Err f) = (old ≡ record { entries = []; ending = Some f }) × (new ≡ old)
