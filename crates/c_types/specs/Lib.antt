@@ -1,0 +1,4 @@
+pub mod Attributes
+pub mod Children
+pub mod Faults
+pub mod Numbers
