@@ -1,2 +1,5 @@
+pub mod Pieces
 pub mod Progress
+pub mod Spelled
 pub mod Texts
+pub mod Widths

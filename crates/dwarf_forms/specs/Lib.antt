@@ -1,3 +1,5 @@
 pub mod Forms
+pub mod Law
 pub mod Meanings
+pub mod Standard
 pub mod Values

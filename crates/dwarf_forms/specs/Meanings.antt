@@ -3,6 +3,7 @@ use Rattle.std.specs.Prelude.{ℕ, ◌+◌, ◌*◌, ℤ, pos, Bool, List, lengt
 use Rattle.dw_base.specs.Leb128.{uleb_of}
 use Rattle.dw_base.specs.Numbers.{number_of}
 use Rattle.dw_base.specs.Texts.{text_of}
+use Rattle.dw_base.specs.declared.numbers.Order.{Order}
 use Rattle.dw_base.specs.declared.leb128.LebFault.{LebFault}
 use Rattle.dwarf_forms.specs.declared.fault.FormFault.{FormFault}
 use Rattle.dwarf_forms.specs.declared.fault.FormFault.TheVariants.{StringOut, StrxOut, AltForm, WrongClass}
@@ -13,6 +14,28 @@ use Rattle.dwarf_forms.specs.declared.layout.Held.TheVariants.{Expr}
 use Rattle.dwarf_forms.specs.declared.given.FormCtx.{FormCtx}
 use Rattle.dwarf_forms.specs.Values.{Plain, Shown}
 use Rattle.dwarf_forms.specs.Values.Plain.{number, signed, bytes, text, flag, elsewhere}
+
+-- what names and references are read in: the unit's first byte, how its numbers lie, and the sections of strings
+pub record Sections : Type 0 where
+  pub unit : ℕ
+  pub order : Order
+  pub offset_bytes : ℕ
+  pub strings : List ℕ
+  pub line_strings : List ℕ
+  pub str_offsets : List ℕ
+  pub str_base : ℕ
+
+abbrev pub sections : FormCtx → Sections
+sections c =
+    record {
+      unit = c.unit;
+      order = c.order;
+      offset_bytes = c.offset_bytes;
+      strings = c.strings.now;
+      line_strings = c.line_strings.now;
+      str_offsets = c.str_offsets.now;
+      str_base = c.str_base;
+    }
 
 -- the text at an offset of a section of strings
 abbrev pub or_out : ℕ → Option (List ℕ) → Result (List ℕ) FormFault
@@ -27,23 +50,23 @@ abbrev pub through : List ℕ → ℕ → Option ℕ → Result (List ℕ) FormF
 through strings index None = Err (StrxOut index)
 through strings index (Some offset) = string_at strings offset
 
-abbrev pub indexed_at : FormCtx → ℕ → Result (List ℕ) FormFault
-indexed_at c index = through c.strings.now index (number_of c.str_offsets.now (c.str_base + index * c.offset_bytes) c.offset_bytes c.order)
+abbrev pub indexed_at : Sections → ℕ → Result (List ℕ) FormFault
+indexed_at c index = through c.strings index (number_of c.str_offsets (c.str_base + index * c.offset_bytes) c.offset_bytes c.order)
 
-abbrev pub number_name : FormCtx → ℕ → ℕ → Kind → ℕ → Result (List ℕ) FormFault
-number_name c attribute form Strp n = string_at c.strings.now n
-number_name c attribute form LineStrp n = string_at c.line_strings.now n
+abbrev pub number_name : Sections → ℕ → ℕ → Kind → ℕ → Result (List ℕ) FormFault
+number_name c attribute form Strp n = string_at c.strings n
+number_name c attribute form LineStrp n = string_at c.line_strings n
 number_name c attribute form Strx n = indexed_at c n
 number_name c attribute form other n = Err (WrongClass attribute form)
 
 -- a text is its own name; a number names one by its section; a name in a supplementary file is not read; no other value has one
-abbrev pub plain_name : FormCtx → ℕ → ℕ → Plain → Result (List ℕ) FormFault
+abbrev pub plain_name : Sections → ℕ → ℕ → Plain → Result (List ℕ) FormFault
 plain_name c attribute form (text t) = Ok t
 plain_name c attribute form (number kind n) = number_name c attribute form kind n
 plain_name c attribute form (elsewhere f) = Err (AltForm f)
 plain_name c attribute form other = Err (WrongClass attribute form)
 
-abbrev pub name_in : FormCtx → ℕ → Shown → Result (List ℕ) FormFault
+abbrev pub name_in : Sections → ℕ → Shown → Result (List ℕ) FormFault
 name_in c attribute g = plain_name c attribute g.form g.value
 
 -- a constant; one of 16 bytes is none
@@ -67,17 +90,17 @@ abbrev pub flag_in : ℕ → Shown → Result Bool FormFault
 flag_in attribute g = plain_flag attribute g.form g.value
 
 -- the offset in .debug_info of the entry that a value refers to: one within a unit counts from the unit's first header byte
-abbrev pub number_target : FormCtx → ℕ → ℕ → Kind → ℕ → Result ℕ FormFault
+abbrev pub number_target : Sections → ℕ → ℕ → Kind → ℕ → Result ℕ FormFault
 number_target c attribute form UnitRef n = Ok (c.unit + n)
 number_target c attribute form InfoRef n = Ok n
 number_target c attribute form other n = Err (WrongClass attribute form)
 
-abbrev pub plain_target : FormCtx → ℕ → ℕ → Plain → Result ℕ FormFault
+abbrev pub plain_target : Sections → ℕ → ℕ → Plain → Result ℕ FormFault
 plain_target c attribute form (number kind n) = number_target c attribute form kind n
 plain_target c attribute form (elsewhere f) = Err (AltForm f)
 plain_target c attribute form other = Err (WrongClass attribute form)
 
-abbrev pub target_in : FormCtx → ℕ → Shown → Result ℕ FormFault
+abbrev pub target_in : Sections → ℕ → Shown → Result ℕ FormFault
 target_in c attribute g = plain_target c attribute g.form g.value
 
 -- the operand of an expression that is one plus_uconst (0x23) and no more (DWARF 5, section 2.5.1.4)

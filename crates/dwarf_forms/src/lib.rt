@@ -5,6 +5,7 @@
 
 pub mod fault;
 pub mod given;
+pub mod law;
 pub mod layout;
 pub mod meaning;
 pub mod reading;

@@ -1,7 +1,7 @@
 //! What values stand for.
 ghost use Rattle.std.specs.Prelude.{◌≡◌};
 ghost use Rattle.dwarf_forms.specs.Values.{given as shown, IsContext};
-ghost use Rattle.dwarf_forms.specs.Meanings.{string_at, indexed_at, name_in, constant_in, flag_in, target_in, operand_of, offset_in};
+ghost use Rattle.dwarf_forms.specs.Meanings.{sections, string_at, indexed_at, name_in, constant_in, flag_in, target_in, operand_of, offset_in};
 
 use crate::fault::FormFault;
 use crate::given::{FormCtx, FormValue, Given};
@@ -23,7 +23,7 @@ fn string<'a>(section: &'a [u8], offset: u64) -> Result<Name<'a>, FormFault>
 /// The text at the offset that `.debug_str_offsets` has at an index.
 fn indexed<'a>(ctx: &FormCtx<'a>, index: u64) -> Result<Name<'a>, FormFault>
     requires { IsContext ctx.now }
-    ensures { result ≡ indexed_at ctx.now index }
+    ensures { result ≡ indexed_at (sections ctx.now) index }
 {
     let place = u128::from(ctx.str_base) + u128::from(index) * u128::from(ctx.offset_bytes);
     if place > ctx.str_offsets.len() as u128 {
@@ -46,7 +46,7 @@ pub fn name_of<'a>(
     given: &Given<'a>,
 ) -> Result<Name<'a>, FormFault>
     requires { IsContext ctx.now }
-    ensures { result ≡ name_in ctx.now attribute (shown given.now) }
+    ensures { result ≡ name_in (sections ctx.now) attribute (shown given.now) }
 {
     match &given.value {
         FormValue::Text(name) => Ok(Name::new(name.bytes())),
@@ -83,7 +83,7 @@ pub fn flag_of(attribute: u64, given: &Given<'_>) -> Result<bool, FormFault>
 /// The offset in `.debug_info` of the entry that a value refers to; it can pass 2^64. `AltForm` where
 /// the value's form refers into a supplementary file, `WrongClass` for every other value.
 pub fn target_of(ctx: &FormCtx<'_>, attribute: u64, given: &Given<'_>) -> Result<u128, FormFault>
-    ensures { result ≡ target_in ctx.now attribute (shown given.now) }
+    ensures { result ≡ target_in (sections ctx.now) attribute (shown given.now) }
 {
     match &given.value {
         FormValue::UnitRef(offset) => Ok(u128::from(ctx.unit) + u128::from(*offset)),
