@@ -46,9 +46,10 @@ extent_inside info order at e h =
     short : (size : ℕ) (b : Bool) → (if b then extent_of info at 4 (at + 4) size else Err (UnitLength at)) ≡ Ok e → Lies info at e
     short size true h = made_inside info at 4 (at + 4) size e (omega arith) (omega arith, omega arith) h
     short size false h = absurd (cc)
+
     by : (size : ℕ) (b : Bool)
-      → (if b then (or_short at (number_of info (at + 4) 8 order) >>= λ (long : ℕ). extent_of info at 8 (at + 12) long)
-         else (if nat_lt size 0xfffffff0 then extent_of info at 4 (at + 4) size else Err (UnitLength at))) ≡ Ok e → Lies info at e
+        → (if b then (or_short at (number_of info (at + 4) 8 order) >>= λ (long : ℕ). extent_of info at 8 (at + 12) long)
+        else (if nat_lt size 0xfffffff0 then extent_of info at 4 (at + 4) size else Err (UnitLength at))) ≡ Ok e → Lies info at e
     by size true h = let p = bind_ok (or_short at (number_of info (at + 4) 8 order)) (λ (long : ℕ). extent_of info at 8 (at + 12) long) e h in made_inside info at 8 (at + 12) p.0 e (omega arith) (omega arith, omega arith) p.2
     by size false h = short size (nat_lt size 0xfffffff0) h
 
@@ -94,7 +95,7 @@ unit_lies info order at =
       first = first;
       inside = lies.inside.inside;
       offsets = lies.inside.width;
-      addresses = four_or_eight at (get_or (take e.end info) f.address_size_at 0) size address
+      addresses = four_or_eight at (get_or (take e.end info) f.address_size_at 0) size address;
     }))))))
 
 pub unit_within : (info : List ℕ) (order : Order) (at : ℕ) (u : Unit) → unit_at info order at ≡ Ok u → IsWithin info at u

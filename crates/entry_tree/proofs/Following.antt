@@ -89,13 +89,13 @@ module _ (info : List ℕ) (order : Order) where
       (λ (next : ℕ) (lt : at < next) (inside : next ≤ length info) (k : units_from info order n next ≡ Err f). refused n next f inside (omega arith) k)
     where
       by : (b : Bool) → nat_le (length info) at ≡ b
-        → ((next : ℕ) → at < next → next ≤ length info → units_from info order n next ≡ Err f → (before : List Unit) × (mid : ℕ) × Follow info order next before mid × (mid < length info) × (unit_at info order mid ≡ Err f))
-        → (before : List Unit) × (mid : ℕ) × Follow info order at before mid × (mid < length info) × (unit_at info order mid ≡ Err f)
+          → ((next : ℕ) → at < next → next ≤ length info → units_from info order n next ≡ Err f → (before : List Unit) × (mid : ℕ) × Follow info order next before mid × (mid < length info) × (unit_at info order mid ≡ Err f))
+          → (before : List Unit) × (mid : ℕ) × Follow info order at before mid × (mid < length info) × (unit_at info order mid ≡ Err f)
       by true is ih = let none : units_from info order (suc n) at ≡ Ok [] = none_left (suc n) at (leb-true (length info) at is) in absurd (cc)
       by false is ih = unit_first (unit_at info order at) refl (sym (one_left n at (leb-false (length info) at is)) ∙ e)
         where
           unit_first : (r : Result Unit UnitFault) → unit_at info order at ≡ r → (r >>= λ (u : Unit). units_from info order n u.end >>= λ (vs : List Unit). Ok (u ∷ vs)) ≡ Err f
-            → (before : List Unit) × (mid : ℕ) × Follow info order at before mid × (mid < length info) × (unit_at info order mid ≡ Err f)
+              → (before : List Unit) × (mid : ℕ) × Follow info order at before mid × (mid < length info) × (unit_at info order mid ≡ Err f)
           unit_first (Err g) h e = let same : g ≡ f = cc in ([], at, refl, leb-false (length info) at is, h ∙ ap (λ (k : UnitFault). Err k) same)
           unit_first (Ok u) h e =
               let w = unit_within info order at u h in

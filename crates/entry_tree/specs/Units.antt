@@ -75,7 +75,7 @@ unit_at info order at =
       address_bytes = address_bytes;
       offset_bytes = e.offset_bytes;
       version = version;
-      unit_type = unit_type
+      unit_type = unit_type;
     })
 
 -- the units from a place on, where at most n begin there

@@ -15,9 +15,11 @@ use std::alloc::Global;
 
 /// DW_UT_compile and DW_UT_partial.
 const COMPILE: u8 = 1;
+
 const PARTIAL: u8 = 3;
 /// The escape to lengths of 8 bytes, and the first reserved length.
 const LONG: u64 = 0xffff_ffff;
+
 const RESERVED: u64 = 0xffff_fff0;
 
 /// How far a unit goes: the offset after its length, the offset after its last byte, and how many bytes its
@@ -113,12 +115,7 @@ fn read_extent(info: &[u8], order: Order, at: u64) -> Result<Extent, UnitFault>
 }
 
 /// Where the fields of a version stand.
-fn read_fields(
-    at: u64,
-    version: u16,
-    after: u64,
-    offset_bytes: u32,
-) -> Result<Fields, UnitFault>
+fn read_fields(at: u64, version: u16, after: u64, offset_bytes: u32) -> Result<Fields, UnitFault>
     requires after { after + 16 < 2 ^ 64 }
     requires width { offset_bytes ≤ 8 }
     ensures { result ≡ fields_of at version after offset_bytes }

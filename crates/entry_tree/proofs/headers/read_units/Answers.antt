@@ -25,7 +25,7 @@ loop-preserved c =
     record {
       inside = end_inside c.args.info.now c.args.order c.loop.at c.in_ok-unit.unit c.in_ok-unit.ensures;
       so_far = rw c.in_ok-push.ensures.items
-        (goes_on c.args.info.now c.args.order (length c.args.info.now) c.loop.counter c.loop.at c.loop.units.items c.in_ok-unit.unit c.loop-test.true c.if-at-info.false c.in_ok-unit.ensures c.loop.invariant.so_far)
+          (goes_on c.args.info.now c.args.order (length c.args.info.now) c.loop.counter c.loop.at c.loop.units.items c.in_ok-unit.unit c.loop-test.true c.if-at-info.false c.in_ok-unit.ensures c.loop.invariant.so_far);
     }
 
 pub returns : goal.returns
