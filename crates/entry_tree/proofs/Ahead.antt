@@ -37,7 +37,7 @@ at_rule : (c : Within) (at first size code from : ℕ) (o : Option Declaration) 
 at_rule c at first size code from None a b = tt
 at_rule c at first size code from (Some r) a b =
     elim (at == first && not (is_root r.tag)) as (λ (t : Bool). Goes c at size (if t then Err (UnitRoot at r.tag) else (of_form at (ends_at c r.specs from) >>= λ (end : ℕ). Ok (entry r from end))))
-      [ true ↦ tt | false ↦ at_values c at size r from (ends_at c r.specs from) refl a b (λ (end : ℕ) (e : ends_at c r.specs from ≡ Ok end). ends_grow c r.specs from end e) ]
+    [ true ↦ tt | false ↦ at_values c at size r from (ends_at c r.specs from) refl a b (λ (end : ℕ) (e : ends_at c r.specs from ≡ Ok end). ends_grow c r.specs from end e) ]
 
 at_code : (c : Within) (declarations : List Declaration) (first at lists size code from : ℕ) → at < from → at < size → (zero_code over : Bool)
     → Goes c at size (if zero_code then (if at == first then Err (UnitRoot at 0) else Ok (null from)) else (if over then Err (AfterRoot at) else (or_missing at code (declaration_with code declarations) >>= λ (r : Declaration). if at == first && not (is_root r.tag) then Err (UnitRoot at r.tag) else (of_form at (ends_at c r.specs from) >>= λ (end : ℕ). Ok (entry r from end)))))
@@ -81,7 +81,7 @@ one_item c declarations first at lists =
     let e : length c.unit + 1 ≡ suc (length c.unit) = omega arith in
     let a : coming c declarations first (length c.unit + 1) at lists ≡ after_item c at lists (λ (next more : ℕ). coming c declarations first (length c.unit) next more) (item_at c declarations first at lists) = rw e refl in
     a ∙ same_after c at lists (λ (next more : ℕ). coming c declarations first (length c.unit) next more) (λ (next more : ℕ). coming_from c declarations first next more) (item_at c declarations first at lists) (item_goes c declarations first at lists)
-      (λ (end more : ℕ) (lt : at < end) (within : at < length c.unit). enough c declarations first (length c.unit) (length c.unit + 1) end more (omega arith) (omega arith) (omega arith) (omega arith))
+    (λ (end more : ℕ) (lt : at < end) (within : at < length c.unit). enough c declarations first (length c.unit) (length c.unit + 1) end more (omega arith) (omega arith) (omega arith) (omega arith))
 
 module _ (c : Within) (declarations : List Declaration) (first at lists : ℕ) where
   abbrev go : ℕ → ℕ → Coming

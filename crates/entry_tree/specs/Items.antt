@@ -58,16 +58,16 @@ is_root tag = tag == 0x11 || tag == 0x3c
 unfoldable pub item_at : Within → List Declaration → ℕ → ℕ → ℕ → Result Standing WalkFault
 item_at c declarations first at lists =
     if nat_le (length c.unit) at
-      then (if at == first then Err (UnitRoot at 0) else (if lists == 0 then Ok nothing else Err (TreeOpen at)))
-      else (code_at c.unit at >>= λ (code : ℕ × ℕ).
-        if code.0 == 0
-          then (if at == first then Err (UnitRoot at 0) else Ok (null code.1))
-          else (if not (at == first) && lists == 0
-            then Err (AfterRoot at)
-            else (or_missing at code.0 (declaration_with code.0 declarations) >>= λ (r : Declaration).
-              if at == first && not (is_root r.tag)
-                then Err (UnitRoot at r.tag)
-                else (of_form at (ends_at c r.specs code.1) >>= λ (end : ℕ). Ok (entry r code.1 end)))))
+    then (if at == first then Err (UnitRoot at 0) else (if lists == 0 then Ok nothing else Err (TreeOpen at)))
+    else (code_at c.unit at >>= λ (code : ℕ × ℕ).
+    if code.0 == 0
+    then (if at == first then Err (UnitRoot at 0) else Ok (null code.1))
+    else (if not (at == first) && lists == 0
+    then Err (AfterRoot at)
+    else (or_missing at code.0 (declaration_with code.0 declarations) >>= λ (r : Declaration).
+    if at == first && not (is_root r.tag)
+    then Err (UnitRoot at r.tag)
+    else (of_form at (ends_at c r.specs code.1) >>= λ (end : ℕ). Ok (entry r code.1 end)))))
 
 -- an entry with its values
 pub record Given : Type 0 where

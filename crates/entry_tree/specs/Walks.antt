@@ -5,6 +5,9 @@ use Rattle.dwarf_forms.specs.Values.{Within, within, IsContext}
 use Rattle.entry_tree.specs.declared.fault.WalkFault.{WalkFault}
 use Rattle.entry_tree.specs.declared.entry.Entry.{Entry}
 use Rattle.entry_tree.specs.declared.walk.Next.{Next}
+use Rattle.elf_sections.specs.declared.image.Image.{Image}
+use Rattle.entry_tree.specs.declared.unit.Unit.{Unit}
+use Rattle.entry_tree.specs.Contexts.{within_of}
 use Rattle.entry_tree.specs.Reads.{values_at}
 use Rattle.entry_tree.specs.Items.{Given, Coming, with_first, listed, coming_from}
 
@@ -22,3 +25,7 @@ abbrev pub Steps : Coming → Coming → Result (Option Given) WalkFault → Typ
 Steps old new (Ok (Some e)) = old ≡ with_first e new
 Steps old new (Ok None) = (old ≡ record { entries = []; ending = None }) × (new ≡ old)
 Steps old new (Err f) = (old ≡ record { entries = []; ending = Some f }) × (new ≡ old)
+
+-- the entries of a unit, given its abbreviations
+abbrev pub entries_of : Image → Unit → List Declaration → Coming
+entries_of image unit declarations = coming_from (within_of image unit) declarations unit.first unit.first 0

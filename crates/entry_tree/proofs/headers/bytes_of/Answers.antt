@@ -1,0 +1,11 @@
+use Rattle.std.proofs.Common.{◌≡◌, Some, None, ap, sym, ◌∙◌}
+use Rattle.std.specs.Option.{option_copied}
+use Rattle.entry_tree.proofs.Sections.{section_there, section_gone}
+use Rattle.elf_sections.specs.Images.{file_of}
+use Rattle.entry_tree.proofs.headers.bytes_of.Goals as goal
+
+pub returns-in-Some : goal.returns-in-Some
+returns-in-Some c = sym (section_there c.args.kind (file_of c.args.image.now) c.in-Some.bytes.now (sym c.section.ensures ∙ ap option_copied c.in-Some.is))
+
+pub returns-in-None : goal.returns-in-None
+returns-in-None c = sym (section_gone c.args.kind (file_of c.args.image.now) (sym c.section.ensures ∙ ap option_copied c.in-None.is))

@@ -1,0 +1,57 @@
+-- The root of a unit: its first entry, which is a compilation unit or a partial unit.
+use Rattle.std.specs.Prelude.{ℕ, ◌==◌, ℤ, List, Option, None, Some, Result, Ok, Err, if◌then◌else◌}
+use Rattle.dwarf_abbrev.specs.Declarations.{Declaration}
+use Rattle.dwarf_forms.specs.Values.{Plain, Shown, Within}
+use Rattle.dwarf_forms.specs.Values.Plain.{number}
+use Rattle.dwarf_forms.specs.Meanings.{constant_in}
+use Rattle.dwarf_forms.specs.declared.fault.FormFault.{FormFault}
+use Rattle.dwarf_forms.specs.declared.fault.FormFault.TheVariants.{WrongClass}
+use Rattle.dwarf_forms.specs.declared.layout.Kind.{Kind}
+use Rattle.dwarf_forms.specs.declared.layout.Kind.TheVariants.{Unsigned, SecOffset}
+use Rattle.entry_tree.specs.Reads.{value_with}
+use Rattle.entry_tree.specs.Items.{◌>>=◌, Standing, Given, item_at, given_at, of_form}
+use Rattle.entry_tree.specs.Items.Standing.{nothing, null, entry}
+use Rattle.entry_tree.specs.declared.fault.WalkFault.{WalkFault}
+use Rattle.entry_tree.specs.declared.fault.WalkFault.TheVariants.{UnitRoot}
+use Rattle.entry_tree.specs.declared.roots.RootInfo.{RootInfo}
+
+abbrev pub as_some : Result ℤ FormFault → Result (Option ℤ) FormFault
+as_some (Ok z) = Ok (Some z)
+as_some (Err e) = Err e
+
+-- the language of a unit, where its root gives one: a constant
+abbrev pub language_in : Option Shown → Result (Option ℤ) FormFault
+language_in None = Ok None
+language_in (Some g) = as_some (constant_in 0x13 g)
+
+-- where the unit's indices into .debug_str_offsets count from: an offset of a section or a constant; without one they count from
+-- behind the section's header (DWARF 5, section 7.26), which has 8 bytes, and 16 where offsets have 8
+abbrev pub number_base : ℕ → Kind → ℕ → Result ℕ FormFault
+number_base form SecOffset n = Ok n
+number_base form Unsigned n = Ok n
+number_base form other n = Err (WrongClass 0x72 form)
+
+abbrev pub plain_base : ℕ → Plain → Result ℕ FormFault
+plain_base form (number kind n) = number_base form kind n
+plain_base form other = Err (WrongClass 0x72 form)
+
+abbrev pub base_in : ℕ → Option Shown → Result ℕ FormFault
+base_in offset_bytes None = Ok (if offset_bytes == 4 then 8 else 16)
+base_in offset_bytes (Some g) = plain_base g.form g.value
+
+-- the first entry
+abbrev pub first_item : Within → ℕ → Standing → Result Given WalkFault
+first_item c first nothing = Err (UnitRoot first 0)
+first_item c first (null end) = Err (UnitRoot first 0)
+first_item c first (entry d from end) = Ok (given_at c d from first 0)
+
+abbrev pub first_given : Within → List Declaration → ℕ → Result Given WalkFault
+first_given c declarations first = item_at c declarations first first 0 >>= first_item c first
+
+-- what the first entry says: its values are read first, then the language, then the base
+unfoldable pub root_of : Within → List Declaration → ℕ → Result RootInfo WalkFault
+root_of c declarations first =
+    first_given c declarations first >>= λ (g : Given).
+    of_form first (language_in (value_with 0x13 g.values)) >>= λ (language : Option ℤ).
+    of_form first (base_in c.offset_bytes (value_with 0x72 g.values)) >>= λ (base : ℕ).
+    Ok (record { tag = g.tag; language = language; str_base = base })

@@ -1,0 +1,119 @@
+-- The units of .debug_info (DWARF 5, sections 7.4 and 7.5.1): their headers follow one another from 0 to the section's end.
+use Rattle.std.specs.Prelude.{ℕ, zero, suc, ◌≡◌, ◌+◌, ◌<◌, ◌≤◌, ◌==◌, ◌||◌, nat_lt, nat_le, get_or, List, [], ◌∷◌, ◌++◌, length, take, Option, None, Some, Result, Ok, Err, if◌then◌else◌, ⊤}
+use Rattle.std.specs.Option.{unwrap_or}
+use Rattle.dw_base.specs.Numbers.{number_of}
+use Rattle.dw_base.specs.declared.numbers.Order.{Order}
+use Rattle.dwarf_forms.specs.Forms.{HasWidth}
+use Rattle.entry_tree.specs.declared.unit.Unit.{Unit}
+use Rattle.entry_tree.specs.declared.unit.UnitFault.{UnitFault}
+use Rattle.entry_tree.specs.declared.unit.UnitFault.TheVariants.{UnitLength, UnitVersion, UnitType, AddressSize, Memory}
+use Rattle.entry_tree.specs.declared.headers.Extent.{Extent}
+use Rattle.entry_tree.specs.declared.headers.Fields.{Fields}
+
+infixl 10 ◌>>=◌
+abbrev pub ◌>>=◌ : {A B : Type 0} → Result A UnitFault → (A → Result B UnitFault) → Result B UnitFault
+(Ok x) >>= f = f x
+(Err e) >>= f = Err e
+
+abbrev pub or_short : {A : Type 0} → ℕ → Option A → Result A UnitFault
+or_short at None = Err (UnitLength at)
+or_short at (Some x) = Ok x
+
+-- a unit whose length counts from `after` on, and whose offsets have so many bytes
+abbrev pub extent_of : List ℕ → ℕ → ℕ → ℕ → ℕ → Result Extent UnitFault
+extent_of info at offset_bytes after size =
+    if nat_le (after + size) (length info) then Ok (record { offset_bytes = offset_bytes; after = after; end = after + size }) else Err (UnitLength at)
+
+-- a unit lies in the section behind its length, and its offsets have the width of a number
+pub record IsInside (info : List ℕ) (e : Extent) : Type 0 where
+  pub behind : e.after ≤ e.end
+  pub inside : e.end ≤ length info
+  pub width : HasWidth e.offset_bytes
+
+-- the initial length (section 7.4): 4 bytes; or the escape 0xffffffff and 8 bytes, and then offsets have 8 bytes. From 0xfffffff0
+-- on the other values are reserved. The unit ends inside the section.
+unfoldable pub extent_at : List ℕ → Order → ℕ → Result Extent UnitFault
+extent_at info order at =
+    or_short at (number_of info at 4 order) >>= λ (short : ℕ).
+    if short == 0xffffffff then (or_short at (number_of info (at + 4) 8 order) >>= λ (long : ℕ). extent_of info at 8 (at + 12) long)
+    else (if nat_lt short 0xfffffff0 then extent_of info at 4 (at + 4) short else Err (UnitLength at))
+
+-- where the fields behind the version stand, and the unit's first entry
+abbrev pub fields_of_5 : ℕ → ℕ → Fields
+fields_of_5 after offset_bytes = record { unit_type_at = after; address_size_at = after + 1; abbrev_at = after + 2; first = after + 2 + offset_bytes }
+
+-- the versions that are read
+abbrev pub fields_of : ℕ → ℕ → ℕ → ℕ → Result Fields UnitFault
+fields_of at version after offset_bytes = if version == 5 then Ok (fields_of_5 after offset_bytes) else Err (UnitVersion at version)
+
+-- an offset in the unit's bytes
+abbrev pub offset_in : List ℕ → Order → ℕ → ℕ → ℕ
+offset_in unit order at width = unwrap_or (number_of unit at width order) 0
+
+-- DW_UT_compile and DW_UT_partial
+abbrev pub check_type : ℕ → ℕ → Result ℕ UnitFault
+check_type at unit_type = if unit_type == 1 || unit_type == 3 then Ok unit_type else Err (UnitType at unit_type)
+
+abbrev pub check_address : ℕ → ℕ → Result ℕ UnitFault
+check_address at size = if size == 4 || size == 8 then Ok size else Err (AddressSize at size)
+
+-- the header of the unit at a place, or the first of its checks that fails: the length, two bytes of version, the version, the
+-- whole header inside the unit, the unit's type and the size of its addresses
+unfoldable pub unit_at : List ℕ → Order → ℕ → Result Unit UnitFault
+unit_at info order at =
+    extent_at info order at >>= λ (e : Extent).
+    or_short at (number_of (take e.end info) e.after 2 order) >>= λ (version : ℕ).
+    fields_of at version (e.after + 2) e.offset_bytes >>= λ (f : Fields).
+    (if nat_le f.first e.end then Ok f else Err (UnitLength at)) >>= λ (whole : Fields).
+    check_type at (get_or (take e.end info) f.unit_type_at 0) >>= λ (unit_type : ℕ).
+    check_address at (get_or (take e.end info) f.address_size_at 0) >>= λ (address_bytes : ℕ).
+    Ok (record {
+      at = at;
+      first = f.first;
+      end = e.end;
+      abbrev_at = offset_in (take e.end info) order f.abbrev_at e.offset_bytes;
+      address_bytes = address_bytes;
+      offset_bytes = e.offset_bytes;
+      version = version;
+      unit_type = unit_type;
+    })
+
+-- the units from a place on, where at most n begin there
+unfoldable pub units_from : List ℕ → Order → ℕ → ℕ → Result (List Unit) UnitFault
+units_from info order zero at = Ok []
+units_from info order (suc n) at =
+    if nat_le (length info) at then Ok []
+    else (unit_at info order at >>= λ (u : Unit). units_from info order n u.end >>= λ (us : List Unit). Ok (u ∷ us))
+
+-- units that were read before those of an answer
+abbrev pub appended : List Unit → Result (List Unit) UnitFault → Result (List Unit) UnitFault
+appended seen r = r >>= λ (us : List Unit). Ok (seen ++ us)
+
+-- the units of a section, or the fault of the first header that fails
+unfoldable pub units_of : List ℕ → Order → Result (List Unit) UnitFault
+units_of info order = units_from info order (length info) 0
+
+-- units that follow one another from a place to another
+abbrev pub Follow : List ℕ → Order → ℕ → List Unit → ℕ → Type 0
+Follow info order at [] end = at ≡ end
+Follow info order at (u ∷ us) end = (unit_at info order at ≡ Ok u) × Follow info order u.end us end
+
+-- these are the units of a section
+abbrev pub AreUnits : List ℕ → Order → List Unit → Type 0
+AreUnits info order us = Follow info order 0 us (length info)
+
+-- behind some units that follow one another from 0 the next header fails
+abbrev pub IsRefused : List ℕ → Order → UnitFault → Type 0
+IsRefused info order f = (before : List Unit) × (at : ℕ) × Follow info order 0 before at × (at < length info) × (unit_at info order at ≡ Err f)
+
+-- what a reader answers: the units, or the fault of the first header that fails, or want of memory
+abbrev pub Reads : List ℕ → Order → Result (List Unit) UnitFault → Type 0
+Reads info order (Ok us) = AreUnits info order us
+Reads info order (Err Memory) = ⊤
+Reads info order (Err f) = IsRefused info order f
+
+-- the same by the function
+abbrev pub Gives : Result (List Unit) UnitFault → Result (List Unit) UnitFault → Type 0
+Gives (Ok us) read = read ≡ Ok us
+Gives (Err Memory) read = ⊤
+Gives (Err f) read = read ≡ Err f
