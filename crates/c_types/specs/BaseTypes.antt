@@ -21,13 +21,17 @@ is_integer size = size == 1 || size == 2 || size == 4 || size == 8 || size == 16
 abbrev pub is_float : ℕ → Bool
 is_float size = size == 2 || size == 4 || size == 8 || size == 12 || size == 16
 
+-- the word of an INT: BTF's encoding (1 signed, 4 bool, 0 neither), an offset of 0, and all bits
+abbrev pub int_word : ℕ → ℕ → ℕ
+int_word encoding size = encoding * 2 ^ 24 + 8 * size
+
 -- the encodings (section 7.8): boolean 2, float 4, signed 5, signed_char 6, unsigned 7, unsigned_char 8, UTF 16
 abbrev pub base_of : ℕ → ℕ → Base
 base_of size encoding =
-    if encoding == 2 && is_integer size then Int 4
+    if encoding == 2 && is_integer size then Int (int_word 4 size)
     else if encoding == 4 && is_float size then Float
-    else if (encoding == 5 || encoding == 6) && is_integer size then Int 1
-    else if (encoding == 7 || encoding == 8 || encoding == 16) && is_integer size then Int 0
+    else if (encoding == 5 || encoding == 6) && is_integer size then Int (int_word 1 size)
+    else if (encoding == 7 || encoding == 8 || encoding == 16) && is_integer size then Int (int_word 0 size)
     else Opaque
 
 -- one without encoding has none of these
@@ -45,7 +49,7 @@ abbrev pub base_with : ℕ → Option Number → Option Number → Base
 base_with size encoding bits = if is_whole size bits then base_of size (code_in encoding) else Opaque
 
 abbrev pub base_label : List ℕ → ℕ → Base → Label
-base_label name size (Int encoding) = record { kind = 1; name = name; flag = false; size = size; extra = encoding * 2 ^ 24 + 8 * size; parts = [] }
+base_label name size (Int extra) = record { kind = 1; name = name; flag = false; size = size; extra = extra; parts = [] }
 base_label name size Float = plain_label 16 name size
 base_label name size Opaque = plain_label 4 name size
 

@@ -1,5 +1,5 @@
 -- What the rows of all tags share: labels, sizes, and a row itself.
-use Rattle.std.specs.Prelude.{ℕ, ℤ, pos, negsuc, ◌^◌, nat_lt, Bool, true, false, not, list_eq, List, [], ◌∷◌, Option, None, Some, if◌then◌else◌}
+use Rattle.std.specs.Prelude.{ℕ, ℤ, pos, negsuc, ◌^◌, nat_lt, Bool, true, false, not, List, [], ◌∷◌, Option, None, Some, if◌then◌else◌}
 use Rattle.c_model.specs.declared.label.Label.{Label}
 use Rattle.entry_tree.specs.Items.{Given}
 use Rattle.c_types.specs.declared.source.SourceType.{SourceType}

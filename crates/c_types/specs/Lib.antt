@@ -1,4 +1,13 @@
+pub mod Arrays
 pub mod Attributes
+pub mod BaseTypes
 pub mod Children
+pub mod Enumerations
 pub mod Faults
+pub mod Functions
+pub mod Labels
 pub mod Numbers
+pub mod Parts
+pub mod References
+pub mod Structures
+pub mod Taking

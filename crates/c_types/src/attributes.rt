@@ -1,8 +1,8 @@
 //! Attributes that a row asks for: what they say, and their refusals.
-ghost use Rattle.std.specs.Prelude.{◌≡◌, ℕ, List, Option, ℤ};
+ghost use Rattle.std.specs.Prelude.{◌≡◌, IfSome};
 ghost use Rattle.std.specs.Option.{option_map};
 ghost use Rattle.dwarf_forms.specs.Values.{given as shown, IsContext};
-ghost use Rattle.dwarf_forms.specs.Meanings.{sections};
+ghost use Rattle.dwarf_forms.specs.Meanings.{sections, Fits64};
 ghost use Rattle.entry_tree.specs.Reads.{value_with};
 ghost use Rattle.entry_tree.specs.Walks.{given_entry};
 ghost use Rattle.c_types.specs.Faults.{noted};
@@ -43,6 +43,7 @@ pub(crate) fn constant(
     least: &mut Option<TypeFault>,
 ) -> Option<i128>
     ensures said { result ≡ (constant_asked name (given_entry entry.now)).said }
+    ensures small { IfSome result Fits64 }
     ensures noted { least.new ≡ noted least.old (constant_asked name (given_entry entry.now)).refused }
 {
     match attribute(entry, name) {
@@ -124,6 +125,7 @@ pub(crate) fn offset(
     least: &mut Option<TypeFault>,
 ) -> Option<Option<i128>>
     ensures said { result ≡ (offset_asked name (given_entry entry.now)).said }
+    ensures small { IfSome result (λ o. IfSome o Fits64) }
     ensures noted { least.new ≡ noted least.old (offset_asked name (given_entry entry.now)).refused }
 {
     match attribute(entry, name) {

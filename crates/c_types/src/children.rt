@@ -7,7 +7,7 @@ ghost use Rattle.c_types.specs.Children.{children_of, Takes};
 use entry_tree::{Entry, Walk};
 
 /// The next direct child of an entry of this depth, for a walk that stands behind it.
-pub(crate) fn next_child<'w, 'a>(walk: &mut Walk<'w, 'a>, depth: u64) -> Option<Entry<'w, 'a>>
+pub(crate) fn next_child<'w, 'a>(walk: &mut Walk<'w, 'a>, depth: u32) -> Option<Entry<'w, 'a>>
     ensures { Takes (children_of depth walk.old.entries) (children_of depth walk.new.entries) (option_map given_entry result) }
 {
     'deeper: loop {

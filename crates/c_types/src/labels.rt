@@ -1,5 +1,6 @@
 //! What the rows of all tags share: labels and sizes.
-ghost use Rattle.std.specs.Prelude.{◌≡◌, [], ◌∷◌, IfOk};
+ghost use Rattle.std.specs.Prelude.{◌≡◌, [], ◌∷◌, IfOk, IfSome};
+ghost use Rattle.dwarf_forms.specs.Meanings.{Fits64};
 ghost use Rattle.c_types.specs.Faults.{noted};
 ghost use Rattle.c_types.specs.Labels.{plain_label, is_empty, fits_word, word_of, size_in, size_refused};
 
@@ -9,6 +10,9 @@ use crate::source::{Target, Targets};
 use c_model::{Label, Parts};
 use dw_base::Name;
 use std::alloc::{AllocError, Global};
+
+/// The most members, enumerators or parameters of a type.
+pub(crate) const MOST: u64 = 65_535;
 
 /// A label without flag, extra and parts.
 pub(crate) fn make_label<'a>(alloc: Global, kind: u8, name: Name<'a>, size: u32) -> Label<'a>
@@ -49,6 +53,7 @@ pub(crate) fn is_unnamed(name: &Name<'_>) -> bool
 
 /// Whether a size is a number of 32 bits.
 fn fits_u32(size: i128) -> bool
+    requires { Fits64 size }
     ensures { result ≡ fits_word size }
 {
     match by_sign(size) {
@@ -59,6 +64,7 @@ fn fits_u32(size: i128) -> bool
 
 /// A size as a number of 32 bits; 0 where it is none.
 fn word(size: i128) -> u32
+    requires { Fits64 size }
     ensures { result ≡ word_of size }
 {
     match by_sign(size) {
@@ -69,6 +75,7 @@ fn word(size: i128) -> u32
 
 /// The size that is given; 0 where it is missing or too large.
 pub(crate) fn given_size(size: Option<i128>) -> u32
+    requires { IfSome size Fits64 }
     ensures { result ≡ size_in size }
 {
     match size {
@@ -79,6 +86,7 @@ pub(crate) fn given_size(size: Option<i128>) -> u32
 
 /// Refuses a size that is missing or too large.
 pub(crate) fn note_size(least: &mut Option<TypeFault>, at: u64, size: Option<i128>)
+    requires { IfSome size Fits64 }
     ensures { least.new ≡ noted least.old (size_refused at size) }
 {
     match size {

@@ -2,10 +2,15 @@
 #![tactic(auto)]
 
 mod attributes;
+mod base;
 mod children;
 pub mod fault;
-pub mod number;
+mod functions;
+mod labels;
+mod number;
+mod references;
 pub mod source;
+mod structures;
 
 pub use fault::TypeFault;
 pub use source::{SourceType, SourceTypes, Target, Targets, UnitTypes};
