@@ -73,33 +73,36 @@ abbrev pub enumeration_label : Bool → List ℕ → Bool → ℕ → List Part 
 enumeration_label wide name signed size parts = record { kind = if wide then 19 else 6; name = name; flag = signed; size = size; extra = 0; parts = parts }
 
 -- the size that is given, and one of 8 bytes makes an ENUM64
-abbrev pub enumerated_row : Sections → Given → List Given → Row
-enumerated_row c e enumerators =
-    let name = name_asked c e in
+abbrev pub enumerated_row : List ℕ → Given → Sections → Bool → List Given → Row
+enumerated_row name e c signed enumerators =
     let size = constant_asked 0x0b e in
     let wide = size_in size.said == 8 in
-    let signed = some_is is_negative enumerators in
     record {
-      made = type_of e (enumeration_label wide (name_in_full name) signed (size_in size.said) (map (enumerator_part c wide) enumerators)) [];
+      made = type_of e (enumeration_label wide name signed (size_in size.said) (map (enumerator_part c wide) enumerators)) [];
       refused =
-        name.refused
-        ++ (size.refused
+        size.refused
         ++ (enum_size_refused e.at size.said
-        ++ (refused_by (enumerator_refused c wide signed) enumerators ++ refuse_if (nat_lt most (length enumerators)) (TooMany e.at (length enumerators)))))
+        ++ (refused_by (enumerator_refused c wide signed) enumerators ++ refuse_if (nat_lt most (length enumerators)) (TooMany e.at (length enumerators))))
     }
 
 -- one without enumerators, and in a declaration a name is needed
-abbrev pub bare_row : Sections → Given → Bool → Row
-bare_row c e declared =
-    let name = name_asked c e in
+abbrev pub bare_row : List ℕ → Given → Bool → Row
+bare_row name e declared =
     record {
-      made = type_of e (enumeration_label false (name_in_full name) false 4 []) [];
-      refused = name.refused ++ refuse_if (declared && is_empty (name_in_full name)) (UnnamedForward e.at)
+      made = type_of e (enumeration_label false name false 4 []) [];
+      refused = refuse_if (declared && is_empty name) (UnnamedForward e.at)
     }
 
-abbrev pub is_bare : Sections → Given → List Given → Bool
-is_bare c e children = is_set (flag_asked 0x3c e) || (not (some_tagged 0x28 children) && not (is_empty (name_in_full (name_asked c e))))
+-- it is declared, or has a name and no enumerators
+abbrev pub is_bare : Bool → List ℕ → List Given → Bool
+is_bare declared name children = declared || (not (some_tagged 0x28 children) && not (is_empty name))
 
+-- where a value is negative, the enumeration is signed
 abbrev pub enumeration_row : Sections → Given → List Given → Row
 enumeration_row c e children =
-    with_refused (flag_asked 0x3c e).refused (if is_bare c e children then bare_row c e (is_set (flag_asked 0x3c e)) else enumerated_row c e (tagged 0x28 children))
+    let declared = flag_asked 0x3c e in
+    let name = name_asked c e in
+    with_refused (declared.refused ++ name.refused)
+      (if is_bare (is_set declared) (name_in_full name) children
+        then bare_row (name_in_full name) e (is_set declared)
+        else enumerated_row (name_in_full name) e c (some_is is_negative (tagged 0x28 children)) (tagged 0x28 children))

@@ -4,6 +4,7 @@
 mod attributes;
 mod base;
 mod children;
+mod enumerations;
 pub mod fault;
 mod functions;
 mod labels;
