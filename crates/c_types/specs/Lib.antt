@@ -6,6 +6,7 @@ pub mod Enumerations
 pub mod Faults
 pub mod Functions
 pub mod Labels
+pub mod Lengths
 pub mod Numbers
 pub mod Parts
 pub mod References

@@ -1,6 +1,7 @@
 //! The C types of one unit (DWARF 5, sections 4 and 5), as BTF has them.
 #![tactic(auto)]
 
+mod arrays;
 mod attributes;
 mod base;
 mod children;
