@@ -2,3 +2,4 @@ pub mod Counting
 pub mod Gathering
 pub mod Lengthening
 pub mod Noting
+pub mod Reading

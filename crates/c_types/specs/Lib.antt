@@ -12,3 +12,4 @@ pub mod Parts
 pub mod References
 pub mod Structures
 pub mod Taking
+pub mod Types

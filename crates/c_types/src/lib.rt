@@ -11,8 +11,11 @@ mod functions;
 mod labels;
 mod number;
 mod references;
+mod shared;
 pub mod source;
 mod structures;
+pub mod unit;
 
 pub use fault::TypeFault;
 pub use source::{SourceType, SourceTypes, Target, Targets, UnitTypes};
+pub use unit::types_of_unit;
