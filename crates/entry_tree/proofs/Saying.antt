@@ -1,5 +1,5 @@
 -- What an item at a place says of the bytes there, and the other way round.
-use Rattle.std.proofs.Common.{◌≡◌, ◌≢◌, ℕ, ◌+◌, ◌-◌, ◌<◌, ◌≤◌, ◌==◌, ◌&&◌, not, nat_le, Bool, true, false, List, length, Option, None, Some, Result, Ok, Err, if◌then◌else◌, refl, sym, ap, ◌∙◌, arith}
+use Rattle.std.proofs.Common.{◌≡◌, ◌≢◌, ℕ, ◌<◌, ◌≤◌, ◌==◌, ◌&&◌, not, nat_le, Bool, true, false, List, length, Option, None, Some, Result, Ok, Err, if◌then◌else◌, refl, ap, ◌∙◌}
 use Rattle.std.proofs.lemmas.Bool.{leb-true, leb-false, le-leb, lt-leb, eqb-true, eqb-false, eq-eqb, ne_eqb}
 use Rattle.dw_base.specs.Leb128.{uleb_of}
 use Rattle.dw_base.specs.declared.leb128.LebFault.{LebFault}
@@ -11,7 +11,7 @@ use Rattle.entry_tree.specs.Reads.{ends_at}
 use Rattle.entry_tree.specs.Items.{◌>>=◌, Standing, item_at, code_at, of_code, or_missing, of_form, is_root}
 use Rattle.entry_tree.specs.Items.Standing.{nothing, null, entry}
 use Rattle.entry_tree.specs.declared.fault.WalkFault.{WalkFault}
-use Rattle.entry_tree.specs.declared.fault.WalkFault.TheVariants.{UnitRoot, AbbrevMissing, Form, TreeOpen, AfterRoot}
+use Rattle.entry_tree.specs.declared.fault.WalkFault.TheVariants.{UnitRoot, TreeOpen, AfterRoot}
 
 -- an entry at a place
 pub record SaysEntry (c : Within) (declarations : List Declaration) (first at lists : ℕ) (d : Declaration) (from end : ℕ) : Type 0 where

@@ -6,14 +6,13 @@ use Rattle.dw_base.proofs.Ends.{uleb_after}
 use Rattle.dwarf_abbrev.specs.Declarations.{Declaration, declaration_with}
 use Rattle.dwarf_forms.specs.declared.fault.FormFault.{FormFault}
 use Rattle.dwarf_forms.specs.Values.{Shown, Within}
-use Rattle.entry_tree.specs.Reads.{and_then, values_at, ends_at, end_of_values}
-use Rattle.entry_tree.specs.Items.{Given, Coming, Standing, item_at, coming, coming_from, after_item, with_first, given_at, opened, listed, is_root}
+use Rattle.entry_tree.specs.Reads.{values_at, end_of_values}
+use Rattle.entry_tree.specs.Items.{Given, Coming, Standing, item_at, coming, coming_from, after_item, with_first, opened, listed, is_root}
 use Rattle.entry_tree.specs.Items.Standing.{nothing, null, entry}
 use Rattle.entry_tree.specs.Tree.{Found, Item, opening, opened_by, closing, closed_by, open_behind, MayStand, IsFound, IsItem, Follow, entry_of, entries_among, IsTree, EntriesAreTree, FaultsAreFirst}
 use Rattle.entry_tree.specs.declared.fault.WalkFault.{WalkFault}
-use Rattle.entry_tree.specs.declared.fault.WalkFault.TheVariants.{TreeOpen}
 use Rattle.entry_tree.proofs.Ends.{ends_grow}
-use Rattle.entry_tree.proofs.Ahead.{one_item, ended}
+use Rattle.entry_tree.proofs.Ahead.{one_item}
 use Rattle.entry_tree.proofs.Saying.{Says, SaysEntry, item_says, null_item, end_item, entry_item}
 
 -- counts of a list with one item more
@@ -70,7 +69,7 @@ begun_on first at end before i begun lt =
     let n : length (before ++ i ∷ []) ≡ length before + 1 = length-append before (i ∷ []) in
     record {
       fresh = λ (e : length (before ++ i ∷ []) ≡ 0). absurd (omega arith);
-      later = λ (some : 0 < length (before ++ i ∷ [])). by before begun
+      later = λ (some : 0 < length (before ++ i ∷ [])). by before begun;
     }
   where
     by : (js : List Item) → Begun first at js → first < end
@@ -106,7 +105,7 @@ module _ (c : Within) (declarations : List Declaration) (first : ℕ) where
         end = comes.end;
         follow = (here, mid, item, comes.follow);
         entries = ap (λ (es : List Given). entry_of before i.at i.entry ++ es) comes.entries;
-        ending = subst (λ (js : List Item). Ending r.ending comes.end js) (append_assoc before (i ∷ []) comes.items) comes.ending
+        ending = subst (λ (js : List Item). Ending r.ending comes.end js) (append_assoc before (i ∷ []) comes.items) comes.ending;
       }
 
   comes_by : (before : List Item) (at : ℕ) (r : Result Standing WalkFault) (go : ℕ → ℕ → Coming) → item_at c declarations first at (open_behind before) ≡ r → Says c declarations first at (open_behind before) r → Begun first at before
@@ -157,15 +156,19 @@ module _ (c : Within) (declarations : List Declaration) (first : ℕ) where
   says_entry (i ∷ is) at code from end e begun number some declared values may =
       let lt : first < at = begun.later (omega arith) in
       record {
-        code = code; number = number; some = some; declared = declared; values = ap end_of_values values;
+        code = code;
+        number = number;
+        some = some;
+        declared = declared;
+        values = ap end_of_values values;
         root = λ (same : at ≡ first). absurd (omega arith);
-        inside = λ (ne : at ≢ first) (zero : open_behind (i ∷ is) ≡ 0). omega arith
+        inside = λ (ne : at ≢ first) (zero : open_behind (i ∷ is) ≡ 0). omega arith;
       }
 
   entry_step : (before : List Item) (at code from end : ℕ) (e : Found) → Begun first at before → at < length c.unit → uleb_of c.unit at ≡ Ok (code, from) → code ≢ 0 → declaration_with code declarations ≡ Some e.declaration
       → values_at c e.declaration.specs from ≡ Ok (e.values, end) → MayStand before e.declaration
       → coming_from c declarations first at (open_behind before)
-        ≡ with_first (record { at = at; depth = open_behind before; tag = e.declaration.tag; values = e.values }) (coming_from c declarations first end (open_behind (before ++ entry_piece at e.declaration e.values ∷ [])))
+      ≡ with_first (record { at = at; depth = open_behind before; tag = e.declaration.tag; values = e.values }) (coming_from c declarations first end (open_behind (before ++ entry_piece at e.declaration e.values ∷ [])))
   entry_step before at code from end e begun lt number some declared values may =
       let s = says_entry before at code from end e begun number some declared values may in
       let is : item_at c declarations first at (open_behind before) ≡ Ok (entry e.declaration from end) = entry_item c declarations first at (open_behind before) e.declaration from end lt s in
@@ -212,15 +215,16 @@ entries_are c declarations first es = (forth, back)
   where
     forth : coming_from c declarations first first 0 ≡ record { entries = es; ending = None } → (items : List Item) × IsTree c declarations first items × (es ≡ entries_among [] items)
     forth e =
-      let w = walked c declarations first in
-      let ends : (coming_from c declarations first first 0).ending ≡ None = ap (λ (r : Coming). r.ending) e in
-      let given : (coming_from c declarations first first 0).entries ≡ es = ap (λ (r : Coming). r.entries) e in
-      let last = subst (λ (o : Option WalkFault). Ending c declarations first o w.end w.items) ends w.ending in
-      (w.items, record { end = w.end; follow = w.follow; whole = last.0; closed = last.1; rooted = last.2 }, sym given ∙ w.entries)
+        let w = walked c declarations first in
+        let ends : (coming_from c declarations first first 0).ending ≡ None = ap (λ (r : Coming). r.ending) e in
+        let given : (coming_from c declarations first first 0).entries ≡ es = ap (λ (r : Coming). r.entries) e in
+        let last = subst (λ (o : Option WalkFault). Ending c declarations first o w.end w.items) ends w.ending in
+        (w.items, record { end = w.end; follow = w.follow; whole = last.0; closed = last.1; rooted = last.2 }, sym given ∙ w.entries)
+
     back : (items : List Item) × IsTree c declarations first items × (es ≡ entries_among [] items) → coming_from c declarations first first 0 ≡ record { entries = es; ending = None }
     back h =
-      tree_walked c declarations first h.0 [] first h.1.end (starts c declarations first) h.1.follow h.1.whole h.1.closed h.1.rooted
-      ∙ ap (λ (vs : List Given). record { entries = vs; ending = None }) (sym h.2)
+        tree_walked c declarations first h.0 [] first h.1.end (starts c declarations first) h.1.follow h.1.whole h.1.closed h.1.rooted
+        ∙ ap (λ (vs : List Given). record { entries = vs; ending = None }) (sym h.2)
 
 pub faults_are : FaultsAreFirst
 faults_are c declarations first es f e =

@@ -4,12 +4,12 @@
 -- code of an abbreviation and one value for each of its pairs. The lists open before an item are the entries with children
 -- before it, less the nulls before it. The first item is the root. Behind it there are entries only as long as a list is open;
 -- after that all items are nulls. The depth of an entry is the number of lists open before it.
-use Rattle.std.specs.Prelude.{ℕ, zero, suc, ◌≡◌, ◌≢◌, ◌+◌, ◌-◌, ◌<◌, ◌≤◌, ◌⊎◌, ◌↔◌, Bool, true, false, List, [], ◌∷◌, ◌++◌, length, Option, None, Some, Ok, Err, if◌then◌else◌}
+use Rattle.std.specs.Prelude.{ℕ, ◌≡◌, ◌≢◌, ◌+◌, ◌-◌, ◌<◌, ◌≤◌, ◌↔◌, true, List, [], ◌∷◌, ◌++◌, length, Option, None, Some, Ok, Err, if◌then◌else◌}
 use Rattle.dw_base.specs.Leb128.{uleb_of}
 use Rattle.dwarf_abbrev.specs.Declarations.{Declaration, declaration_with}
 use Rattle.dwarf_forms.specs.Values.{Shown, Within}
 use Rattle.entry_tree.specs.Reads.{values_at}
-use Rattle.entry_tree.specs.Items.{Given, Coming, item_at, coming_from, is_root}
+use Rattle.entry_tree.specs.Items.{Given, item_at, coming_from, is_root}
 use Rattle.entry_tree.specs.declared.fault.WalkFault.{WalkFault}
 
 -- an entry, by its abbreviation and its values; or a null

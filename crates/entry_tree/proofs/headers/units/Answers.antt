@@ -1,5 +1,4 @@
-use Rattle.std.proofs.Common.{◌≡◌}
-use Rattle.entry_tree.specs.Units.{Gives, Reads}
+use Rattle.entry_tree.specs.Units.{Reads}
 use Rattle.entry_tree.specs.Images.{info_of}
 use Rattle.elf_sections.specs.Images.{file_of}
 use Rattle.elf_sections.specs.Header.{order_of}
