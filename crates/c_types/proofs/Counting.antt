@@ -1,5 +1,5 @@
 -- As many parts as entries.
-use Rattle.std.proofs.Common.{◌≡◌, ℕ, List, length, map, ap, ◌∙◌}
+use Rattle.std.proofs.Common.{◌≡◌, List, length, map, ap, ◌∙◌}
 use Rattle.std.proofs.lemmas.List.{length-map}
 use Rattle.entry_tree.specs.Items.{Given}
 use Rattle.c_model.specs.declared.label.Part.{Part}

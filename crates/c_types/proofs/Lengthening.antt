@@ -1,12 +1,12 @@
 -- What is kept of the lengths says whether they are refused, and how many elements there are.
-use Rattle.std.proofs.Common.{◌≡◌, ℕ, ◌+◌, ◌*◌, ◌<◌, ◌≤◌, ◌⊎◌, ◌^◌, ◌==◌, min, nat_lt, ◌||◌, ◌&&◌, not, Bool, true, false, List, [], ◌∷◌, ◌++◌, map, Option, None, Some, if◌then◌else◌, refl, sym, ap, ◌∙◌, arith, inl, inr}
+use Rattle.std.proofs.Common.{◌≡◌, ℕ, ◌*◌, ◌<◌, ◌≤◌, ◌⊎◌, ◌^◌, ◌==◌, min, nat_lt, ◌||◌, not, Bool, true, false, List, [], ◌∷◌, map, Option, if◌then◌else◌, refl, sym, ap, ◌∙◌, arith, inl, inr}
 use Rattle.std.proofs.lemmas.Bool.{cases_lt, le-ltb, ltb-true}
 use Rattle.std.proofs.lemmas.Nat.{mul-le}
 use Rattle.entry_tree.specs.Items.{Given}
 use Rattle.c_types.specs.declared.arrays.Lengths.{Lengths}
 use Rattle.c_types.specs.Children.{tagged}
 use Rattle.c_types.specs.Taking.{made_if}
-use Rattle.c_types.specs.Arrays.{subrange_length, is_long, some_long, or_zero, product_of, elements_of, lengths_of, is_refused, elements_in}
+use Rattle.c_types.specs.Arrays.{subrange_length, is_long, some_long, or_zero, product_of, lengths_of, is_refused, elements_in}
 use Rattle.c_types.specs.Lengths.{start, extended, is_too_long, elements_from}
 
 -- a product that stops at 2^32, times more
@@ -84,9 +84,9 @@ elements_are (o ∷ os) = by (is_refused (o ∷ os)) refl
     by : (t : Bool) → is_refused (o ∷ os) ≡ t → elements_from (extended start (o ∷ os)) ≡ elements_in (o ∷ os)
     by true t = rw (refused_is (o ∷ os), t) refl
     by false t =
-      let b : (extended start (o ∷ os)).any ≡ true = any_is (one start o) os refl in
-      let c : (extended start (o ∷ os)).product ≡ min (1 * product_of (o ∷ os)) (2 ^ 32) = product_is start (o ∷ os) (omega arith) in
-      rw (refused_is (o ∷ os), t, b) (c ∙ small (product_of (o ∷ os)) (some_long (o ∷ os)) t)
+        let b : (extended start (o ∷ os)).any ≡ true = any_is (one start o) os refl in
+        let c : (extended start (o ∷ os)).product ≡ min (1 * product_of (o ∷ os)) (2 ^ 32) = product_is start (o ∷ os) (omega arith) in
+        rw (refused_is (o ∷ os), t, b) (c ∙ small (product_of (o ∷ os)) (some_long (o ∷ os)) t)
 
 -- the children one by one
 extend_one : (l : Lengths) (e : Given) (es : List Given) (t : Bool) → extended l (map subrange_length (if t then e ∷ es else es)) ≡ extended (extended l (if t then subrange_length e ∷ [] else [])) (map subrange_length es)

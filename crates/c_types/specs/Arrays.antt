@@ -1,5 +1,5 @@
 -- Arrays (DWARF 5, sections 5.5 and 5.13): the elements of all dimensions, the product of the lengths of the subranges.
-use Rattle.std.specs.Prelude.{ℕ, suc, zero, ◌+◌, ◌*◌, ◌-◌, ◌^◌, nat_lt, ◌==◌, ◌||◌, not, Bool, true, false, is_some, ℤ, pos, negsuc, List, [], ◌∷◌, ◌++◌, map, Option, None, Some, Result, Ok, Err, if◌then◌else◌}
+use Rattle.std.specs.Prelude.{ℕ, ◌+◌, ◌*◌, ◌-◌, ◌^◌, nat_lt, ◌==◌, ◌||◌, not, Bool, true, false, ℤ, List, [], ◌∷◌, ◌++◌, map, Option, None, Some, Result, Ok, Err, if◌then◌else◌}
 use Rattle.dwarf_forms.specs.declared.fault.FormFault.{FormFault}
 use Rattle.c_model.specs.declared.label.Label.{Label}
 use Rattle.dwarf_forms.specs.Values.{Shown}
@@ -9,7 +9,6 @@ use Rattle.entry_tree.specs.Reads.{value_with}
 use Rattle.c_types.specs.declared.source.Target.TheVariants.{Index}
 use Rattle.c_types.specs.declared.number.Number.{Number}
 use Rattle.c_types.specs.declared.number.Number.TheVariants.{Natural, Negative}
-use Rattle.c_types.specs.declared.fault.TypeFault.{TypeFault}
 use Rattle.c_types.specs.declared.fault.TypeFault.TheVariants.{MissingType, ArrayLength}
 use Rattle.c_types.specs.Faults.{refuse_if}
 use Rattle.c_types.specs.Numbers.{number_from}
@@ -84,5 +83,5 @@ array_row c e children =
     let lengths = lengths_of children in
     record {
       made = type_of e (array_label (elements_in lengths)) (target_of_type e.at target ∷ Index ∷ []);
-      refused = target.refused ++ (refuse_if (not (has 0x49 e)) (MissingType e.at) ++ refuse_if (is_refused lengths) (ArrayLength e.at))
+      refused = target.refused ++ (refuse_if (not (has 0x49 e)) (MissingType e.at) ++ refuse_if (is_refused lengths) (ArrayLength e.at));
     }

@@ -1,8 +1,7 @@
 -- Attributes that a row asks for: what they say, and their refusals. Of two attributes of one name the first counts.
-use Rattle.std.specs.Prelude.{ℕ, ℤ, Bool, true, false, is_some, List, [], ◌∷◌, Option, None, Some, Result, Ok, Err}
+use Rattle.std.specs.Prelude.{ℕ, ℤ, Bool, false, is_some, List, [], ◌∷◌, Option, None, Some, Result, Ok, Err}
 use Rattle.std.specs.Option.{option_map}
 use Rattle.dwarf_forms.specs.declared.fault.FormFault.{FormFault}
-use Rattle.dwarf_forms.specs.Values.{Shown}
 use Rattle.dwarf_forms.specs.Meanings.{Sections, name_in, constant_in, flag_in, target_in, offset_in}
 use Rattle.entry_tree.specs.Items.{Given}
 use Rattle.entry_tree.specs.Reads.{value_with}

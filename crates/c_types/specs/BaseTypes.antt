@@ -1,6 +1,6 @@
 -- Base types (DWARF 5, section 5.1) and unspecified types (5.2): an INT where the encoding and the size are those of an integer, a FLOAT where
 -- they are those of a floating number, and else a structure of the name and size without members.
-use Rattle.std.specs.Prelude.{ℕ, ◌+◌, ◌*◌, ◌^◌, ◌==◌, ◌&&◌, ◌||◌, Bool, true, false, List, [], ◌∷◌, ◌++◌, Option, None, Some, if◌then◌else◌}
+use Rattle.std.specs.Prelude.{ℕ, ◌+◌, ◌*◌, ◌^◌, ◌==◌, ◌&&◌, ◌||◌, Bool, true, false, List, [], ◌++◌, Option, None, Some, if◌then◌else◌}
 use Rattle.c_model.specs.declared.label.Label.{Label}
 use Rattle.dwarf_forms.specs.Meanings.{Sections}
 use Rattle.entry_tree.specs.Items.{Given}
@@ -8,7 +8,6 @@ use Rattle.c_types.specs.declared.number.Number.{Number}
 use Rattle.c_types.specs.declared.number.Number.TheVariants.{Natural, Negative}
 use Rattle.c_types.specs.declared.base.Base.{Base}
 use Rattle.c_types.specs.declared.base.Base.TheVariants.{Int, Float, Opaque}
-use Rattle.c_types.specs.declared.fault.TypeFault.{TypeFault}
 use Rattle.c_types.specs.declared.fault.TypeFault.TheVariants.{MissingName}
 use Rattle.c_types.specs.Faults.{refuse_if}
 use Rattle.c_types.specs.Attributes.{name_asked, name_in_full, constant_asked, number_said}
@@ -61,7 +60,7 @@ base_row c e =
     let bits = constant_asked 0x0d e in
     record {
       made = type_of e (base_label (name_in_full name) (size_in size.said) (base_with (size_in size.said) (number_said encoding) (number_said bits))) [];
-      refused = name.refused ++ (refuse_if (is_empty (name_in_full name)) (MissingName e.at) ++ (size.refused ++ (size_refused e.at size.said ++ (encoding.refused ++ bits.refused))))
+      refused = name.refused ++ (refuse_if (is_empty (name_in_full name)) (MissingName e.at) ++ (size.refused ++ (size_refused e.at size.said ++ (encoding.refused ++ bits.refused))));
     }
 
 -- an unspecified type is a structure of its name, if it has one, without members

@@ -1,5 +1,5 @@
 -- Enumerations (DWARF 5, section 5.7): declared ones, and those with a name and no enumerators, are enumerations of 4 bytes without enumerators.
-use Rattle.std.specs.Prelude.{ℕ, ℤ, ◌+◌, ◌-◌, ◌%◌, ◌^◌, nat_lt, ◌==◌, ◌&&◌, ◌||◌, not, Bool, true, false, List, [], ◌∷◌, ◌++◌, length, map, Option, None, Some, if◌then◌else◌}
+use Rattle.std.specs.Prelude.{ℕ, ℤ, ◌-◌, ◌%◌, ◌^◌, nat_lt, ◌==◌, ◌&&◌, ◌||◌, not, Bool, true, false, List, [], ◌∷◌, ◌++◌, length, map, Option, None, Some, if◌then◌else◌}
 use Rattle.c_model.specs.declared.label.Label.{Label}
 use Rattle.c_model.specs.declared.label.Part.{Part}
 use Rattle.dwarf_forms.specs.Meanings.{Sections}
@@ -80,9 +80,9 @@ enumerated_row name e c signed enumerators =
     record {
       made = type_of e (enumeration_label wide name signed (size_in size.said) (map (enumerator_part c wide) enumerators)) [];
       refused =
-        size.refused
-        ++ (enum_size_refused e.at size.said
-        ++ (refused_by (enumerator_refused c wide signed) enumerators ++ refuse_if (nat_lt most (length enumerators)) (TooMany e.at (length enumerators))))
+          size.refused
+          ++ (enum_size_refused e.at size.said
+          ++ (refused_by (enumerator_refused c wide signed) enumerators ++ refuse_if (nat_lt most (length enumerators)) (TooMany e.at (length enumerators))));
     }
 
 -- one without enumerators, and in a declaration a name is needed
@@ -90,7 +90,7 @@ abbrev pub bare_row : List ℕ → Given → Bool → Row
 bare_row name e declared =
     record {
       made = type_of e (enumeration_label false name false 4 []) [];
-      refused = refuse_if (declared && is_empty name) (UnnamedForward e.at)
+      refused = refuse_if (declared && is_empty name) (UnnamedForward e.at);
     }
 
 -- it is declared, or has a name and no enumerators
@@ -103,6 +103,6 @@ enumeration_row c e children =
     let declared = flag_asked 0x3c e in
     let name = name_asked c e in
     with_refused (declared.refused ++ name.refused)
-      (if is_bare (is_set declared) (name_in_full name) children
-        then bare_row (name_in_full name) e (is_set declared)
-        else enumerated_row (name_in_full name) e c (some_is is_negative (tagged 0x28 children)) (tagged 0x28 children))
+    (if is_bare (is_set declared) (name_in_full name) children
+    then bare_row (name_in_full name) e (is_set declared)
+    else enumerated_row (name_in_full name) e c (some_is is_negative (tagged 0x28 children)) (tagged 0x28 children))

@@ -39,10 +39,10 @@ rank_of other = ranked 0 0 0 0
 abbrev pub is_before : Rank → Rank → Bool
 is_before a b =
     if a.at == b.at
-      then (if a.number == b.number
-        then (if a.kept == b.kept then nat_lt a.more b.more else nat_lt a.kept b.kept)
-        else nat_lt a.number b.number)
-      else nat_lt a.at b.at
+    then (if a.number == b.number
+    then (if a.kept == b.kept then nat_lt a.more b.more else nat_lt a.kept b.kept)
+    else nat_lt a.number b.number)
+    else nat_lt a.at b.at
 
 -- the first of two
 abbrev pub first_of : TypeFault → TypeFault → TypeFault

@@ -1,5 +1,5 @@
 -- Subroutine types (DWARF 5, section 5.7): the type of the result, and the parameters.
-use Rattle.std.specs.Prelude.{ℕ, nat_lt, not, List, [], ◌∷◌, ◌++◌, length, map, Bool, true, false, if◌then◌else◌}
+use Rattle.std.specs.Prelude.{nat_lt, not, List, [], ◌∷◌, ◌++◌, length, map, Bool, false, if◌then◌else◌}
 use Rattle.c_model.specs.declared.label.Label.{Label}
 use Rattle.c_model.specs.declared.label.Part.{Part}
 use Rattle.dwarf_forms.specs.Meanings.{Sections}
@@ -46,5 +46,5 @@ function_row c e children =
     let parts = function_parts c children in
     record {
       made = type_of e (function_label parts) (target_of_type e.at result ∷ function_targets c children);
-      refused = result.refused ++ (refused_by (parameter_refused c) (tagged 0x05 children) ++ refuse_if (nat_lt most (length parts)) (TooMany e.at (length parts)))
+      refused = result.refused ++ (refused_by (parameter_refused c) (tagged 0x05 children) ++ refuse_if (nat_lt most (length parts)) (TooMany e.at (length parts)));
     }

@@ -1,9 +1,8 @@
 -- Lists of parts: what is made of the children of a tag, and their refusals.
-use Rattle.std.specs.Prelude.{ℕ, ◌==◌, ◌||◌, Bool, true, false, List, [], ◌∷◌, ◌++◌, if◌then◌else◌}
+use Rattle.std.specs.Prelude.{ℕ, ◌==◌, ◌||◌, Bool, false, List, [], ◌∷◌, ◌++◌}
 use Rattle.c_model.specs.declared.label.Part.{Part}
 use Rattle.entry_tree.specs.Items.{Given}
 use Rattle.c_types.specs.declared.fault.TypeFault.{TypeFault}
-use Rattle.c_types.specs.Children.{tagged}
 
 abbrev pub part_of : List ℕ → ℕ → Part
 part_of name value = record { name = name; value = value }

@@ -28,5 +28,5 @@ typedef_row c e =
     let target = target_asked c e in
     record {
       made = type_of e (plain_label 8 (name_in_full name) 0) (target_of_type e.at target ∷ []);
-      refused = name.refused ++ (refuse_if (is_empty (name_in_full name)) (MissingName e.at) ++ target.refused)
+      refused = name.refused ++ (refuse_if (is_empty (name_in_full name)) (MissingName e.at) ++ target.refused);
     }

@@ -1,5 +1,5 @@
 -- Structures and unions (DWARF 5, sections 5.7.1 to 5.7.6): declared ones are forward declarations, the others have a size and members.
-use Rattle.std.specs.Prelude.{ℕ, ℤ, ◌+◌, ◌*◌, ◌^◌, nat_lt, nat_le, ◌==◌, ◌&&◌, not, Bool, true, false, List, [], ◌∷◌, ◌++◌, length, map, Option, None, Some, if◌then◌else◌}
+use Rattle.std.specs.Prelude.{ℕ, ℤ, ◌+◌, ◌*◌, ◌^◌, nat_lt, nat_le, ◌&&◌, not, Bool, false, List, [], ◌∷◌, ◌++◌, length, map, Option, None, Some, if◌then◌else◌}
 use Rattle.c_model.specs.declared.label.Label.{Label}
 use Rattle.c_model.specs.declared.label.Part.{Part}
 use Rattle.dwarf_forms.specs.Meanings.{Sections}
@@ -39,8 +39,8 @@ after refused a = record { said = a.said; refused = refused ++ a.refused }
 abbrev pub position_of : Given → Asked ℕ
 position_of m =
     if has 0x6b m
-      then after (constant_asked 0x6b m).refused (placed_by_bits m.at (number_said (constant_asked 0x6b m)))
-      else after (offset_asked 0x38 m).refused (placed_by_bytes m.at (has 0x38 m) (offset_asked 0x38 m).said)
+    then after (constant_asked 0x6b m).refused (placed_by_bits m.at (number_said (constant_asked 0x6b m)))
+    else after (offset_asked 0x38 m).refused (placed_by_bytes m.at (has 0x38 m) (offset_asked 0x38 m).said)
 
 abbrev pub or_zero : Option ℕ → ℕ
 or_zero None = 0
@@ -113,7 +113,7 @@ forward_row c union e =
     let name = name_asked c e in
     record {
       made = type_of e (forward_label union (name_in_full name)) [];
-      refused = name.refused ++ refuse_if (is_empty (name_in_full name)) (UnnamedForward e.at)
+      refused = name.refused ++ refuse_if (is_empty (name_in_full name)) (UnnamedForward e.at);
     }
 
 abbrev pub defined_row : Sections → Bool → Given → List Given → Row
@@ -123,7 +123,7 @@ defined_row c union e members =
     let fields = has_fields members in
     record {
       made = type_of e (structure_label union (name_in_full name) (size_in size.said) fields (map (member_part c fields) members)) (map (member_target c) members);
-      refused = name.refused ++ (size.refused ++ (size_refused e.at size.said ++ (refused_by (member_refused c fields) members ++ refuse_if (nat_lt most (length members)) (TooMany e.at (length members)))))
+      refused = name.refused ++ (size.refused ++ (size_refused e.at size.said ++ (refused_by (member_refused c fields) members ++ refuse_if (nat_lt most (length members)) (TooMany e.at (length members)))));
     }
 
 -- the refusal of a declaration (0x3c) of the wrong class comes besides; such a one is not declared

@@ -21,7 +21,9 @@ use entry_tree::{Entry, Walk};
 use std::alloc::{AllocError, Global};
 
 const SUBRANGE: u64 = 0x21;
+
 const UPPER_BOUND: u64 = 0x2f;
+
 const COUNT: u64 = 0x37;
 
 /// The least length past 32 bits.
@@ -58,13 +60,7 @@ fn count_length(count: Option<Number>) -> Option<u64>
     match count {
         None => Some(0),
         Some(Number::Natural(n)) => Some(if n == u64::MAX { 0 } else { n }),
-        Some(Number::Negative(n)) => {
-            if n == 0 {
-                Some(0)
-            } else {
-                None
-            }
-        }
+        Some(Number::Negative(n)) => { if n == 0 { Some(0) } else { None } }
     }
 }
 
@@ -81,13 +77,7 @@ fn bound_length(bound: Option<Number>) -> Option<u64>
                 Some(n + 1)
             }
         }
-        Some(Number::Negative(n)) => {
-            if n == 0 {
-                Some(0)
-            } else {
-                None
-            }
-        }
+        Some(Number::Negative(n)) => { if n == 0 { Some(0) } else { None } }
     }
 }
 
@@ -205,9 +195,17 @@ pub(crate) fn array<'a>(
     ensures noted { OnOk result (least.new ≡ noted least.old (array_row (sections ctx.now) (given_entry entry.now) (children_of entry.now.depth walk.entry.entries)).refused) }
 {
     let target = type_target(ctx, entry, least);
-    note_if(least, !is_given(entry, TYPE), TypeFault::MissingType(entry.at));
+    note_if(
+        least,
+        !is_given(entry, TYPE),
+        TypeFault::MissingType(entry.at),
+    );
     let lengths = measure(walk, entry.depth);
-    note_if(least, are_too_long(lengths), TypeFault::ArrayLength(entry.at));
+    note_if(
+        least,
+        are_too_long(lengths),
+        TypeFault::ArrayLength(entry.at),
+    );
     let targets = two_targets(alloc, target)?;
     Ok(SourceType {
         at: entry.at,

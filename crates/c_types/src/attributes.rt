@@ -12,10 +12,13 @@ use crate::fault::{TypeFault, note};
 use crate::number::{Number, by_sign};
 use crate::source::Target;
 use dw_base::Name;
-use dwarf_forms::{FormCtx, FormFault, Given, byte_offset_of, constant_of, flag_of, name_of, target_of};
+use dwarf_forms::{
+    FormCtx, FormFault, Given, byte_offset_of, constant_of, flag_of, name_of, target_of,
+};
 use entry_tree::Entry;
 
 pub(crate) const NAME: u64 = 0x03;
+
 pub(crate) const TYPE: u64 = 0x49;
 
 /// The first value of an attribute.

@@ -18,7 +18,9 @@ use entry_tree::Entry;
 use std::alloc::Global;
 
 pub(crate) const BYTE_SIZE: u64 = 0x0b;
+
 pub(crate) const BIT_SIZE: u64 = 0x0d;
+
 const ENCODING: u64 = 0x3e;
 
 /// What a base type is to BTF.

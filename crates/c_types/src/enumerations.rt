@@ -24,6 +24,7 @@ use entry_tree::{Entry, Walk};
 use std::alloc::{AllocError, Global};
 
 const CONST_VALUE: u64 = 0x1c;
+
 const ENUMERATOR: u64 = 0x28;
 
 /// What is known of the enumerators before they are read.
@@ -99,7 +100,11 @@ fn top_value(wide: bool, signed: bool) -> u128
     ensures { result ≡ top wide signed }
 {
     if wide {
-        if signed { 9_223_372_036_854_775_808 } else { 18_446_744_073_709_551_616 }
+        if signed {
+            9_223_372_036_854_775_808
+        } else {
+            18_446_744_073_709_551_616
+        }
     } else if signed {
         2_147_483_648
     } else {
@@ -119,7 +124,11 @@ fn note_value(
 {
     match value {
         None => note(least, TypeFault::EnumValue(at)),
-        Some(n) => note_if(least, !is_value_in_range(wide, signed, n), TypeFault::EnumValue(at)),
+        Some(n) => note_if(
+            least,
+            !is_value_in_range(wide, signed, n),
+            TypeFault::EnumValue(at),
+        ),
     }
 }
 
@@ -128,13 +137,7 @@ fn residue_of(wide: bool, value: Number) -> u64
     ensures { result ≡ residue wide value }
 {
     match value {
-        Number::Natural(n) => {
-            if wide {
-                n
-            } else {
-                n % 4_294_967_296
-            }
-        }
+        Number::Natural(n) => { if wide { n } else { n % 4_294_967_296 } }
         Number::Negative(n) => {
             if wide {
                 u64::MAX - n
@@ -169,7 +172,11 @@ fn take_enumerator<'a>(
     ensures noted { OnOk result (least.new ≡ noted least.old (enumerator_refused (sections ctx.now) wide signed (given_entry enumerator.now))) }
 {
     let name = name(ctx, enumerator, least);
-    note_if(least, is_unnamed(&name), TypeFault::MissingName(enumerator.at));
+    note_if(
+        least,
+        is_unnamed(&name),
+        TypeFault::MissingName(enumerator.at),
+    );
     let value = signed_constant(enumerator, CONST_VALUE, least);
     note_value(least, enumerator.at, wide, signed, value);
     parts.push(Part {
@@ -252,9 +259,23 @@ fn make_enumeration<'a>(
     ensures { result ≡ enumeration_label wide name.entry signed size parts.entry }
 {
     if wide {
-        Label { kind: 19, name, flag: signed, size, extra: 0, parts }
+        Label {
+            kind: 19,
+            name,
+            flag: signed,
+            size,
+            extra: 0,
+            parts,
+        }
     } else {
-        Label { kind: 6, name, flag: signed, size, extra: 0, parts }
+        Label {
+            kind: 6,
+            name,
+            flag: signed,
+            size,
+            extra: 0,
+            parts,
+        }
     }
 }
 

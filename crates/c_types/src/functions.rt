@@ -21,6 +21,7 @@ use entry_tree::{Entry, Walk};
 use std::alloc::{AllocError, Global};
 
 const PARAMETER: u64 = 0x05;
+
 const UNSPECIFIED_PARAMETERS: u64 = 0x18;
 
 /// The parameters so far, and their types behind that of the result.
@@ -47,7 +48,11 @@ fn take_parameter<'a>(
 {
     let name = name(ctx, child, least);
     let target = type_target(ctx, child, least);
-    note_if(least, !is_given(child, TYPE), TypeFault::MissingType(child.at));
+    note_if(
+        least,
+        !is_given(child, TYPE),
+        TypeFault::MissingType(child.at),
+    );
     parameters.parts.push(Part { name, value: 0 })?;
     parameters.targets.push(target)?;
     Ok(())

@@ -14,6 +14,8 @@ mod references;
 mod shared;
 pub mod source;
 mod structures;
+#[cfg(test)]
+mod tests;
 pub mod unit;
 
 pub use fault::TypeFault;

@@ -10,7 +10,9 @@ ghost use Rattle.c_types.specs.Parts.{refused_by, some_is};
 ghost use Rattle.c_types.specs.Taking.{made_if, refused_if};
 ghost use Rattle.c_types.specs.Structures.{placed, placed_by_bits, placed_by_bytes, position_of, or_zero, bits_of, bits_in, bits_refused, is_bit_size, limit, near, word_of, member_word, far_refused, place_refused, member_part, member_target, member_refused, has_fields, forward_row, defined_row, structure_row};
 
-use crate::attributes::{TYPE, constant, flag, is_given, name, offset, signed_constant, type_target};
+use crate::attributes::{
+    TYPE, constant, flag, is_given, name, offset, signed_constant, type_target,
+};
 use crate::base::{BIT_SIZE, BYTE_SIZE};
 use crate::children::next_child;
 use crate::fault::{TypeFault, note, note_if};
@@ -23,8 +25,11 @@ use entry_tree::{Entry, Walk};
 use std::alloc::{AllocError, Global};
 
 const MEMBER: u64 = 0x0d;
+
 const DATA_MEMBER_LOCATION: u64 = 0x38;
+
 pub(crate) const DECLARATION: u64 = 0x3c;
+
 const DATA_BIT_OFFSET: u64 = 0x6b;
 
 /// Some bit field so far, or this child.
@@ -86,13 +91,7 @@ fn place_by_bytes(
     ensures noted { least.new ≡ noted least.old (placed_by_bytes at given bytes).refused }
 {
     match bytes {
-        None => {
-            if given {
-                None
-            } else {
-                Some(0)
-            }
-        }
+        None => { if given { None } else { Some(0) } }
         Some(None) => {
             note(least, TypeFault::MemberPlace(at));
             None
@@ -112,7 +111,12 @@ fn position(member: &Entry<'_, '_>, least: &mut Option<TypeFault>) -> Option<u12
         return place_by_bits(member.at, bits, least);
     }
     let bytes = offset(member, DATA_MEMBER_LOCATION, least);
-    place_by_bytes(member.at, is_given(member, DATA_MEMBER_LOCATION), bytes, least)
+    place_by_bytes(
+        member.at,
+        is_given(member, DATA_MEMBER_LOCATION),
+        bytes,
+        least,
+    )
 }
 
 fn or_start(position: Option<u128>) -> u128
@@ -138,13 +142,7 @@ fn small_bits(size: Number) -> u32
     ensures small { result ≤ 255 }
 {
     match size {
-        Number::Natural(n) => {
-            if n <= 255 {
-                n as u32
-            } else {
-                0
-            }
-        }
+        Number::Natural(n) => { if n <= 255 { n as u32 } else { 0 } }
         Number::Negative(_) => 0,
     }
 }
@@ -168,7 +166,11 @@ fn note_bits(least: &mut Option<TypeFault>, at: u64, size: Option<i128>)
 {
     match size {
         None => {}
-        Some(z) => note_if(least, !is_bit_size_of(by_sign(z)), TypeFault::BitSize(at, z)),
+        Some(z) => note_if(
+            least,
+            !is_bit_size_of(by_sign(z)),
+            TypeFault::BitSize(at, z),
+        ),
     }
 }
 
@@ -248,7 +250,11 @@ fn take_member<'a>(
 {
     let name = name(ctx, member, least);
     let target = type_target(ctx, member, least);
-    note_if(least, !is_given(member, TYPE), TypeFault::MissingType(member.at));
+    note_if(
+        least,
+        !is_given(member, TYPE),
+        TypeFault::MissingType(member.at),
+    );
     let value = u64::from(member_value(member, fields, least));
     members.parts.push(Part { name, value })?;
     members.targets.push(target)?;
@@ -315,7 +321,11 @@ fn forward<'a>(
     ensures noted { least.new ≡ noted least.old (forward_row (sections ctx.now) is_union (given_entry entry.now)).refused }
 {
     let name = name(ctx, entry, least);
-    note_if(least, is_unnamed(&name), TypeFault::UnnamedForward(entry.at));
+    note_if(
+        least,
+        is_unnamed(&name),
+        TypeFault::UnnamedForward(entry.at),
+    );
     SourceType {
         at: entry.at,
         label: Label {

@@ -1,4 +1,4 @@
-use Rattle.std.proofs.Common.{◌≡◌, ℕ, Bool, refl, ap, ◌∙◌}
+use Rattle.std.proofs.Common.{◌≡◌, ap, ◌∙◌}
 use Rattle.entry_tree.specs.Walks.{given_entry}
 use Rattle.c_types.specs.declared.arrays.Lengths.{Lengths}
 use Rattle.c_types.specs.Children.{children_of}
@@ -22,4 +22,4 @@ returns-in-None-clause-elements c =
 pub children-preserved : goal.children-preserved
 children-preserved c =
     extends c.children.lengths c.with_child-lengths.result (extended start (lengths_of (children_of c.args.depth c.args.walk.entries))) (children_of c.args.depth c.children.walk.entries) (children_of c.args.depth c.next_child.new.walk.entries) (given_entry c.in-Some.child)
-      c.in-Some.ensures c.with_child-lengths.ensures c.children.invariant
+    c.in-Some.ensures c.with_child-lengths.ensures c.children.invariant

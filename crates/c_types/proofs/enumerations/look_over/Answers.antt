@@ -1,4 +1,4 @@
-use Rattle.std.proofs.Common.{◌≡◌, ◌||◌, ◌==◌, ◌∷◌, refl}
+use Rattle.std.proofs.Common.{◌==◌}
 use Rattle.entry_tree.specs.Items.{Given}
 use Rattle.entry_tree.specs.Walks.{given_entry}
 use Rattle.c_types.specs.Children.{children_of, tagged}
@@ -20,5 +20,5 @@ children-preserved c =
     let new = children_of c.args.depth c.next_child.new.walk.entries in
     record {
       any = tests (λ (e : Given). e.tag == 0x28) old new (given_entry c.in-Some.child) c.children.survey.any c.survey_with-survey.result.any (some_tagged 0x28 all) c.in-Some.ensures c.survey_with-survey.ensures.any c.children.invariant.any;
-      signed = tag_tests 0x28 is_negative old new (given_entry c.in-Some.child) c.children.survey.signed c.survey_with-survey.result.signed (some_is is_negative (tagged 0x28 all)) c.in-Some.ensures c.survey_with-survey.ensures.signed c.children.invariant.signed
+      signed = tag_tests 0x28 is_negative old new (given_entry c.in-Some.child) c.children.survey.signed c.survey_with-survey.result.signed (some_is is_negative (tagged 0x28 all)) c.in-Some.ensures c.survey_with-survey.ensures.signed c.children.invariant.signed;
     }

@@ -13,7 +13,7 @@ pub children-init : goal.children-init
 children-init c =
     record {
       parts = ap (λ (xs : List Part). xs ++ map (enumerator_part (sections c.args.ctx.now) c.args.wide) (tagged 0x28 (children_of c.args.depth c.args.walk.entries))) c.new-found.ensures.items;
-      noted = refl
+      noted = refl;
     }
 
 pub returns-in-None-clause-parts : goal.returns-in-None-clause-parts
@@ -34,5 +34,5 @@ children-preserved c =
     let made = c.in_ok-take_child-in-Some.ensures in
     record {
       parts = gathers 0x28 (enumerator_part s w) old new e c.children.found.items c.take_child.new.parts.items (map (enumerator_part s w) (tagged 0x28 all)) taken made.parts c.children.invariant.parts;
-      noted = notes 0x28 (enumerator_refused s w c.args.signed) old new e c.children.least c.take_child.new.least (noted c.args.least.now (refused_by (enumerator_refused s w c.args.signed) (tagged 0x28 all))) taken made.noted c.children.invariant.noted
+      noted = notes 0x28 (enumerator_refused s w c.args.signed) old new e c.children.least c.take_child.new.least (noted c.args.least.now (refused_by (enumerator_refused s w c.args.signed) (tagged 0x28 all))) taken made.noted c.children.invariant.noted;
     }

@@ -1,4 +1,4 @@
-use Rattle.std.proofs.Common.{◌≡◌, ◌++◌, ◌∷◌, [], map, ◌==◌, List, refl, sym, ap, ◌∙◌}
+use Rattle.std.proofs.Common.{◌≡◌, ◌++◌, ◌∷◌, [], map, ◌==◌, List, refl, ap, ◌∙◌}
 use Rattle.dwarf_forms.specs.Meanings.{sections}
 use Rattle.entry_tree.specs.Items.{Given}
 use Rattle.entry_tree.specs.Walks.{given_entry}
@@ -17,7 +17,7 @@ children-init c =
       parts = ap (λ (xs : List Part). xs ++ map (parameter_part (sections c.args.ctx.now)) (tagged 0x05 (children_of c.args.depth c.args.walk.entries))) c.new.ensures.items;
       targets = ap (λ (xs : List Target). xs ++ map (parameter_target (sections c.args.ctx.now)) (tagged 0x05 (children_of c.args.depth c.args.walk.entries))) (c.in_ok-push.ensures.items ∙ ap (λ (xs : List Target). xs ++ c.args.result_type ∷ []) c.in_ok-targets.ensures.items);
       variadic = refl;
-      noted = refl
+      noted = refl;
     }
 
 pub returns-in-None-clause-parts : goal.returns-in-None-clause-parts
@@ -45,5 +45,5 @@ children-preserved c =
       parts = gathers 0x05 (parameter_part s) old new e c.children.found.parts.items c.take_child.new.parameters.parts.items (map (parameter_part s) (tagged 0x05 all)) taken made.parts c.children.invariant.parts;
       targets = gathers 0x05 (parameter_target s) old new e c.children.found.targets.items c.take_child.new.parameters.targets.items (c.args.result_type ∷ map (parameter_target s) (tagged 0x05 all)) taken made.targets c.children.invariant.targets;
       variadic = tests (λ (e : Given). e.tag == 0x18) old new e c.children.found.variadic c.take_child.new.parameters.variadic (some_tagged 0x18 all) taken made.variadic c.children.invariant.variadic;
-      noted = notes 0x05 (parameter_refused s) old new e c.children.least c.take_child.new.least (noted c.args.least.now (refused_by (parameter_refused s) (tagged 0x05 all))) taken made.noted c.children.invariant.noted
+      noted = notes 0x05 (parameter_refused s) old new e c.children.least c.take_child.new.least (noted c.args.least.now (refused_by (parameter_refused s) (tagged 0x05 all))) taken made.noted c.children.invariant.noted;
     }

@@ -1,4 +1,3 @@
-use Rattle.std.proofs.Common.{◌≡◌, ◌||◌, ◌∷◌, refl}
 use Rattle.entry_tree.specs.Walks.{given_entry}
 use Rattle.c_types.specs.Attributes.{has}
 use Rattle.c_types.specs.Children.{children_of, tagged}
@@ -12,4 +11,4 @@ returns-in-None c = tag_tested 0x0d (has 0x0d) (children_of c.args.depth c.child
 pub children-preserved : goal.children-preserved
 children-preserved c =
     tag_tests 0x0d (has 0x0d) (children_of c.args.depth c.children.walk.entries) (children_of c.args.depth c.next_child.new.walk.entries) (given_entry c.in-Some.child) c.children.fields c.with_bit_field-fields.result (has_fields (tagged 0x0d (children_of c.args.depth c.args.walk.entries)))
-      c.in-Some.ensures c.with_bit_field-fields.ensures c.children.invariant
+    c.in-Some.ensures c.with_bit_field-fields.ensures c.children.invariant

@@ -15,7 +15,7 @@ children-init c =
     record {
       parts = ap (λ (xs : List Part). xs ++ map (member_part (sections c.args.ctx.now) c.args.fields) (tagged 0x0d (children_of c.args.depth c.args.walk.entries))) c.new.ensures.items;
       targets = ap (λ (xs : List Target). xs ++ map (member_target (sections c.args.ctx.now)) (tagged 0x0d (children_of c.args.depth c.args.walk.entries))) c.new-2.ensures.items;
-      noted = refl
+      noted = refl;
     }
 
 pub returns-in-None-clause-parts : goal.returns-in-None-clause-parts
@@ -40,5 +40,5 @@ children-preserved c =
     record {
       parts = gathers 0x0d (member_part s f) old new e c.children.found.parts.items c.take_child.new.members.parts.items (map (member_part s f) (tagged 0x0d all)) taken made.parts c.children.invariant.parts;
       targets = gathers 0x0d (member_target s) old new e c.children.found.targets.items c.take_child.new.members.targets.items (map (member_target s) (tagged 0x0d all)) taken made.targets c.children.invariant.targets;
-      noted = notes 0x0d (member_refused s f) old new e c.children.least c.take_child.new.least (noted c.args.least.now (refused_by (member_refused s f) (tagged 0x0d all))) taken made.noted c.children.invariant.noted
+      noted = notes 0x0d (member_refused s f) old new e c.children.least c.take_child.new.least (noted c.args.least.now (refused_by (member_refused s f) (tagged 0x0d all))) taken made.noted c.children.invariant.noted;
     }

@@ -10,7 +10,7 @@ abbrev pub invariant-children : goal.invariant-children
 invariant-children l = record {
   parts : l.found.parts.items ++ map (member_part (sections l.ctx) l.fields) (tagged 0x0d (children_of l.depth l.walk.entries)) ≡ map (member_part (sections l.ctx) l.fields) (tagged 0x0d (children_of l.depth l.initial.walk.entries));
   targets : l.found.targets.items ++ map (member_target (sections l.ctx)) (tagged 0x0d (children_of l.depth l.walk.entries)) ≡ map (member_target (sections l.ctx)) (tagged 0x0d (children_of l.depth l.initial.walk.entries));
-  noted : noted l.least (refused_by (member_refused (sections l.ctx) l.fields) (tagged 0x0d (children_of l.depth l.walk.entries))) ≡ noted l.initial.least (refused_by (member_refused (sections l.ctx) l.fields) (tagged 0x0d (children_of l.depth l.initial.walk.entries)))
+  noted : noted l.least (refused_by (member_refused (sections l.ctx) l.fields) (tagged 0x0d (children_of l.depth l.walk.entries))) ≡ noted l.initial.least (refused_by (member_refused (sections l.ctx) l.fields) (tagged 0x0d (children_of l.depth l.initial.walk.entries)));
 }
 
 abbrev pub decreases-children : goal.decreases-children

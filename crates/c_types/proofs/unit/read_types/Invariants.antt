@@ -10,7 +10,7 @@ invariant-entries l = record {
   types : l.found.types.items ++ types_of (sections l.ctx) l.walk.entries ≡ types_of (sections l.ctx) l.initial.walk.entries;
   arrays : (l.found.has_array || some_tagged 0x01 l.walk.entries) ≡ some_tagged 0x01 l.initial.walk.entries;
   least : noted l.least (refusals_of (sections l.ctx) l.walk.entries) ≡ noted None (refusals_of (sections l.ctx) l.initial.walk.entries);
-  ending : l.walk.ending ≡ l.initial.walk.ending
+  ending : l.walk.ending ≡ l.initial.walk.ending;
 }
 
 abbrev pub decreases-entries : goal.decreases-entries
