@@ -24,25 +24,25 @@ id_of (Node x) = x + 1
 -- the layout of a kind; None where no kind has that number
 abbrev pub layout_of : ℕ → Option Layout
 layout_of k =
-    if k == 1 then Some Int -- INT
-    else if k == 2 then Some Link -- PTR
-    else if k == 3 then Some Array -- ARRAY
-    else if k == 4 then Some (Sized Member) -- STRUCT
-    else if k == 5 then Some (Sized Member) -- UNION
-    else if k == 6 then Some (Sized Enumerator) -- ENUM
-    else if k == 7 then Some Forward -- FWD
-    else if k == 8 then Some Link -- TYPEDEF
-    else if k == 9 then Some Link -- VOLATILE
-    else if k == 10 then Some Link -- CONST
-    else if k == 11 then Some Link -- RESTRICT
-    else if k == 12 then Some Link -- FUNC
-    else if k == 13 then Some Prototype -- FUNC_PROTO
-    else if k == 14 then Some TaggedLink -- VAR
-    else if k == 15 then Some (Sized Variable) -- DATASEC
-    else if k == 16 then Some Float -- FLOAT
-    else if k == 17 then Some TaggedLink -- DECL_TAG
-    else if k == 18 then Some Link -- TYPE_TAG
-    else if k == 19 then Some (Sized WideEnumerator) -- ENUM64
+    if k == 1 then Some Int  -- INT
+    else if k == 2 then Some Link  -- PTR
+    else if k == 3 then Some Array  -- ARRAY
+    else if k == 4 then Some (Sized Member)  -- STRUCT
+    else if k == 5 then Some (Sized Member)  -- UNION
+    else if k == 6 then Some (Sized Enumerator)  -- ENUM
+    else if k == 7 then Some Forward  -- FWD
+    else if k == 8 then Some Link  -- TYPEDEF
+    else if k == 9 then Some Link  -- VOLATILE
+    else if k == 10 then Some Link  -- CONST
+    else if k == 11 then Some Link  -- RESTRICT
+    else if k == 12 then Some Link  -- FUNC
+    else if k == 13 then Some Prototype  -- FUNC_PROTO
+    else if k == 14 then Some TaggedLink  -- VAR
+    else if k == 15 then Some (Sized Variable)  -- DATASEC
+    else if k == 16 then Some Float  -- FLOAT
+    else if k == 17 then Some TaggedLink  -- DECL_TAG
+    else if k == 18 then Some Link  -- TYPE_TAG
+    else if k == 19 then Some (Sized WideEnumerator)  -- ENUM64
     else None
 
 -- bits 0 to 15: the number of parts, but of a FUNC its linkage

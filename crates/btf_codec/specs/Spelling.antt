@@ -1,5 +1,5 @@
 -- The bytes of a table whose strings give each name its offset.
-use Rattle.std.specs.Prelude.{◌≡◌, ℕ, ◌+◌, ◌*◌, List, [], ◌∷◌, ◌++◌, length, map, drop, All, IsSome, unwrap_or, is_none, true, Option, None, Some}
+use Rattle.std.specs.Prelude.{ℕ, ◌*◌, List, ◌++◌, length, map, All, IsSome, unwrap_or, Option, None, Some}
 use Rattle.std.specs.List.{flat_map}
 use Rattle.dw_base.specs.declared.numbers.Order.{Order}
 use Rattle.c_model.specs.declared.label.Part.{Part}

@@ -65,7 +65,11 @@ pub fn id_at(targets: &[Ref], place: usize) -> u32
 pub fn after_first(targets: &[Ref]) -> &[Ref]
     ensures { result.now ≡ drop 1 targets.now }
 {
-    if targets.is_empty() { targets } else { &targets[1..] }
+    if targets.is_empty() {
+        targets
+    } else {
+        &targets[1..]
+    }
 }
 
 /// The low 32 bits.

@@ -1,9 +1,9 @@
 //! The writer of BTF files.
-ghost use Rattle.std.specs.Prelude.{◌≡◌, ◌<◌, ◌≤◌, ◌+◌, ◌*◌, ◌-◌, ◌^◌, ◌++◌, ℕ, List, length, drop, None, OnOk, IfOk, All};
+ghost use Rattle.std.specs.Prelude.{◌≡◌, ◌<◌, ◌≤◌, ◌+◌, ◌*◌, ◌-◌, ◌^◌, ◌∷◌, ◌++◌, ℕ, List, [], length, drop, None, OnOk, IfOk, All};
 ghost use Rattle.std.specs.List.{flat_map};
 ghost use Rattle.c_model.specs.Graph.{IsBelow, RefersWithin};
 ghost use Rattle.c_model.specs.Kinds.{IsWellFormed};
-ghost use Rattle.btf_codec.specs.Fields.{fields_of, id_of, info_of, part_fields, parts_fields, target_at, vlen_of};
+ghost use Rattle.btf_codec.specs.Fields.{fields_of, id_of, info_of, part_fields, parts_fields, rest_fields, vlen_of};
 ghost use Rattle.btf_codec.specs.Spells.{Spells, header_bytes, words_bytes};
 ghost use Rattle.btf_codec.specs.Spelling.{HasOffsets, base_of, spelling_of, types_words, words_of};
 ghost use Rattle.btf_strings.specs.Names.{own_section};
@@ -12,7 +12,9 @@ ghost use Rattle.c_model.specs.declared.graph.Ref.{Ref};
 
 use crate::layout::{Layout, PartLayout, layout_of};
 use crate::table::TableOut;
-use crate::words::{after_first, half_bytes, high_half, id_at, info, low_half, offset_in, put_words};
+use crate::words::{
+    after_first, half_bytes, high_half, id_at, info, low_half, offset_in, put_words,
+};
 use btf_strings::Strings;
 use c_model::{CType, Part, Ref};
 use dw_base::{Bytes, Order};
@@ -33,7 +35,7 @@ pub fn write(alloc: Global, table: &TableOut<'_>, order: Order) -> Result<Bytes,
     ensures spells { IfOk result (λ b. All IsWellFormed (drop table.now.base table.now.types) →
         (table.now.strings.base ≡ None → table.now.base ≡ 0) →
         Spells (base_of table.now.base table.now.strings.base) order (drop table.now.base table.now.types)
-            (own_section table.now.strings) b) }
+        (own_section table.now.strings) b) }
 {
     let own = &table.types.items()[table.base as usize..];
     let names = table.strings.bytes();
@@ -71,15 +73,36 @@ fn words_of(t: &CType<'_>) -> u32
     requires { length (fields_of t.now) < 2 ^ 32 }
     ensures { result ≡ length (fields_of t.now) }
 {
-    let parts = t.label.parts.items().len();
     match layout_of(t.label.kind) {
         None => 2,
-        Some(Layout::Link | Layout::Forward | Layout::Float) => 3,
-        Some(Layout::Int | Layout::TaggedLink) => 4,
-        Some(Layout::Array) => 6,
-        Some(Layout::Sized(part)) => 3 + (words_of_part(part) as usize * parts) as u32,
-        Some(Layout::Prototype) => 3 + (2 * parts) as u32,
+        Some(layout) => 2 + words_by(layout, t),
     }
+}
+
+/// How many words follow the name and the info word.
+fn words_by(layout: Layout, t: &CType<'_>) -> u32
+    requires { length (rest_fields layout t.now.label t.now.targets) < 2 ^ 32 }
+    ensures { result ≡ length (rest_fields layout t.now.label t.now.targets) }
+{
+    let parts = t.label.parts.items();
+    match layout {
+        Layout::Link => 1,
+        Layout::Forward => 1,
+        Layout::Float => 1,
+        Layout::Int => 2,
+        Layout::TaggedLink => 2,
+        Layout::Array => 4,
+        Layout::Sized(part) => 1 + words_of_parts(part, parts),
+        Layout::Prototype => 1 + words_of_parts(PartLayout::Parameter, parts),
+    }
+}
+
+/// How many words parts have.
+fn words_of_parts(layout: PartLayout, parts: &[Part<'_>]) -> u32
+    requires { length (parts_fields layout parts.now []) < 2 ^ 32 }
+    ensures { (rs : List Ref) → result ≡ length (parts_fields layout parts.now rs) }
+{
+    (words_of_part(layout) as usize * parts.len()) as u32
 }
 
 /// How many words a part has.
@@ -120,32 +143,56 @@ fn put_type(
     ensures { OnOk result (vlen_of t.now.label ≤ 65535 → t.now.label.kind < 32 →
         out.new.items ≡ out.old.items ++ words_bytes order (words_of strings.now (fields_of t.now))) }
 {
-    let label = &t.label;
-    let name = offset_in(strings, &label.name);
-    let info = info(label);
-    let targets = t.targets.items();
-    let parts = label.parts.items();
-    match layout_of(label.kind) {
+    let name = offset_in(strings, &t.label.name);
+    let info = info(&t.label);
+    match layout_of(t.label.kind) {
         None => put_words(out, order, &[name, info]),
-        Some(Layout::Int) => put_words(out, order, &[name, info, label.size, label.extra]),
-        Some(Layout::Link) => put_words(out, order, &[name, info, id_at(targets, 0)]),
-        Some(Layout::Array) => {
-            let element = id_at(targets, 0);
+        Some(layout) => put_by(layout, out, order, strings, name, info, t),
+    }
+}
+
+/// Appends the name and the info word of a type and what follows them.
+fn put_by(
+    layout: Layout,
+    out: &mut Vec<u8>,
+    order: Order,
+    strings: &Strings<'_>,
+    name: u32,
+    info: u32,
+    t: &CType<'_>,
+) -> Result<(), AllocError>
+    requires { All (IsBelow (2 ^ 32 - 1)) t.now.targets }
+    ensures { OnOk result (out.new.items ≡ out.old.items ++ words_bytes order
+        (name ∷ info ∷ words_of strings.now (rest_fields layout t.now.label t.now.targets))) }
+{
+    let label = &t.label;
+    let parts = label.parts.items();
+    let targets = t.targets.items();
+    let first = id_at(targets, 0);
+    match layout {
+        Layout::Int => put_words(out, order, &[name, info, label.size, label.extra]),
+        Layout::Link => put_words(out, order, &[name, info, first]),
+        Layout::Array => {
             let index = id_at(targets, 1);
-            put_words(out, order, &[name, info, 0, element, index, label.extra])
+            put_words(out, order, &[name, info, 0, first, index, label.extra])
         }
-        Some(Layout::Forward) => put_words(out, order, &[name, info, 0]),
-        Some(Layout::TaggedLink) => {
-            put_words(out, order, &[name, info, id_at(targets, 0), label.extra])
-        }
-        Some(Layout::Float) => put_words(out, order, &[name, info, label.size]),
-        Some(Layout::Sized(part)) => {
+        Layout::Forward => put_words(out, order, &[name, info, 0]),
+        Layout::TaggedLink => put_words(out, order, &[name, info, first, label.extra]),
+        Layout::Float => put_words(out, order, &[name, info, label.size]),
+        Layout::Sized(part) => {
             put_words(out, order, &[name, info, label.size])?;
             put_parts(out, order, strings, part, parts, targets)
         }
-        Some(Layout::Prototype) => {
-            put_words(out, order, &[name, info, id_at(targets, 0)])?;
-            put_parts(out, order, strings, PartLayout::Parameter, parts, after_first(targets))
+        Layout::Prototype => {
+            put_words(out, order, &[name, info, first])?;
+            put_parts(
+                out,
+                order,
+                strings,
+                PartLayout::Parameter,
+                parts,
+                after_first(targets),
+            )
         }
     }
 }
