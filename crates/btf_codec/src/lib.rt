@@ -1,0 +1,13 @@
+//! BTF files: the table of types that the bytes of a file spell (the Linux kernel's BTF documentation).
+#![tactic(auto)]
+
+pub mod fault;
+mod layout;
+mod shared;
+pub mod table;
+mod words;
+pub mod writer;
+
+pub use fault::BtfFault;
+pub use table::{Table, TableOut};
+pub use writer::write;
