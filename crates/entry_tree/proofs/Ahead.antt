@@ -1,7 +1,7 @@
 -- What comes, item by item.
-use Rattle.std.proofs.Common.{◌≡◌, ℕ, zero, suc, ◌+◌, ◌-◌, ◌<◌, ◌≤◌, ◌==◌, ◌&&◌, ◌||◌, not, nat_le, Bool, true, false, List, [], ◌∷◌, length, Option, None, Some, Result, Ok, Err, is_ok, if◌then◌else◌, refl, sym, ap, subst, ◌∙◌, arith}
+use Rattle.std.proofs.Common.{◌≡◌, ℕ, zero, suc, ◌+◌, ◌-◌, ◌<◌, ◌≤◌, ◌==◌, ◌&&◌, not, nat_le, Bool, true, false, List, [], length, Option, None, Some, Result, Ok, Err, is_ok, if◌then◌else◌, refl, sym, ap, subst, ◌∙◌, arith}
 use Rattle.std.proofs.lemmas.Bool.{leb-false}
-use Rattle.dw_base.proofs.Ends.{ok_parts, uleb_after}
+use Rattle.dw_base.proofs.Ends.{uleb_after}
 use Rattle.dw_base.specs.Leb128.{uleb_of}
 use Rattle.dw_base.specs.declared.leb128.LebFault.{LebFault}
 use Rattle.dw_base.specs.declared.leb128.LebFault.TheVariants.{Truncated, TooWide}
@@ -12,7 +12,7 @@ use Rattle.dwarf_forms.specs.Values.{Shown, Within, within, IsContext}
 use Rattle.dwarf_forms.specs.declared.given.FormCtx.{FormCtx}
 use Rattle.std.proofs.lemmas.List.{length-take-le}
 use Rattle.entry_tree.specs.declared.fault.WalkFault.{WalkFault}
-use Rattle.entry_tree.specs.declared.fault.WalkFault.TheVariants.{UnitRoot, AbbrevMissing, Form, TreeOpen, AfterRoot}
+use Rattle.entry_tree.specs.declared.fault.WalkFault.TheVariants.{UnitRoot, TreeOpen, AfterRoot}
 use Rattle.entry_tree.specs.Reads.{values_at, ends_at, end_of_values}
 use Rattle.entry_tree.specs.Items.{◌>>=◌, Standing, Coming, item_at, code_at, of_code, or_missing, of_form, is_root, after_item, coming, coming_from, with_first, given_at, opened}
 use Rattle.entry_tree.specs.Items.Standing.{nothing, null, entry}

@@ -1,11 +1,10 @@
 -- Where a unit whose header is read lies.
-use Rattle.std.proofs.Common.{◌≡◌, ℕ, zero, suc, ◌+◌, ◌-◌, ◌<◌, ◌≤◌, ◌==◌, ◌||◌, nat_le, nat_lt, Bool, true, false, List, [], ◌∷◌, ◌++◌, length, take, get_or, Option, None, Some, Result, Ok, Err, IfOk, if◌then◌else◌, refl, sym, ap, subst, ◌∙◌, arith, ⊎_elim}
+use Rattle.std.proofs.Common.{◌≡◌, ℕ, ◌+◌, ◌<◌, ◌≤◌, ◌==◌, ◌||◌, nat_le, nat_lt, Bool, true, false, List, length, take, get_or, Option, None, Some, Result, Ok, Err, IfOk, if◌then◌else◌, refl, sym, ap, subst, arith, ⊎_elim}
 use Rattle.std.proofs.lemmas.Bool.{leb-true, eqb-true, or_cases}
 use Rattle.dw_base.specs.Numbers.{number_of}
 use Rattle.dw_base.specs.declared.numbers.Order.{Order}
-use Rattle.dw_base.proofs.Numbering.{number_within}
 use Rattle.dwarf_forms.specs.Forms.{HasWidth}
-use Rattle.entry_tree.specs.Units.{◌>>=◌, or_short, extent_of, extent_at, fields_of_5, fields_of, offset_in, check_type, check_address, unit_at, units_from, IsInside}
+use Rattle.entry_tree.specs.Units.{◌>>=◌, or_short, extent_of, extent_at, fields_of_5, fields_of, check_type, check_address, unit_at, IsInside}
 use Rattle.entry_tree.specs.declared.unit.Unit.{Unit}
 use Rattle.entry_tree.specs.declared.unit.UnitFault.{UnitFault}
 use Rattle.entry_tree.specs.declared.unit.UnitFault.TheVariants.{UnitLength, UnitVersion, AddressSize}

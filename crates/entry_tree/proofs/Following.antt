@@ -1,7 +1,9 @@
 -- Units that follow one another, as a counted loop reads them.
-use Rattle.std.proofs.Common.{◌≡◌, ℕ, zero, suc, ◌+◌, ◌-◌, ◌<◌, ◌≤◌, nat_le, Bool, true, false, List, [], ◌∷◌, ◌++◌, length, Result, Ok, Err, if◌then◌else◌, refl, sym, ap, subst, ◌∙◌, append_assoc, arith}
+use Rattle.std.proofs.Common.{◌≡◌, ℕ, zero, suc, ◌+◌, ◌-◌, ◌<◌, ◌≤◌, nat_le, Bool, true, false, List, [], ◌∷◌, ◌++◌, length, Result, Ok, Err, IfOk, All, refl, sym, ap, subst, ◌∙◌, append_assoc, arith}
 use Rattle.std.proofs.lemmas.Bool.{le-leb, lt-leb, leb-true, leb-false}
 use Rattle.std.proofs.lemmas.List.{append-nil}
+use Rattle.std.proofs.lemmas.List.Elements.{All-from_recursion}
+use Rattle.std.specs.List.{AllByRecursion as ByRecursion}
 use Rattle.dw_base.specs.declared.numbers.Order.{Order}
 use Rattle.entry_tree.specs.Units.{◌>>=◌, unit_at, units_from, units_of, appended, Follow, IsRefused, Gives, Reads}
 use Rattle.entry_tree.specs.declared.unit.Unit.{Unit}
@@ -122,3 +124,14 @@ gives_fault (UnitLength at) read h = h
 gives_fault (UnitVersion at v) read h = h
 gives_fault (UnitType at t) read h = h
 gives_fault (AddressSize at s) read h = h
+
+each_unit : (info : List ℕ) (order : Order) (us : List Unit) (at end : ℕ) → Follow info order at us end → ByRecursion (λ (u : Unit). unit_at info order u.at ≡ Ok u) us
+each_unit info order [] at end h = tt
+each_unit info order (u ∷ us) at end h =
+    let here : u.at ≡ at = (unit_within info order at u h.0).at_is in
+    (ap (unit_at info order) here ∙ h.0, each_unit info order us u.end end h.1)
+
+-- each unit of a list that is read is the one whose header stands at its place
+pub units_each : (info : List ℕ) (order : Order) (r : Result (List Unit) UnitFault) → Reads info order r → IfOk r (λ (us : List Unit). All (λ (u : Unit). unit_at info order u.at ≡ Ok u) us)
+units_each info order (Ok us) h = All-from_recursion (λ (u : Unit). unit_at info order u.at ≡ Ok u) us (each_unit info order us 0 (length info) h)
+units_each info order (Err f) h = tt

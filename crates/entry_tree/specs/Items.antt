@@ -1,15 +1,14 @@
 -- The items of a unit.
-use Rattle.std.specs.Prelude.{ℕ, zero, suc, ◌≡◌, ◌+◌, ◌-◌, ◌<◌, ◌≤◌, Bool, true, false, not, List, [], ◌∷◌, length, nat_le, Option, None, Some, Result, Ok, Err, ◌==◌, ◌&&◌, ◌||◌, if◌then◌else◌, ⊤}
+use Rattle.std.specs.Prelude.{ℕ, zero, suc, ◌+◌, ◌-◌, Bool, not, List, [], ◌∷◌, length, nat_le, Option, None, Some, Result, Ok, Err, ◌==◌, ◌&&◌, ◌||◌, if◌then◌else◌}
 use Rattle.dw_base.specs.Leb128.{uleb_of}
 use Rattle.dw_base.specs.declared.leb128.LebFault.{LebFault}
 use Rattle.dw_base.specs.declared.leb128.LebFault.TheVariants.{Truncated, TooWide}
-use Rattle.dwarf_abbrev.specs.declared.spec.Spec.{Spec}
 use Rattle.dwarf_abbrev.specs.Declarations.{Declaration, declaration_with}
 use Rattle.dwarf_abbrev.specs.Rows.{shown}
 use Rattle.dwarf_forms.specs.declared.fault.FormFault.{FormFault}
 use Rattle.dwarf_forms.specs.declared.fault.FormFault.TheVariants.{LebWide, ValueTruncated}
-use Rattle.dwarf_forms.specs.Values.{Shown, Within, value_of}
-use Rattle.entry_tree.specs.Reads.{and_then, values_at, end_of_values, ends_at}
+use Rattle.dwarf_forms.specs.Values.{Shown, Within}
+use Rattle.entry_tree.specs.Reads.{values_at, ends_at}
 use Rattle.entry_tree.specs.declared.fault.WalkFault.{WalkFault}
 use Rattle.entry_tree.specs.declared.fault.WalkFault.TheVariants.{UnitRoot, AbbrevMissing, Form, TreeOpen, AfterRoot}
 use Rattle.entry_tree.specs.declared.walk.Item.{Item}

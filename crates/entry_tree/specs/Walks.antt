@@ -1,7 +1,7 @@
 -- What a walk has ahead of it.
-use Rattle.std.specs.Prelude.{ℕ, ◌≡◌, ◌≤◌, ◌<◌, List, [], ◌∷◌, length, Option, None, Some, Result, Ok, Err, ⊤}
+use Rattle.std.specs.Prelude.{ℕ, ◌≡◌, List, [], Option, None, Some, Result, Ok, Err}
 use Rattle.dwarf_abbrev.specs.Declarations.{Declaration}
-use Rattle.dwarf_forms.specs.Values.{Within, within, IsContext}
+use Rattle.dwarf_forms.specs.Values.{Within, within}
 use Rattle.entry_tree.specs.declared.fault.WalkFault.{WalkFault}
 use Rattle.entry_tree.specs.declared.entry.Entry.{Entry}
 use Rattle.entry_tree.specs.declared.walk.Next.{Next}

@@ -1,8 +1,9 @@
 //! Headers of units.
-ghost use Rattle.std.specs.Prelude.{◌≡◌, ◌≤◌, ◌<◌, ◌^◌, ◌+◌, length, get_or, IfOk};
+ghost use Rattle.std.specs.Prelude.{◌≡◌, ◌≤◌, ◌<◌, ◌^◌, ◌+◌, length, get_or, IfOk, All};
 ghost use Rattle.dw_base.specs.Numbers.{number_of};
 ghost use Rattle.entry_tree.specs.Units.{extent_of, extent_at, fields_of, check_type, check_address, offset_in, unit_at, units_of, IsInside, Gives, Reads};
 ghost use Rattle.entry_tree.specs.Images.{info_of};
+ghost use Rattle.entry_tree.specs.Contexts.{IsUnitOf};
 ghost use Rattle.elf_sections.specs.Images.{file_of};
 ghost use Rattle.elf_sections.specs.Header.{order_of};
 ghost use Rattle.elf_sections.specs.Sections.{section_bytes};
@@ -208,6 +209,7 @@ fn read_units(alloc: Global, info: &[u8], order: Order) -> Result<UnitList, Unit
 pub fn units(alloc: Global, image: &Image<'_>) -> Result<UnitList, UnitFault>
     ensures gives { Gives result (units_of (info_of image.now) (order_of (file_of image.now))) }
     ensures reads { Reads (info_of image.now) (order_of (file_of image.now)) result }
+    ensures each { IfOk result (λ units. All (IsUnitOf image.now) units) }
 {
     read_units(alloc, bytes_of(image, Kind::Info), image.order())
 }

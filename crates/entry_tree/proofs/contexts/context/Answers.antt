@@ -1,4 +1,3 @@
-use Rattle.std.proofs.Common.{◌≡◌, length}
 use Rattle.elf_sections.specs.Header.{order_of}
 use Rattle.elf_sections.specs.Images.{file_of}
 use Rattle.entry_tree.specs.Images.{info_of}

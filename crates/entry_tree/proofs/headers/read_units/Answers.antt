@@ -1,8 +1,7 @@
-use Rattle.std.proofs.Common.{◌≡◌, ◌-◌, ◌++◌, ◌∷◌, ◌<◌, ◌≤◌, [], ℕ, List, length, Result, Ok, Err, refl, sym, ap, ◌∙◌, arith}
+use Rattle.std.proofs.Common.{◌-◌, List, length, Ok, sym, ap, ◌∙◌, arith}
 use Rattle.std.proofs.lemmas.Result.{err_from_is_err_and}
-use Rattle.entry_tree.specs.Units.{units_from, units_of, appended}
+use Rattle.entry_tree.specs.Units.{units_of}
 use Rattle.entry_tree.specs.declared.unit.Unit.{Unit}
-use Rattle.entry_tree.specs.declared.unit.UnitFault.{UnitFault}
 use Rattle.entry_tree.proofs.Following.{ends, fails, goes_on, runs_out, end_inside, gives_fault, begins}
 use Rattle.entry_tree.proofs.headers.read_units.Goals as goal
 

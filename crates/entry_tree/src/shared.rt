@@ -1,0 +1,18 @@
+//! What workers share or give back may be shared and sent.
+use crate::entry::Entry;
+use crate::fault::WalkFault;
+use crate::roots::RootInfo;
+use crate::unit::{Unit, UnitFault, UnitList};
+use crate::walk::Walk;
+
+fn crosses<T: Send + Sync>() {}
+
+fn all_cross<'w, 'a>() {
+    crosses::<Unit>();
+    crosses::<UnitList>();
+    crosses::<UnitFault>();
+    crosses::<RootInfo>();
+    crosses::<WalkFault>();
+    crosses::<Entry<'w, 'a>>();
+    crosses::<Walk<'w, 'a>>();
+}
