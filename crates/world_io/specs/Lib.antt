@@ -1,0 +1,5 @@
+pub mod Meaning
+pub mod Calls
+pub mod Memory
+pub mod Cuts
+pub mod Turns
