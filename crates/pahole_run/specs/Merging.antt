@@ -1,0 +1,32 @@
+-- Integers merged by their labels.
+use Rattle.std.specs.Prelude.{ℕ, ◌≡◌, ◌<◌, ◌^◌, ◌≢◌, ◌==◌, ◌&&◌, Bool, false, List, [], ◌∷◌, ◌++◌, All, if◌then◌else◌}
+use Rattle.std.specs.List.{list_any}
+use Rattle.std.specs.Str.{bytes_eq}
+use Rattle.c_model.specs.Kinds.{HasNoNul}
+use Rattle.c_model.specs.declared.label.Part.{Part}
+use Rattle.c_model.specs.declared.graph.CType.{CType}
+use Rattle.c_model.specs.declared.graph.Ref.{Ref}
+
+-- a type is an INT
+pub record IsInt (t : CType) : Type 0 where
+  pub kind : t.label.kind ≡ 1
+  pub flag : t.label.flag ≡ false
+  pub parts : t.label.parts ≡ []
+  pub targets : t.targets ≡ []
+  pub name : HasNoNul t.label.name
+  pub size : t.label.size < 2 ^ 32
+  pub extra : t.label.extra < 2 ^ 32
+
+-- two INTs have one name, size and encoding word
+abbrev pub is_same : CType → CType → Bool
+is_same a b =
+    a.label.size == b.label.size && a.label.extra == b.label.extra && bytes_eq a.label.name b.label.name
+
+-- some types and one more, unless it is among them
+abbrev pub with_type : List CType → CType → List CType
+with_type types t = if list_any (λ (s : CType). is_same s t) types then types else types ++ t ∷ []
+
+-- each type at its first place
+unfoldable pub merged : List CType → List CType → List CType
+merged types [] = types
+merged types (t ∷ ts) = merged (with_type types t) ts
