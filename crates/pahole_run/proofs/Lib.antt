@@ -5,3 +5,6 @@ pub mod LoadLemmas
 pub mod DoneLemmas
 pub mod RunLemmas
 pub mod PromiseLemmas
+pub mod Ints
+pub mod Classes
+pub mod IntClasses

@@ -3,6 +3,7 @@ use Rattle.std.specs.Prelude.{ℕ, ◌≡◌, ◌<◌, ◌^◌, ◌≢◌, ◌==
 use Rattle.std.specs.List.{list_any}
 use Rattle.std.specs.Str.{bytes_eq}
 use Rattle.c_model.specs.Kinds.{HasNoNul}
+use Rattle.c_model.specs.declared.label.Label.{Label}
 use Rattle.c_model.specs.declared.label.Part.{Part}
 use Rattle.c_model.specs.declared.graph.CType.{CType}
 use Rattle.c_model.specs.declared.graph.Ref.{Ref}
@@ -17,10 +18,12 @@ pub record IsInt (t : CType) : Type 0 where
   pub size : t.label.size < 2 ^ 32
   pub extra : t.label.extra < 2 ^ 32
 
--- two INTs have one name, size and encoding word
+-- two labels of INTs are one: name, size and encoding word
+abbrev pub is_same_int : Label → Label → Bool
+is_same_int a b = a.size == b.size && a.extra == b.extra && bytes_eq a.name b.name
+
 abbrev pub is_same : CType → CType → Bool
-is_same a b =
-    a.label.size == b.label.size && a.label.extra == b.label.extra && bytes_eq a.label.name b.label.name
+is_same a b = is_same_int a.label b.label
 
 -- some types and one more, unless it is among them
 abbrev pub with_type : List CType → CType → List CType

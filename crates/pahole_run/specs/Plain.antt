@@ -185,21 +185,32 @@ int_type name size word =
       targets = [];
     }
 
--- the type of a base type entry whose values begin at an offset: a name, a byte_size and an encoding that are an
--- INT's, and no bit_size; and the offset after the entry
-abbrev pub base_type : List ℕ → List ℕ → ℕ → Option (CType × ℕ)
-base_type info specs at =
-    option_and_then (λ (end : ℕ).
-    option_and_then (λ (name : List ℕ).
-    option_and_then (λ (size : ℕ).
-    option_and_then (λ (encoding : ℕ).
+-- with no bit_size, and an encoding and a size that are an INT's
+abbrev pub plain_type : List ℕ → List ℕ → ℕ → ℕ → List ℕ → ℕ → ℕ → Option (CType × ℕ)
+plain_type info specs at end name size encoding =
     if is_none (value_of info 13 specs at)
     then option_map (λ (word : ℕ). (int_type name size word, end)) (int_word encoding size)
-    else None)
-    (option_and_then (byte_value info) (value_of info 62 specs at)))
-    (option_and_then (byte_value info) (value_of info 11 specs at)))
-    (option_and_then (name_value info) (value_of info 3 specs at)))
-    (values_end info specs at)
+    else None
+
+-- with an encoding
+abbrev pub sized_type : List ℕ → List ℕ → ℕ → ℕ → List ℕ → ℕ → Option (CType × ℕ)
+sized_type info specs at end name size =
+    option_and_then (plain_type info specs at end name size) (option_and_then (byte_value info) (value_of info 62 specs at))
+
+-- with a byte_size
+abbrev pub named_type : List ℕ → List ℕ → ℕ → ℕ → List ℕ → Option (CType × ℕ)
+named_type info specs at end name =
+    option_and_then (sized_type info specs at end name) (option_and_then (byte_value info) (value_of info 11 specs at))
+
+-- with a name
+abbrev pub ended_type : List ℕ → List ℕ → ℕ → ℕ → Option (CType × ℕ)
+ended_type info specs at end =
+    option_and_then (named_type info specs at end) (option_and_then (name_value info) (value_of info 3 specs at))
+
+-- the type of a base type entry whose values begin at an offset, by its name, byte_size and encoding, and the offset
+-- after the entry
+abbrev pub base_type : List ℕ → List ℕ → ℕ → Option (CType × ℕ)
+base_type info specs at = option_and_then (ended_type info specs at) (values_end info specs at)
 
 -- the abbreviation of a code
 abbrev pub shape_of : List Shape → ℕ → Option Shape
@@ -276,24 +287,35 @@ abbrev pub root_of : List ℕ → List ℕ → List Shape → Option Shape → R
 root_of info abbrevs shapes None = Err NotYet
 root_of info abbrevs shapes (Some s) = rooted info abbrevs shapes s (values_end info (specs_of abbrevs s) 13)
 
+abbrev pub shaped_types : List ℕ → List ℕ → List Shape × ℕ → Result (List CType) PlainFault
+shaped_types info abbrevs t = root_of info abbrevs t.0 (shape_of t.0 (slice_index info 12))
+
 -- the types of the unit
 abbrev pub unit_types : List ℕ → List ℕ → Result (List CType) PlainFault
 unit_types info abbrevs =
     if has_plain_unit info
-    then and_then (shapes_in abbrevs) (λ (t : List Shape × ℕ). root_of info abbrevs t.0 (shape_of t.0 (slice_index info 12)))
+    then and_then (shapes_in abbrevs) (shaped_types info abbrevs)
     else Err NotYet
 
 abbrev pub and_some : {A B : Type 0} → Option A → (A → Result B PlainFault) → Result B PlainFault
 and_some None f = Err NotYet
 and_some (Some x) f = f x
 
--- the types of a file by its section headers
+-- the types of a file by the table of its section headers: those of the unit in section 1, by the abbreviations in
+-- section 2, where section 3 has the names
+
+abbrev pub named_types : List ℕ → ℕ → List ℕ → List ℕ → List ℕ → Result (List CType) PlainFault
+named_types bytes table info abbrevs names =
+    if has_plain_sections bytes table names then unit_types info abbrevs else Err NotYet
+
+abbrev pub abbreviated_types : List ℕ → ℕ → List ℕ → List ℕ → Result (List CType) PlainFault
+abbreviated_types bytes table info abbrevs = and_some (section_at bytes (table + 192)) (named_types bytes table info abbrevs)
+
+abbrev pub info_types : List ℕ → ℕ → List ℕ → Result (List CType) PlainFault
+info_types bytes table info = and_some (section_at bytes (table + 128)) (abbreviated_types bytes table info)
+
 abbrev pub section_types : List ℕ → ℕ → Result (List CType) PlainFault
-section_types bytes table =
-    and_some (section_at bytes (table + 64)) (λ (info : List ℕ).
-    and_some (section_at bytes (table + 128)) (λ (abbrevs : List ℕ).
-    and_some (section_at bytes (table + 192)) (λ (names : List ℕ).
-    if has_plain_sections bytes table names then unit_types info abbrevs else Err NotYet)))
+section_types bytes table = and_some (section_at bytes (table + 64)) (info_types bytes table)
 
 -- the types of a plain file, or why it is none
 unfoldable pub types_of_file : List ℕ → Result (List CType) PlainFault
