@@ -17,7 +17,7 @@ use Rattle.pahole_run.specs.declared.refusal.Ended.TheVariants.{Refused, Read, S
 use Rattle.pahole_run.specs.Layers.{of_store}
 use Rattle.c_model.specs.declared.graph.CType.{CType}
 use Rattle.pahole_run.specs.Merged.{AreMerged, TheTable}
-use Rattle.pahole_run.specs.Btf.{btf_of}
+use Rattle.pahole_run.specs.Btf.{btf_of, IsSpelled}
 use Rattle.pahole_run.specs.Refusals.{load_refusal, contents, nodes_of, first, file_checks, first_refusal, MergeTo}
 use Rattle.pahole_run.specs.Steps.{LoadsAll, OnlyLoads, CalledAtMost, Counted, EndsAt, IsLoadEnd, Cause, Tells, IsOwn, Begins, Kept, Unstored, Holds, StoresOut, IsStoreEnd, Makes, Done}
 use Rattle.pahole_run.proofs.LoadLemmas.{called_within, called_once, part_told}
@@ -177,6 +177,7 @@ done_unloaded limits job before after e l =
           (l.told held is);
       kept = λ held is types m. kept_load (Vec (List ℕ)) job.out (btf_of types) before after e l.loads stored;
       table = tt;
+      spells = tt;
     }
 
 own_cause :
@@ -229,6 +230,7 @@ done_unmade limits job before now files e l m =
           (m.told types merged);
       kept = λ held is types of. kept_own (List ℕ) job.out (btf_of types) before now e m.own stored;
       table = tt;
+      spells = tt;
     }
 
 stored_calls :
@@ -326,4 +328,9 @@ done_stored limits job before now after files bytes r l m s =
       table =
           on_ok (ForSome before.files (λ (held : List HeldFile). TheTable (nodes_of (contents held job.files)))) r
           (λ held is. subst (λ (fs : List (List ℕ)). TheTable (nodes_of fs)) (l.told held is).1 m.table);
+      spells =
+          on_ok
+          (ForSome before.files (λ (held : List HeldFile). (types : List CType) → MergeTo held job types → IsSpelled types)) r
+          (λ held is types of.
+          m.spells types (subst (λ (fs : List (List ℕ)). AreMerged (nodes_of fs) types) (sym (l.told held is).1) of));
     }

@@ -19,9 +19,8 @@ use Rattle.c_model.specs.declared.graph.CType.{CType}
 use Rattle.c_model.specs.declared.graph.Ref.{Ref}
 use Rattle.c_model.proofs.Coarsest.{nothing_open_is_plain}
 use Rattle.c_model.proofs.Licences.{cases_nil}
-use Rattle.pahole_run.specs.Merging.{IsInt, is_same_int, is_same, with_type, merged}
+use Rattle.pahole_run.specs.Merging.{IsInt, AreInts, is_same_int, is_same, with_type, merged}
 use Rattle.pahole_run.specs.Merged.{graph_of, first_of, firsts_below, place_of, id_of, renamed, type_of, types_of_nodes, table_of, IsTableOf, AreMerged, Represents, TheTable}
-use Rattle.pahole_run.proofs.Ints.{AreInts}
 use Rattle.pahole_run.proofs.Classes.{first_of-le, first_of-below, first_of-class, first_of-same, first_of-first_of, same_place, one_class, type_kept, type_passed, type_at}
 
 -- labels
@@ -328,6 +327,20 @@ begun_none nodes p z t le h = sym (le-ltb (first_of p z) 0 (omega arith))
 
 merged_is : (nodes : List CType) (p : List ℕ) → AreInts nodes → IsCoarsest nodes p → merged [] nodes ≡ table_of nodes p
 merged_is nodes p i c = merged_from nodes p [] 0 nodes i c (λ k. let e : 0 + k ≡ k = omega arith in ap (slice_get nodes) e) (begun_none nodes p)
+
+-- the merged types are INTs
+pub merged_ints : (types nodes : List CType) → AreInts types → AreInts nodes → AreInts (merged types nodes)
+unfolding merged
+merged_ints types [] i j = i
+merged_ints types (t ∷ ts) i j = merged_ints (with_type types t) ts (by (list_any (λ (s : CType). is_same s t) types)) j.1
+  where
+    push : (xs : List CType) (u : CType) → AreInts xs → IsInt u → AreInts (xs ++ u ∷ [])
+    push [] u i j = (j, tt)
+    push (x ∷ xs) u i j = (i.0, push xs u i.1 j)
+
+    by : (b : Bool) → AreInts (if b then types else types ++ t ∷ [])
+    by true = i
+    by false = push types t i j.0
 
 -- each table of INTs is that of the merged types
 pub table_is_merged : (nodes types : List CType) → AreInts nodes → AreMerged nodes types → types ≡ merged [] nodes

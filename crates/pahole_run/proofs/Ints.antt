@@ -14,13 +14,9 @@ use Rattle.c_model.specs.declared.graph.CType.{CType}
 use Rattle.pahole_run.specs.declared.plain.PlainFault.{PlainFault}
 use Rattle.pahole_run.specs.declared.plain.PlainFault.TheVariants.{NotElf, NotYet}
 use Rattle.pahole_run.specs.declared.plain.Shape.{Shape}
-use Rattle.pahole_run.specs.Merging.{IsInt}
+use Rattle.pahole_run.specs.Merging.{IsInt, AreInts}
 use Rattle.pahole_run.specs.Plain.{byte_value, name_value, not_empty, int_encoding, is_int_size, int_word, int_type, plain_type, sized_type, named_type, ended_type, base_type, base_entry, shape_of, item_of, type_step, types_from, not_yet, specs_of, value_of, values_end, closed, children_of, rooted, root_of, is_plain_root, shapes_in, shaped_types, unit_types, has_plain_unit, and_then, and_some, section_at, named_types, abbreviated_types, info_types, section_types, has_plain_sections, is_elf, has_plain_header, has_headers, field, types_of_file}
 use Rattle.pahole_run.specs.Refusals.{types_in, nodes_of}
-
--- all are INTs
-abbrev pub AreInts : List CType → Type 0
-AreInts nodes = AllByRecursion IsInt nodes
 
 module _ {A B : Type 0} where
   -- what a chain of options gives went through each

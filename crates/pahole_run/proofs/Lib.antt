@@ -8,3 +8,4 @@ pub mod PromiseLemmas
 pub mod Ints
 pub mod Classes
 pub mod IntClasses
+pub mod Naming

@@ -121,6 +121,7 @@ encodes_of limits before middle j d held files =
       table = t;
       accepted = told.0;
       stored = told.1;
+      spells = d.spells held files t.types (t.index, t.partition, t.is);
     }
 
 succeeds_at :
@@ -144,6 +145,7 @@ succeeds_of limits words before after status r zero =
           let now : Encodes limits held at_middle.0 r.middle = at_middle.2 held files in record {
             table = now.table;
             accepted = now.accepted;
+            spells = now.spells;
             stored =
                 subst
                 (λ (o : Option (List HeldFile)).

@@ -5,8 +5,10 @@ use Rattle.dw_base.specs.declared.places.Section.{Section}
 use Rattle.dw_base.specs.declared.places.Section.TheVariants.{Image, Table}
 use Rattle.pahole_run.specs.declared.plain.PlainFault.{PlainFault}
 use Rattle.pahole_run.specs.declared.plain.PlainFault.TheVariants.{NotElf, NotYet, Memory as PlainMemory}
-use Rattle.pahole_run.specs.declared.table.TableFault.{TableFault}
-use Rattle.pahole_run.specs.declared.table.TableFault.TheVariants.{NodesTooMany, TooManyTypes, NamesTooLong, TableTooLong, Memory as TableMemory}
+use Rattle.btf_strings.specs.declared.fault.StringsFault.{StringsFault}
+use Rattle.btf_strings.specs.declared.fault.StringsFault.TheVariants.{Full, Memory as StringsMemory}
+use Rattle.pahole_run.specs.declared.fault.TableFault.{TableFault}
+use Rattle.pahole_run.specs.declared.fault.TableFault.TheVariants.{NodesTooMany, TooManyTypes, NamesTooLong, TableTooLong, Memory as TableMemory}
 use Rattle.pahole_run.specs.declared.refusal.Value.{Value}
 use Rattle.pahole_run.specs.declared.refusal.Value.TheVariants.{Plain, Wide, Signed}
 use Rattle.pahole_run.specs.declared.refusal.Kept.{Kept}
@@ -48,6 +50,11 @@ of_table (TooManyTypes n) = of_whole 100 n
 of_table (NamesTooLong n) = of_whole 101 n
 of_table (TableTooLong n) = of_whole 102 n
 of_table TableMemory = Memory
+
+-- a name that has no room
+abbrev pub of_strings : StringsFault → Ended
+of_strings (Full at) = of_table (NamesTooLong at)
+of_strings StringsMemory = Memory
 
 -- 110: a file is too large
 abbrev pub of_load : ℕ → LoadFault → Ended

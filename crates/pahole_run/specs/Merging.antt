@@ -1,6 +1,6 @@
 -- Integers merged by their labels.
 use Rattle.std.specs.Prelude.{ℕ, ◌≡◌, ◌<◌, ◌^◌, ◌≢◌, ◌==◌, ◌&&◌, Bool, false, List, [], ◌∷◌, ◌++◌, All, if◌then◌else◌}
-use Rattle.std.specs.List.{list_any}
+use Rattle.std.specs.List.{list_any, AllByRecursion}
 use Rattle.std.specs.Str.{bytes_eq}
 use Rattle.c_model.specs.Kinds.{HasNoNul}
 use Rattle.c_model.specs.declared.label.Label.{Label}
@@ -17,6 +17,10 @@ pub record IsInt (t : CType) : Type 0 where
   pub name : HasNoNul t.label.name
   pub size : t.label.size < 2 ^ 32
   pub extra : t.label.extra < 2 ^ 32
+
+-- all are INTs
+abbrev pub AreInts : List CType → Type 0
+AreInts types = AllByRecursion IsInt types
 
 -- two labels of INTs are one: name, size and encoding word
 abbrev pub is_same_int : Label → Label → Bool

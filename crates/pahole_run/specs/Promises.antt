@@ -13,7 +13,7 @@ use Rattle.pahole_run.specs.declared.refusal.Refusal.TheVariants.{Missing, Fault
 use Rattle.pahole_run.specs.Line.{usage_line, fault_line, read_line, store_line, memory_line}
 use Rattle.c_model.specs.declared.graph.CType.{CType}
 use Rattle.pahole_run.specs.Merged.{TheTable}
-use Rattle.pahole_run.specs.Btf.{btf_of}
+use Rattle.pahole_run.specs.Btf.{btf_of, IsSpelled}
 use Rattle.pahole_run.specs.Refusals.{first_refusal, contents, nodes_of, MergeTo}
 use Rattle.pahole_run.specs.Said.{Gained}
 use Rattle.pahole_run.specs.Steps.{CalledAtMost, Counted, Holds, Begins}
@@ -32,6 +32,7 @@ pub record Encodes (limits : Limits) (held : List HeldFile) (job : Job) (after :
   pub table : TheTable (nodes_of (contents held job.files))
   pub accepted : first_refusal limits held job table.types ≡ None
   pub stored : Holds job.out (btf_of table.types) after
+  pub spells : IsSpelled table.types
 
 -- 0: the job is done, and nothing else is stored
 abbrev pub Succeeds : Limits → Result Job UsageFault → Meaning → Meaning → Type 0

@@ -1,5 +1,5 @@
 -- What the steps of a job say.
-use Rattle.std.specs.Prelude.{ℕ, ◌-◌, ◌^◌, ◌≡◌, ◌≢◌, ◌⊎◌, IfSome, IfOk, OnOk, ◌+◌, ◌≤◌, ◌<◌, List, length, Option, None, Some, Result, Ok, Err, IsSome, unwrap_or}
+use Rattle.std.specs.Prelude.{ℕ, ◌-◌, ◌^◌, ◌≡◌, ◌≢◌, ◌⊎◌, IfSome, IfOk, OnOk, true, false, ◌+◌, ◌≤◌, ◌<◌, List, length, Option, None, Some, Result, Ok, Err, IsSome, unwrap_or}
 use Rattle.std.specs.Option.{ForSome}
 use Rattle.std.specs.Global.{Vec}
 use Rattle.dw_base.specs.declared.places.Limits.{Limits}
@@ -12,9 +12,13 @@ use Rattle.pahole_run.specs.declared.refusal.Refusal.TheVariants.{Missing, Fault
 use Rattle.pahole_run.specs.declared.refusal.Ended.{Ended}
 use Rattle.pahole_run.specs.declared.refusal.Ended.TheVariants.{Refused, Read, Store, Memory}
 use Rattle.c_model.specs.declared.graph.CType.{CType}
+use Rattle.btf_strings.specs.Names.{Names, next_offset, with_name}
+use Rattle.btf_strings.specs.declared.fault.StringsFault.TheVariants.{Full}
+use Rattle.btf_codec.specs.Spelling.{HasOffset}
+use Rattle.pahole_run.specs.Layers.{of_strings}
 use Rattle.pahole_run.specs.Merged.{AreMerged, TheTable}
-use Rattle.pahole_run.specs.Btf.{btf_of}
-use Rattle.pahole_run.specs.Refusals.{one_load, most_of, load_refusal, contents, nodes_of, first, file_checks, first_refusal, MergeTo}
+use Rattle.pahole_run.specs.Btf.{btf_of, IsSpelled, is_far}
+use Rattle.pahole_run.specs.Refusals.{one_load, most_of, load_refusal, contents, nodes_of, first, table_checks, file_checks, first_refusal, MergeTo}
 
 -- a step against its check, by how it ends: `P` holds of its value, the refusal is the check's
 abbrev pub Tells : {V : Type 0} → Option Refusal → (V → Type 0) → Result V Ended → Type 0
@@ -153,12 +157,31 @@ pub record StoresOut (out bytes : List ℕ) (before after : Meaning) (result : R
   pub kept : Kept out bytes before after result
   pub ends : IsStoreEnd result
 
+-- one name is put into strings, or has no room
+abbrev pub PutsName : Names → List ℕ → Names → Result (Unit {0}) Ended → Type 0
+PutsName old name new (Ok u) = (new ≡ with_name old name) × HasOffset new name × (is_far old name ≡ false)
+PutsName old name new (Err e) =
+    (e ≡ Memory) ⊎ ((is_far old name ≡ true) × (e ≡ of_strings (Full (next_offset old))))
+
+-- a table is spelled, or refused
+pub record Spelt (types : List CType) (result : Result (List ℕ) Ended) : Type 0 where
+  pub told : Tells (first (table_checks types)) (λ (v : List ℕ). v ≡ btf_of types) result
+  pub spells : OnOk result (IsSpelled types)
+  pub own : IsOwn result
+
+-- what making tells of loaded files and the types that they are merged to
+pub record MakesMerged (limits : Limits) (files : List (List ℕ)) (types : List CType) (result : Result (List ℕ) Ended) : Type 0 where
+  pub told : Tells (first (file_checks limits files types)) (λ (v : List ℕ). v ≡ btf_of types) result
+  pub spells : OnOk result (IsSpelled types)
+  pub own : IsOwn result
+
 -- what making tells of loaded files
 pub record Makes (limits : Limits) (files : List (List ℕ)) (result : Result (List ℕ) Ended) : Type 0 where
   pub told :
       (types : List CType) → AreMerged (nodes_of files) types
       → Tells (first (file_checks limits files types)) (λ (v : List ℕ). v ≡ btf_of types) result
   pub table : OnOk result (TheTable (nodes_of files))
+  pub spells : OnOk result ((types : List CType) → AreMerged (nodes_of files) types → IsSpelled types)
   pub own : IsOwn result
 
 -- a job from its files to what is stored
@@ -185,3 +208,6 @@ pub record Done
       (types : List CType) → MergeTo held job types → Kept job.out (btf_of types) before after result)
   pub table :
       OnOk result (ForSome before.files (λ (held : List HeldFile). TheTable (nodes_of (contents held job.files))))
+  pub spells :
+      OnOk result
+      (ForSome before.files (λ (held : List HeldFile). (types : List CType) → MergeTo held job types → IsSpelled types))

@@ -6,6 +6,7 @@
 mod bytes;
 pub mod complaint;
 mod entries;
+mod fault;
 pub mod job;
 mod merge;
 mod plain;

@@ -4,7 +4,7 @@ ghost use Rattle.pahole_run.specs.Layers.{numbered, of_plain, of_table, of_whole
 ghost use Rattle.pahole_run.specs.declared.refusal.Ended.TheVariants.{Refused};
 
 use crate::plain::PlainFault;
-use crate::table::TableFault;
+use crate::fault::TableFault;
 use dw_base::{Place, Section};
 
 /// A value that a fault keeps.

@@ -4,13 +4,14 @@ ghost use Rattle.pahole_run.specs.Layers.{of_load, of_store, of_table, seen_as};
 ghost use Rattle.pahole_run.specs.Merging.{merged};
 ghost use Rattle.pahole_run.specs.Btf.{nodes_refusal, btf_of};
 ghost use Rattle.pahole_run.specs.Refusals.{most_of, first, first_file, file_check, table_checks, file_checks, nodes_of};
-ghost use Rattle.pahole_run.specs.Steps.{LoadsOne, LoadsAll, Tells, IsOwn, Makes, StoresOut, Done};
+ghost use Rattle.pahole_run.specs.Steps.{LoadsOne, LoadsAll, Tells, IsOwn, Makes, MakesMerged, StoresOut, Done};
 
+use crate::fault::TableFault;
 use crate::job::{Job, Text};
 use crate::merge::merged;
 use crate::plain::types_of_file;
 use crate::refusal::{Ended, Refusal, ended_at, ended_of_plain, ended_of_table};
-use crate::table::TableFault;
+use crate::table::spell;
 use c_model::CType;
 use dw_base::{Bytes, Limits, Section};
 use std::alloc::Global;
@@ -125,16 +126,6 @@ fn merge<'a>(alloc: Global, nodes: Vec<CType<'a>>) -> Result<Vec<CType<'a>>, End
     }
 }
 
-/// Spells the table.
-fn spell<'a>(alloc: Global, types: Vec<CType<'a>>) -> Result<Bytes, Ended>
-    ensures told { Tells (first (table_checks types.entry.items)) (λ v. v ≡ btf_of types.entry.items) result }
-    ensures own { IsOwn result }
-{
-    let _ = alloc;
-    let _ = types;
-    Err(Ended::Memory)
-}
-
 /// The steps between loading and storing.
 fn make<G: Gate>(
     alloc: Global,
@@ -143,8 +134,7 @@ fn make<G: Gate>(
     files: &[Bytes],
 ) -> Result<Bytes, Ended>
     requires { length files.now < 2 ^ 32 }
-    ensures told { Tells (first (file_checks limits files.now (merged [] (nodes_of files.now)))) (λ v. v ≡ btf_of (merged [] (nodes_of files.now))) result }
-    ensures own { IsOwn result }
+    ensures { MakesMerged limits files.now (merged [] (nodes_of files.now)) result }
 {
     let nodes = read_files(alloc, gate, files)?;
     check_nodes(limits, &nodes)?;
