@@ -193,8 +193,7 @@ named_all types s i is n =
     let all : take i types ≡ types = take_all i types (omega arith) in
     let none : drop i types ≡ [] = drop_all i types (omega arith) in
     let far : far_name no_strings (names_in types) ≡ None = sym n.far ∙ ap (λ (ts : List CType). far_name s (names_in ts)) none in
-    let own : s.own ≡ own_names None (names_in types) = n.listed ∙ ap (λ (ts : List CType). own_names None (names_in ts)) all in
-    (
+    let own : s.own ≡ own_names None (names_in types) = n.listed ∙ ap (λ (ts : List CType). own_names None (names_in ts)) all in (
       ap (λ (o : Option ℕ). seen_as of_table (option_map (λ (k : ℕ). NamesTooLong k) o)) far,
       ap (λ (b : Option (List ℕ)). record { base = b; own = s.own }) n.base ∙ ap (λ (o : List (List ℕ)). record { base = None; own = o }) own,
       subst (All (HasOffsets s)) all (All-from_recursion (HasOffsets s) (take i types) (named_offsets s (take i types) n.named)),
@@ -208,8 +207,7 @@ pub written : (types items : List CType) (strings : Names) (bytes : List ℕ) �
 written types items strings bytes ints i st b s =
     let w : All IsWellFormed items = subst (All IsWellFormed) (sym i) (well_formed types ints) in
     let is : bytes ≡ btf_of types =
-    b w ∙ ap (λ (x : Names). spelling_of Little x items) st ∙ ap (λ (ts : List CType). spelling_of Little (strings_of types) ts) i in
-    (
+    b w ∙ ap (λ (x : Names). spelling_of Little x items) st ∙ ap (λ (ts : List CType). spelling_of Little (strings_of types) ts) i in (
       is,
       subst (λ (x : List ℕ). Spells None Little types (own_section (strings_of types)) x) is
           (subst (λ (ts : List CType). Spells None Little ts (own_section (strings_of types)) bytes) i

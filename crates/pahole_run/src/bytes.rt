@@ -8,11 +8,7 @@ use dw_base::{Order, number};
 pub fn byte(bytes: &[u8], at: usize) -> u8
     ensures { result ≡ slice_index bytes.now at }
 {
-    if at < bytes.len() {
-        bytes[at]
-    } else {
-        0
-    }
+    if at < bytes.len() { bytes[at] } else { 0 }
 }
 
 /// The number of `width` bytes at an offset, 0 where they are not all there.

@@ -11,17 +11,26 @@ use std::alloc::Global;
 
 /// DW_AT_name, byte_size, bit_size, language, encoding and str_offsets_base (DWARF 5, section 7.5.4).
 const NAME: u8 = 3;
+
 const BYTE_SIZE: u8 = 11;
+
 const BIT_SIZE: u8 = 13;
+
 const LANGUAGE: u8 = 19;
+
 const ENCODING: u8 = 62;
+
 const STR_OFFSETS_BASE: u8 = 114;
 
 /// Where the root's code stands: after the header of a unit.
 const ROOT: usize = 12;
 
 /// The types of the unit, by its bytes and its table of abbreviations.
-pub fn unit_types<'a>(alloc: Global, info: &'a [u8], abbrevs: &[u8]) -> Result<Nodes<'a>, PlainFault>
+pub fn unit_types<'a>(
+    alloc: Global,
+    info: &'a [u8],
+    abbrevs: &[u8],
+) -> Result<Nodes<'a>, PlainFault>
     requires { length abbrevs.now < 2 ^ 31 }
     ensures { Gives (λ v. v) result (unit_types info.now abbrevs.now) }
 {

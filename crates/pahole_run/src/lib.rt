@@ -8,12 +8,15 @@ pub mod complaint;
 mod entries;
 mod fault;
 pub mod job;
+pub mod laws;
 mod merge;
 mod plain;
 pub mod refusal;
 pub mod scan;
 mod steps;
 mod table;
+#[cfg(test)]
+mod tests;
 pub mod top;
 
 pub use job::{Job, JobFault, Text, Texts, UsageFault};

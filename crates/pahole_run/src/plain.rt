@@ -125,7 +125,11 @@ fn section_at(bytes: &[u8], header: u64) -> Option<&[u8]>
     requires { header < 2 ^ 32 }
     ensures { option_copied result ≡ section_at bytes.now header }
 {
-    piece(bytes, field(bytes, header + 24, 8), field(bytes, header + 32, 8))
+    piece(
+        bytes,
+        field(bytes, header + 24, 8),
+        field(bytes, header + 32, 8),
+    )
 }
 
 /// The types of a file by its section headers, which lie in the file.

@@ -3,8 +3,8 @@ ghost use Rattle.std.specs.Prelude.{◌≡◌, None};
 ghost use Rattle.pahole_run.specs.Layers.{numbered, of_plain, of_table, of_whole};
 ghost use Rattle.pahole_run.specs.declared.refusal.Ended.TheVariants.{Refused};
 
-use crate::plain::PlainFault;
 use crate::fault::TableFault;
+use crate::plain::PlainFault;
 use dw_base::{Place, Section};
 
 /// A value that a fault keeps.

@@ -127,12 +127,7 @@ fn merge<'a>(alloc: Global, nodes: Vec<CType<'a>>) -> Result<Vec<CType<'a>>, End
 }
 
 /// The steps between loading and storing.
-fn make<G: Gate>(
-    alloc: Global,
-    gate: &G,
-    limits: Limits,
-    files: &[Bytes],
-) -> Result<Bytes, Ended>
+fn make<G: Gate>(alloc: Global, gate: &G, limits: Limits, files: &[Bytes]) -> Result<Bytes, Ended>
     requires { length files.now < 2 ^ 32 }
     ensures { MakesMerged limits files.now (merged [] (nodes_of files.now)) result }
 {
