@@ -1,5 +1,5 @@
 -- What values stand for: names, constants, flags, entries and places of members.
-use Rattle.std.specs.Prelude.{ℕ, ◌+◌, ◌*◌, ℤ, pos, Bool, List, length, slice_index, Option, None, Some, Result, Ok, Err, ◌==◌, if◌then◌else◌}
+use Rattle.std.specs.Prelude.{ℕ, ◌+◌, ◌*◌, ℤ, pos, negsuc, ◌<◌, ◌^◌, Bool, List, length, slice_index, Option, None, Some, Result, Ok, Err, ◌==◌, if◌then◌else◌}
 use Rattle.dw_base.specs.Leb128.{uleb_of}
 use Rattle.dw_base.specs.Numbers.{number_of}
 use Rattle.dw_base.specs.Texts.{text_of}
@@ -68,6 +68,11 @@ plain_name c attribute form other = Err (WrongClass attribute form)
 
 abbrev pub name_in : Sections → ℕ → Shown → Result (List ℕ) FormFault
 name_in c attribute g = plain_name c attribute g.form g.value
+
+-- a constant has 64 bits, signed or unsigned
+abbrev pub Fits64 : ℤ → Type 0
+Fits64 (pos n) = n < 2 ^ 64
+Fits64 (negsuc n) = n < 2 ^ 63
 
 -- a constant; one of 16 bytes is none
 abbrev pub number_constant : ℕ → ℕ → Kind → ℕ → Result ℤ FormFault

@@ -1,7 +1,7 @@
 //! What values stand for.
-ghost use Rattle.std.specs.Prelude.{◌≡◌};
+ghost use Rattle.std.specs.Prelude.{◌≡◌, IfOk, IfSome};
 ghost use Rattle.dwarf_forms.specs.Values.{given as shown, IsContext};
-ghost use Rattle.dwarf_forms.specs.Meanings.{sections, string_at, indexed_at, name_in, constant_in, flag_in, target_in, operand_of, offset_in};
+ghost use Rattle.dwarf_forms.specs.Meanings.{sections, string_at, indexed_at, name_in, constant_in, flag_in, target_in, operand_of, offset_in, Fits64};
 
 use crate::fault::FormFault;
 use crate::given::{FormCtx, FormValue, Given};
@@ -61,7 +61,8 @@ pub fn name_of<'a>(
 /// The number that a value of class constant is. `WrongClass` for every other value, and for one of 16
 /// bytes.
 pub fn constant_of(attribute: u64, given: &Given<'_>) -> Result<i128, FormFault>
-    ensures { result ≡ constant_in attribute (shown given.now) }
+    ensures value { result ≡ constant_in attribute (shown given.now) }
+    ensures small { IfOk result Fits64 }
 {
     match &given.value {
         FormValue::Unsigned(n) => Ok(i128::from(*n)),
@@ -96,7 +97,8 @@ pub fn target_of(ctx: &FormCtx<'_>, attribute: u64, given: &Given<'_>) -> Result
 /// The operand of an expression that is one DW_OP_plus_uconst and no more.
 #[tactic(auto, unfolding(crate::specs::Meanings::operand_of))]
 fn operand(expression: &[u8]) -> Option<i128>
-    ensures { result ≡ operand_of expression.now }
+    ensures value { result ≡ operand_of expression.now }
+    ensures small { IfSome result Fits64 }
 {
     if expression.is_empty() || expression[0] != PLUS_UCONST {
         return None;
@@ -110,7 +112,8 @@ fn operand(expression: &[u8]) -> Option<i128>
 /// The offset in bytes that a value gives a member: a constant, or the operand of an expression that is
 /// one DW_OP_plus_uconst; `None` exactly for every other expression. `WrongClass` for every other value.
 pub fn byte_offset_of(attribute: u64, given: &Given<'_>) -> Result<Option<i128>, FormFault>
-    ensures { result ≡ offset_in attribute (shown given.now) }
+    ensures value { result ≡ offset_in attribute (shown given.now) }
+    ensures small { IfOk result (λ o. IfSome o Fits64) }
 {
     match &given.value {
         FormValue::Unsigned(n) => Ok(Some(i128::from(*n))),

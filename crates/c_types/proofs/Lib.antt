@@ -1,0 +1,5 @@
+pub mod Counting
+pub mod Gathering
+pub mod Lengthening
+pub mod Noting
+pub mod Reading

@@ -1,0 +1,50 @@
+-- Subroutine types (DWARF 5, section 5.7): the type of the result, and the parameters.
+use Rattle.std.specs.Prelude.{ℕ, nat_lt, not, List, [], ◌∷◌, ◌++◌, length, map, Bool, true, false, if◌then◌else◌}
+use Rattle.c_model.specs.declared.label.Label.{Label}
+use Rattle.c_model.specs.declared.label.Part.{Part}
+use Rattle.dwarf_forms.specs.Meanings.{Sections}
+use Rattle.entry_tree.specs.Items.{Given}
+use Rattle.c_types.specs.declared.source.Target.{Target}
+use Rattle.c_types.specs.declared.source.Target.TheVariants.{Void}
+use Rattle.c_types.specs.declared.fault.TypeFault.{TypeFault}
+use Rattle.c_types.specs.declared.fault.TypeFault.TheVariants.{MissingType, TooMany}
+use Rattle.c_types.specs.Faults.{refuse_if}
+use Rattle.c_types.specs.Attributes.{has, name_asked, name_in_full, target_asked, target_of_type}
+use Rattle.c_types.specs.Children.{tagged}
+use Rattle.c_types.specs.Labels.{Row, type_of}
+use Rattle.c_types.specs.Parts.{part_of, refused_by, some_tagged, most}
+
+abbrev pub parameter_part : Sections → Given → Part
+parameter_part c p = part_of (name_in_full (name_asked c p)) 0
+
+abbrev pub parameter_target : Sections → Given → Target
+parameter_target c p = target_of_type p.at (target_asked c p)
+
+-- a parameter has a type
+abbrev pub parameter_refused : Sections → Given → List TypeFault
+parameter_refused c p = (name_asked c p).refused ++ ((target_asked c p).refused ++ refuse_if (not (has 0x49 p)) (MissingType p.at))
+
+-- an unspecified_parameters entry (0x18) makes one last parameter without name and of void
+abbrev pub rest_part : Bool → List Part
+rest_part variadic = if variadic then part_of [] 0 ∷ [] else []
+
+abbrev pub rest_target : Bool → List Target
+rest_target variadic = if variadic then Void ∷ [] else []
+
+abbrev pub function_label : List Part → Label
+function_label parts = record { kind = 13; name = []; flag = false; size = 0; extra = 0; parts = parts }
+
+abbrev pub function_parts : Sections → List Given → List Part
+function_parts c children = map (parameter_part c) (tagged 0x05 children) ++ rest_part (some_tagged 0x18 children)
+
+abbrev pub function_targets : Sections → List Given → List Target
+function_targets c children = map (parameter_target c) (tagged 0x05 children) ++ rest_target (some_tagged 0x18 children)
+
+abbrev pub function_row : Sections → Given → List Given → Row
+function_row c e children =
+    let result = target_asked c e in
+    let parts = function_parts c children in
+    record {
+      made = type_of e (function_label parts) (target_of_type e.at result ∷ function_targets c children);
+      refused = result.refused ++ (refused_by (parameter_refused c) (tagged 0x05 children) ++ refuse_if (nat_lt most (length parts)) (TooMany e.at (length parts)))
+    }

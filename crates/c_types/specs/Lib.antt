@@ -1,0 +1,15 @@
+pub mod Arrays
+pub mod Attributes
+pub mod BaseTypes
+pub mod Children
+pub mod Enumerations
+pub mod Faults
+pub mod Functions
+pub mod Labels
+pub mod Lengths
+pub mod Numbers
+pub mod Parts
+pub mod References
+pub mod Structures
+pub mod Taking
+pub mod Types

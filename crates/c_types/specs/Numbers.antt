@@ -1,0 +1,8 @@
+-- Constants by their sign.
+use Rattle.std.specs.Prelude.{ℤ, pos, negsuc}
+use Rattle.c_types.specs.declared.number.Number.{Number}
+use Rattle.c_types.specs.declared.number.Number.TheVariants.{Natural, Negative}
+
+abbrev pub number_from : ℤ → Number
+number_from (pos n) = Natural n
+number_from (negsuc n) = Negative n

@@ -1,0 +1,135 @@
+-- Structures and unions (DWARF 5, sections 5.7.1 to 5.7.6): declared ones are forward declarations, the others have a size and members.
+use Rattle.std.specs.Prelude.{ℕ, ℤ, ◌+◌, ◌*◌, ◌^◌, nat_lt, nat_le, ◌==◌, ◌&&◌, not, Bool, true, false, List, [], ◌∷◌, ◌++◌, length, map, Option, None, Some, if◌then◌else◌}
+use Rattle.c_model.specs.declared.label.Label.{Label}
+use Rattle.c_model.specs.declared.label.Part.{Part}
+use Rattle.dwarf_forms.specs.Meanings.{Sections}
+use Rattle.entry_tree.specs.Items.{Given}
+use Rattle.c_types.specs.declared.source.Target.{Target}
+use Rattle.c_types.specs.declared.number.Number.{Number}
+use Rattle.c_types.specs.declared.number.Number.TheVariants.{Natural, Negative}
+use Rattle.c_types.specs.declared.fault.TypeFault.{TypeFault}
+use Rattle.c_types.specs.declared.fault.TypeFault.TheVariants.{MissingType, UnnamedForward, MemberPlace, BitSize, MemberFar, TooMany}
+use Rattle.c_types.specs.Faults.{refuse_if}
+use Rattle.c_types.specs.Numbers.{number_from}
+use Rattle.c_types.specs.Attributes.{Asked, has, name_asked, name_in_full, constant_asked, number_said, flag_asked, is_set, target_asked, target_of_type, offset_asked}
+use Rattle.c_types.specs.Children.{tagged}
+use Rattle.c_types.specs.Labels.{Row, type_of, is_empty, size_in, size_refused}
+use Rattle.c_types.specs.Parts.{part_of, refused_by, some_is, most}
+
+-- a place in bits: a natural number of units of so many bits
+abbrev pub placed : ℕ → ℕ → Number → Asked ℕ
+placed at scale (Natural n) = record { said = Some (scale * n); refused = [] }
+placed at scale (Negative n) = record { said = None; refused = MemberPlace at ∷ [] }
+
+abbrev pub placed_by_bits : ℕ → Option Number → Asked ℕ
+placed_by_bits at None = record { said = None; refused = [] }
+placed_by_bits at (Some n) = placed at 1 n
+
+-- a place that is computed at run time is refused; one that is not given is 0
+abbrev pub placed_by_bytes : ℕ → Bool → Option (Option ℤ) → Asked ℕ
+placed_by_bytes at given None = record { said = if given then None else Some 0; refused = [] }
+placed_by_bytes at given (Some None) = record { said = None; refused = MemberPlace at ∷ [] }
+placed_by_bytes at given (Some (Some z)) = placed at 8 (number_from z)
+
+-- with refusals that came before
+abbrev pub after : List TypeFault → Asked ℕ → Asked ℕ
+after refused a = record { said = a.said; refused = refused ++ a.refused }
+
+-- the bit position of a member: its data_bit_offset (0x6b), if it has one, else 8 times its data_member_location (0x38)
+abbrev pub position_of : Given → Asked ℕ
+position_of m =
+    if has 0x6b m
+      then after (constant_asked 0x6b m).refused (placed_by_bits m.at (number_said (constant_asked 0x6b m)))
+      else after (offset_asked 0x38 m).refused (placed_by_bytes m.at (has 0x38 m) (offset_asked 0x38 m).said)
+
+abbrev pub or_zero : Option ℕ → ℕ
+or_zero None = 0
+or_zero (Some n) = n
+
+-- a bit size (0x0d) is 1 to 255
+abbrev pub is_bit_size : Number → Bool
+is_bit_size (Natural n) = nat_le 1 n && nat_le n 255
+is_bit_size (Negative n) = false
+
+abbrev pub bits_of : Number → ℕ
+bits_of (Natural n) = if nat_le n 255 then n else 0
+bits_of (Negative n) = 0
+
+abbrev pub bits_in : Option ℤ → ℕ
+bits_in None = 0
+bits_in (Some z) = bits_of (number_from z)
+
+abbrev pub bits_refused : ℕ → Option ℤ → List TypeFault
+bits_refused at None = []
+bits_refused at (Some z) = refuse_if (not (is_bit_size (number_from z))) (BitSize at z)
+
+-- the word of a member: where one member is a bit field the bit size in the top 8 bits and the position below them, else the position
+abbrev pub limit : Bool → ℕ
+limit fields = if fields then 2 ^ 24 else 2 ^ 32
+
+abbrev pub near : Bool → ℕ → ℕ
+near fields position = if nat_lt position (limit fields) then position else 0
+
+abbrev pub word_of : Bool → ℕ → ℕ → ℕ
+word_of fields position bits = if fields then bits * 2 ^ 24 + near fields position else near fields position
+
+abbrev pub member_word : Bool → Given → ℕ
+member_word fields m = word_of fields (or_zero (position_of m).said) (bits_in (constant_asked 0x0d m).said)
+
+abbrev pub member_part : Sections → Bool → Given → Part
+member_part c fields m = part_of (name_in_full (name_asked c m)) (member_word fields m)
+
+abbrev pub member_target : Sections → Given → Target
+member_target c m = target_of_type m.at (target_asked c m)
+
+abbrev pub far_refused : ℕ → Bool → ℕ → List TypeFault
+far_refused at fields position = refuse_if (not (nat_lt position (limit fields))) (MemberFar at position)
+
+-- a member has a place that is fixed, a bit size in range, if it has one, and a position that fits its word
+abbrev pub place_refused : Bool → Given → List TypeFault
+place_refused fields m =
+    (position_of m).refused
+    ++ ((constant_asked 0x0d m).refused
+    ++ (bits_refused m.at (constant_asked 0x0d m).said ++ far_refused m.at fields (or_zero (position_of m).said)))
+
+-- and a type
+abbrev pub member_refused : Sections → Bool → Given → List TypeFault
+member_refused c fields m =
+    (name_asked c m).refused ++ ((target_asked c m).refused ++ (refuse_if (not (has 0x49 m)) (MissingType m.at) ++ place_refused fields m))
+
+-- some member is a bit field
+abbrev pub has_fields : List Given → Bool
+has_fields members = some_is (has 0x0d) members
+
+abbrev pub forward_label : Bool → List ℕ → Label
+forward_label union name = record { kind = 7; name = name; flag = union; size = 0; extra = 0; parts = [] }
+
+abbrev pub structure_label : Bool → List ℕ → ℕ → Bool → List Part → Label
+structure_label union name size fields parts = record { kind = if union then 5 else 4; name = name; flag = fields; size = size; extra = 0; parts = parts }
+
+-- a declared one has a name, and neither its size nor its members are read
+abbrev pub forward_row : Sections → Bool → Given → Row
+forward_row c union e =
+    let name = name_asked c e in
+    record {
+      made = type_of e (forward_label union (name_in_full name)) [];
+      refused = name.refused ++ refuse_if (is_empty (name_in_full name)) (UnnamedForward e.at)
+    }
+
+abbrev pub defined_row : Sections → Bool → Given → List Given → Row
+defined_row c union e members =
+    let name = name_asked c e in
+    let size = constant_asked 0x0b e in
+    let fields = has_fields members in
+    record {
+      made = type_of e (structure_label union (name_in_full name) (size_in size.said) fields (map (member_part c fields) members)) (map (member_target c) members);
+      refused = name.refused ++ (size.refused ++ (size_refused e.at size.said ++ (refused_by (member_refused c fields) members ++ refuse_if (nat_lt most (length members)) (TooMany e.at (length members)))))
+    }
+
+-- the refusal of a declaration (0x3c) of the wrong class comes besides; such a one is not declared
+abbrev pub with_refused : List TypeFault → Row → Row
+with_refused refused r = record { made = r.made; refused = refused ++ r.refused }
+
+abbrev pub structure_row : Sections → Bool → Given → List Given → Row
+structure_row c union e children =
+    with_refused (flag_asked 0x3c e).refused (if is_set (flag_asked 0x3c e) then forward_row c union e else defined_row c union e (tagged 0x0d children))

@@ -1,0 +1,128 @@
+-- The types of a unit (DWARF 5, sections 4 and 5): each entry of a tag of the table is a type, by its own attributes and its direct children.
+use Rattle.std.specs.Prelude.{ℕ, ℤ, pos, negsuc, ◌==◌, ◌||◌, Bool, true, false, List, [], ◌∷◌, ◌++◌, Option, None, Some, Result, Ok, Err, if◌then◌else◌, ⊤, ◌≡◌}
+use Rattle.std.specs.Option.{option_map}
+use Rattle.elf_sections.specs.declared.image.Image.{Image}
+use Rattle.elf_sections.specs.Images.{file_of}
+use Rattle.elf_sections.specs.Sections.{section_bytes}
+use Rattle.elf_sections.specs.declared.fault.Kind.TheVariants.{Abbrev as AbbrevSection}
+use Rattle.dwarf_abbrev.specs.Declarations.{Declaration}
+use Rattle.dwarf_abbrev.specs.Table.{table_at}
+use Rattle.dwarf_abbrev.specs.declared.fault.AbbrevFault.{AbbrevFault}
+use Rattle.dwarf_abbrev.specs.declared.fault.AbbrevFault.TheVariants.{Memory as AbbrevMemory}
+use Rattle.dwarf_forms.specs.Meanings.{Sections}
+use Rattle.entry_tree.specs.Items.{Given, Coming}
+use Rattle.entry_tree.specs.Contexts.{within_of, sections_of}
+use Rattle.entry_tree.specs.Roots.{root_of}
+use Rattle.entry_tree.specs.Walks.{entries_of}
+use Rattle.entry_tree.specs.declared.unit.Unit.{Unit}
+use Rattle.entry_tree.specs.declared.roots.RootInfo.{RootInfo}
+use Rattle.entry_tree.specs.declared.fault.WalkFault.{WalkFault}
+use Rattle.c_types.specs.declared.source.SourceType.{SourceType}
+use Rattle.c_types.specs.declared.source.UnitTypes.{UnitTypes}
+use Rattle.c_types.specs.declared.fault.TypeFault.{TypeFault}
+use Rattle.c_types.specs.declared.fault.TypeFault.TheVariants.{Abbrev, Walk, Memory}
+use Rattle.c_types.specs.Faults.{least}
+use Rattle.c_types.specs.Children.{children_of}
+use Rattle.c_types.specs.Labels.{Row}
+use Rattle.c_types.specs.Parts.{some_tagged}
+use Rattle.c_types.specs.BaseTypes.{base_row, unspecified_row}
+use Rattle.c_types.specs.References.{atomic_name, reference_row, pointer_row, typedef_row}
+use Rattle.c_types.specs.Arrays.{array_row}
+use Rattle.c_types.specs.Functions.{function_row}
+use Rattle.c_types.specs.Structures.{structure_row}
+use Rattle.c_types.specs.Enumerations.{enumeration_row}
+
+-- the tags whose rows need no children: pointer, typedef, base, const, volatile, restrict and unspecified types, and atomic ones
+abbrev pub plain_row_of : Sections → Given → Option Row
+plain_row_of c e =
+    if e.tag == 0x0f then Some (pointer_row c e)
+    else if e.tag == 0x16 then Some (typedef_row c e)
+    else if e.tag == 0x24 then Some (base_row c e)
+    else if e.tag == 0x26 then Some (reference_row 10 [] c e)
+    else if e.tag == 0x35 then Some (reference_row 9 [] c e)
+    else if e.tag == 0x37 then Some (reference_row 11 [] c e)
+    else if e.tag == 0x3b then Some (unspecified_row c e)
+    else if e.tag == 0x47 then Some (reference_row 8 atomic_name c e)
+    else None
+
+-- and those whose rows do: arrays, enumerations, structures, subroutine types and unions
+abbrev pub row_of : Sections → Given → List Given → Option Row
+row_of c e after =
+    if e.tag == 0x01 then Some (array_row c e (children_of e.depth after))
+    else if e.tag == 0x04 then Some (enumeration_row c e (children_of e.depth after))
+    else if e.tag == 0x13 then Some (structure_row c false e (children_of e.depth after))
+    else if e.tag == 0x15 then Some (function_row c e (children_of e.depth after))
+    else if e.tag == 0x17 then Some (structure_row c true e (children_of e.depth after))
+    else plain_row_of c e
+
+-- the type and the refusals of a row, where there is one
+abbrev pub made_in : Option Row → Option SourceType
+made_in o = option_map (λ (r : Row). r.made) o
+
+abbrev pub listed : Option SourceType → List SourceType
+listed None = []
+listed (Some t) = t ∷ []
+
+abbrev pub refused_in : Option Row → List TypeFault
+refused_in None = []
+refused_in (Some r) = r.refused
+
+-- the types of some entries, in order, and all their refusals
+abbrev pub types_of : Sections → List Given → List SourceType
+types_of c [] = []
+types_of c (e ∷ es) = listed (made_in (row_of c e es)) ++ types_of c es
+
+abbrev pub refusals_of : Sections → List Given → List TypeFault
+refusals_of c [] = []
+refusals_of c (e ∷ es) = refused_in (row_of c e es) ++ refusals_of c es
+
+-- the types where nothing is refused, else the first refusal by place, number and what is kept
+abbrev pub or_least : UnitTypes → Option TypeFault → Result UnitTypes TypeFault
+or_least types None = Ok types
+or_least types (Some f) = Err f
+
+abbrev pub or_walk : Option WalkFault → Result UnitTypes TypeFault → Result UnitTypes TypeFault
+or_walk None r = r
+or_walk (Some f) r = Err (Walk f)
+
+abbrev pub unit_types : Bool → List SourceType → UnitTypes
+unit_types has_array types = record { read = true; has_array = has_array; types = types }
+
+-- of a walk: its own fault comes before all refusals of types
+abbrev pub types_in : Sections → Coming → Result UnitTypes TypeFault
+types_in c walk = or_walk walk.ending (or_least (unit_types (some_tagged 0x01 walk.entries) (types_of c walk.entries)) (least (refusals_of c walk.entries)))
+
+-- the languages (section 7.12) whose units are passed over: C++, Go, C++03, C++11, Rust, C++14 and the assembler of MIPS
+abbrev pub is_other_language : ℕ → Bool
+is_other_language n = n == 0x04 || n == 0x16 || n == 0x19 || n == 0x1a || n == 0x1c || n == 0x21 || n == 0x8001
+
+abbrev pub is_passed_over : Option ℤ → Bool
+is_passed_over None = false
+is_passed_over (Some (pos n)) = is_other_language n
+is_passed_over (Some (negsuc n)) = false
+
+abbrev pub no_types : UnitTypes
+no_types = record { read = false; has_array = false; types = [] }
+
+-- the steps of a unit: its abbreviations, its root, and its entries
+abbrev pub of_abbrev : AbbrevFault → TypeFault
+of_abbrev AbbrevMemory = Memory
+of_abbrev other = Abbrev other
+
+abbrev pub after_root : Image → Unit → List Declaration → Result RootInfo WalkFault → Result UnitTypes TypeFault
+after_root image unit declarations (Err f) = Err (Walk f)
+after_root image unit declarations (Ok root) = if is_passed_over root.language then Ok no_types else types_in (sections_of image unit root.str_base) (entries_of image unit declarations)
+
+abbrev pub after_table : Image → Unit → Result (List Declaration) AbbrevFault → Result UnitTypes TypeFault
+after_table image unit (Err f) = Err (Abbrev f)
+after_table image unit (Ok declarations) = after_root image unit declarations (root_of (within_of image unit) declarations unit.first)
+
+-- the types of a unit of an image, or its first refusal
+abbrev pub types_of_unit_of : Image → Unit → Result UnitTypes TypeFault
+types_of_unit_of image unit = after_table image unit (table_at (section_bytes AbbrevSection (file_of image)) unit.abbrev_at)
+
+-- what a reader answers, unless memory ran out
+abbrev pub Gives : Result UnitTypes TypeFault → Result UnitTypes TypeFault → Type 0
+Gives (Ok types) read = read ≡ Ok types
+Gives (Err Memory) read = ⊤
+Gives (Err f) read = read ≡ Err f

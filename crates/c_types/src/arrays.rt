@@ -1,0 +1,224 @@
+//! Arrays.
+ghost use Rattle.std.specs.Prelude.{◌≡◌, ◌*◌, ◌^◌, [], ◌∷◌, min, OnOk, IfOk};
+ghost use Rattle.dwarf_forms.specs.Meanings.{sections};
+ghost use Rattle.entry_tree.specs.Reads.{value_with};
+ghost use Rattle.entry_tree.specs.Walks.{given_entry};
+ghost use Rattle.c_types.specs.Faults.{noted};
+ghost use Rattle.c_types.specs.Children.{children_of};
+ghost use Rattle.c_types.specs.Taking.{made_if};
+ghost use Rattle.c_types.specs.Arrays.{bound_in, length_of_count, length_of_bound, subrange_length, is_long, lengths_of, is_refused, elements_in, array_row};
+ghost use Rattle.c_types.specs.Lengths.{extended, is_too_long, elements_from};
+
+use crate::attributes::{TYPE, attribute, is_given, type_target};
+use crate::children::next_child;
+use crate::fault::{TypeFault, note_if};
+use crate::number::{Number, by_sign};
+use crate::source::{SourceType, Target, Targets};
+use c_model::{Label, Parts};
+use dw_base::Name;
+use dwarf_forms::{FormCtx, constant_of};
+use entry_tree::{Entry, Walk};
+use std::alloc::{AllocError, Global};
+
+const SUBRANGE: u64 = 0x21;
+const UPPER_BOUND: u64 = 0x2f;
+const COUNT: u64 = 0x37;
+
+/// The least length past 32 bits.
+const TOO_LONG: u64 = 4_294_967_296;
+
+/// What is known of the lengths of some dimensions.
+#[derive(Clone, Copy)]
+struct Lengths {
+    /// Their product, where that is below 2^32, and else 2^32.
+    product: u64,
+    /// Whether there is one.
+    any: bool,
+    /// Whether one of them is negative or past 32 bits.
+    long: bool,
+}
+
+/// A bound that is a constant.
+fn bound(entry: &Entry<'_, '_>, name: u64) -> Option<Number>
+    ensures { result ≡ bound_in name (value_with name (given_entry entry.now).values) }
+{
+    match attribute(entry, name) {
+        None => None,
+        Some(given) => match constant_of(name, &given) {
+            Ok(z) => Some(by_sign(z)),
+            Err(_) => None,
+        },
+    }
+}
+
+/// The length that a count gives; `None` where it is negative.
+fn count_length(count: Option<Number>) -> Option<u64>
+    ensures { result ≡ length_of_count count }
+{
+    match count {
+        None => Some(0),
+        Some(Number::Natural(n)) => Some(if n == u64::MAX { 0 } else { n }),
+        Some(Number::Negative(n)) => {
+            if n == 0 {
+                Some(0)
+            } else {
+                None
+            }
+        }
+    }
+}
+
+/// The length that an upper bound gives; `None` where it is negative.
+fn bound_length(bound: Option<Number>) -> Option<u64>
+    ensures { result ≡ length_of_bound bound }
+{
+    match bound {
+        None => Some(0),
+        Some(Number::Natural(n)) => {
+            if n == 4_294_967_295 || n == u64::MAX {
+                Some(0)
+            } else {
+                Some(n + 1)
+            }
+        }
+        Some(Number::Negative(n)) => {
+            if n == 0 {
+                Some(0)
+            } else {
+                None
+            }
+        }
+    }
+}
+
+/// The length of a subrange; `None` where it is negative.
+fn length(entry: &Entry<'_, '_>) -> Option<u64>
+    ensures { result ≡ subrange_length (given_entry entry.now) }
+{
+    if is_given(entry, COUNT) {
+        count_length(bound(entry, COUNT))
+    } else {
+        bound_length(bound(entry, UPPER_BOUND))
+    }
+}
+
+/// A product that stops at 2^32.
+fn capped(product: u64, n: u64) -> u64
+    ensures { result ≡ min (product * n) (2 ^ 32) }
+{
+    let whole = u128::from(product) * u128::from(n);
+    if whole <= u128::from(TOO_LONG) {
+        whole as u64
+    } else {
+        TOO_LONG
+    }
+}
+
+/// One dimension more.
+fn with_length(lengths: Lengths, length: Option<u64>) -> Lengths
+    ensures { result ≡ extended lengths (length ∷ []) }
+{
+    match length {
+        None => Lengths {
+            product: capped(lengths.product, 0),
+            any: true,
+            long: true,
+        },
+        Some(n) => Lengths {
+            product: capped(lengths.product, n),
+            any: true,
+            long: lengths.long || n >= TOO_LONG,
+        },
+    }
+}
+
+/// One child more.
+fn with_child(lengths: Lengths, child: &Entry<'_, '_>) -> Lengths
+    ensures { result ≡ extended lengths (made_if 0x21 subrange_length (given_entry child.now)) }
+{
+    if child.tag == SUBRANGE {
+        with_length(lengths, length(child))
+    } else {
+        lengths
+    }
+}
+
+/// The lengths of an array's dimensions, for a walk that stands behind its entry.
+fn measure(walk: Walk<'_, '_>, depth: u32) -> Lengths
+    ensures refused { is_too_long result ≡ is_refused (lengths_of (children_of depth walk.entry.entries)) }
+    ensures elements { elements_from result ≡ elements_in (lengths_of (children_of depth walk.entry.entries)) }
+{
+    let mut walk = walk;
+    let mut lengths = Lengths {
+        product: 1,
+        any: false,
+        long: false,
+    };
+    'children: loop {
+        match next_child(&mut walk, depth) {
+            None => return lengths,
+            Some(child) => lengths = with_child(lengths, &child),
+        }
+    }
+}
+
+/// Whether the lengths or the number of elements are refused.
+fn are_too_long(lengths: Lengths) -> bool
+    ensures { result ≡ is_too_long lengths }
+{
+    lengths.long || (lengths.any && lengths.product >= TOO_LONG)
+}
+
+/// The number of elements; 0 where it is refused.
+fn elements(lengths: Lengths) -> u32
+    ensures { result ≡ elements_from lengths }
+{
+    if are_too_long(lengths) {
+        0
+    } else if lengths.any {
+        lengths.product as u32
+    } else {
+        0
+    }
+}
+
+/// The type of the elements, and that of the indices.
+fn two_targets(alloc: Global, target: Target) -> Result<Targets, AllocError>
+    ensures { IfOk result (λ ts. ts ≡ target ∷ Target.Index ∷ []) }
+{
+    let mut items = Vec::with_capacity(alloc, 2)?;
+    items.push(target)?;
+    items.push(Target::Index)?;
+    Ok(Targets::new(items))
+}
+
+/// The type of an array.
+#[tactic(auto, using(crate::proofs::Noting::noted_append))]
+pub(crate) fn array<'a>(
+    alloc: Global,
+    ctx: &FormCtx<'a>,
+    entry: &Entry<'_, 'a>,
+    walk: Walk<'_, 'a>,
+    least: &mut Option<TypeFault>,
+) -> Result<SourceType<'a>, AllocError>
+    ensures made { IfOk result (λ t. t ≡ (array_row (sections ctx.now) (given_entry entry.now) (children_of entry.now.depth walk.entry.entries)).made) }
+    ensures noted { OnOk result (least.new ≡ noted least.old (array_row (sections ctx.now) (given_entry entry.now) (children_of entry.now.depth walk.entry.entries)).refused) }
+{
+    let target = type_target(ctx, entry, least);
+    note_if(least, !is_given(entry, TYPE), TypeFault::MissingType(entry.at));
+    let lengths = measure(walk, entry.depth);
+    note_if(least, are_too_long(lengths), TypeFault::ArrayLength(entry.at));
+    let targets = two_targets(alloc, target)?;
+    Ok(SourceType {
+        at: entry.at,
+        label: Label {
+            kind: 3,
+            name: Name::new(&[]),
+            flag: false,
+            size: 0,
+            extra: elements(lengths),
+            parts: Parts::new(Vec::new(alloc)),
+        },
+        targets,
+    })
+}

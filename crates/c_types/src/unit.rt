@@ -1,0 +1,245 @@
+//! The types of one unit.
+ghost use Rattle.std.specs.Prelude.{◌≡◌, ◌++◌, ◌||◌, ◌==◌, ◌+◌, ◌<◌, ◌^◌, OnOk, IfOk};
+ghost use Rattle.dwarf_forms.specs.Values.{IsContext};
+ghost use Rattle.dwarf_forms.specs.Meanings.{sections};
+ghost use Rattle.elf_sections.specs.Images.{file_of};
+ghost use Rattle.elf_sections.specs.Sections.{section_bytes};
+ghost use Rattle.elf_sections.specs.declared.fault.Kind.TheVariants.{Abbrev as AbbrevSection};
+ghost use Rattle.entry_tree.specs.Contexts.{IsUnitOf, within_of};
+ghost use Rattle.entry_tree.specs.Roots.{root_of};
+ghost use Rattle.entry_tree.specs.Walks.{given_entry};
+ghost use Rattle.c_types.specs.Faults.{noted};
+ghost use Rattle.c_types.specs.Types.{plain_row_of, row_of, made_in, listed, refused_in, or_least, unit_types, types_in, is_passed_over, of_abbrev, after_root, types_of_unit_of, Gives};
+
+use crate::arrays::array;
+use crate::base::{base_type, unspecified_type};
+use crate::enumerations::enumeration;
+use crate::fault::TypeFault;
+use crate::functions::function;
+use crate::references::{reference, typedef};
+use crate::source::{SourceType, SourceTypes, UnitTypes};
+use crate::structures::structure;
+use dw_base::Name;
+use dwarf_abbrev::{AbbrevFault, Abbrevs};
+use dwarf_forms::FormCtx;
+use elf_sections::{Image, Kind};
+use entry_tree::{Entry, Unit, Walk, context, root};
+use std::alloc::{AllocError, Global};
+
+const ARRAY: u64 = 0x01;
+
+/// The type of an entry whose row needs no children, where it has one.
+fn read_plain_type<'a>(
+    alloc: Global,
+    ctx: &FormCtx<'a>,
+    entry: &Entry<'_, 'a>,
+    least: &mut Option<TypeFault>,
+) -> Result<Option<SourceType<'a>>, AllocError>
+    requires { IsContext ctx.now }
+    ensures made { IfOk result (λ o. o ≡ made_in (plain_row_of (sections ctx.now) (given_entry entry.now))) }
+    ensures noted { OnOk result (least.new ≡ noted least.old (refused_in (plain_row_of (sections ctx.now) (given_entry entry.now)))) }
+{
+    let none = Name::new(&[]);
+    match entry.tag {
+        0x0f => Ok(Some(reference(alloc, ctx, entry, 2, none, least)?)),
+        0x16 => Ok(Some(typedef(alloc, ctx, entry, least)?)),
+        0x24 => Ok(Some(base_type(alloc, ctx, entry, least))),
+        0x26 => Ok(Some(reference(alloc, ctx, entry, 10, none, least)?)),
+        0x35 => Ok(Some(reference(alloc, ctx, entry, 9, none, least)?)),
+        0x37 => Ok(Some(reference(alloc, ctx, entry, 11, none, least)?)),
+        0x3b => Ok(Some(unspecified_type(alloc, ctx, entry, least))),
+        0x47 => {
+            let atomic = Name::new(&[95, 65, 116, 111, 109, 105, 99]);
+            Ok(Some(reference(alloc, ctx, entry, 8, atomic, least)?))
+        }
+        _ => Ok(None),
+    }
+}
+
+/// The type of an entry, where it has one, for a walk that stands behind it.
+fn read_type<'a>(
+    alloc: Global,
+    ctx: &FormCtx<'a>,
+    entry: &Entry<'_, 'a>,
+    walk: Walk<'_, 'a>,
+    least: &mut Option<TypeFault>,
+) -> Result<Option<SourceType<'a>>, AllocError>
+    requires { IsContext ctx.now }
+    ensures made { IfOk result (λ o. o ≡ made_in (row_of (sections ctx.now) (given_entry entry.now) walk.entry.entries)) }
+    ensures noted { OnOk result (least.new ≡ noted least.old (refused_in (row_of (sections ctx.now) (given_entry entry.now) walk.entry.entries))) }
+{
+    match entry.tag {
+        0x01 => Ok(Some(array(alloc, ctx, entry, walk, least)?)),
+        0x04 => Ok(Some(enumeration(alloc, ctx, entry, walk, least)?)),
+        0x13 => Ok(Some(structure(alloc, ctx, entry, walk, false, least)?)),
+        0x15 => Ok(Some(function(alloc, ctx, entry, walk, least)?)),
+        0x17 => Ok(Some(structure(alloc, ctx, entry, walk, true, least)?)),
+        _ => read_plain_type(alloc, ctx, entry, least),
+    }
+}
+
+/// The types so far.
+#[derive(Drop)]
+struct Found<'a> {
+    types: Vec<SourceType<'a>>,
+    has_array: bool,
+}
+
+/// One type more, where an entry has one.
+fn take_type<'a>(
+    types: &mut Vec<SourceType<'a>>,
+    found: Option<SourceType<'a>>,
+) -> Result<(), AllocError>
+    ensures { OnOk result (types.new.items ≡ types.old.items ++ listed found.entry) }
+{
+    if let Some(one) = found {
+        types.push(one)?;
+    }
+    Ok(())
+}
+
+/// One entry more, for a walk that stands behind it.
+fn take_entry<'a>(
+    alloc: Global,
+    ctx: &FormCtx<'a>,
+    entry: &Entry<'_, 'a>,
+    walk: Walk<'_, 'a>,
+    found: &mut Found<'a>,
+    least: &mut Option<TypeFault>,
+) -> Result<(), AllocError>
+    requires { IsContext ctx.now }
+    ensures types { OnOk result (found.new.types.items ≡ found.old.types.items ++ listed (made_in (row_of (sections ctx.now) (given_entry entry.now) walk.entry.entries))) }
+    ensures arrays { OnOk result (found.new.has_array ≡ (found.old.has_array || (given_entry entry.now).tag == 0x01)) }
+    ensures noted { OnOk result (least.new ≡ noted least.old (refused_in (row_of (sections ctx.now) (given_entry entry.now) walk.entry.entries))) }
+{
+    let one = read_type(alloc, ctx, entry, walk, least)?;
+    take_type(&mut found.types, one)?;
+    found.has_array = found.has_array || entry.tag == ARRAY;
+    Ok(())
+}
+
+/// The types, where nothing is refused.
+fn finish<'a>(found: Found<'a>, least: Option<TypeFault>) -> Result<UnitTypes<'a>, TypeFault>
+    ensures { result ≡ or_least (unit_types found.entry.has_array found.entry.types.items) least }
+{
+    match least {
+        Some(fault) => Err(fault),
+        None => Ok(UnitTypes {
+            read: true,
+            has_array: found.has_array,
+            types: SourceTypes::new(found.types),
+        }),
+    }
+}
+
+/// The types of all entries of a walk.
+fn read_types<'a>(
+    alloc: Global,
+    ctx: &FormCtx<'a>,
+    walk: Walk<'_, 'a>,
+) -> Result<UnitTypes<'a>, TypeFault>
+    requires { IsContext ctx.now }
+    ensures { Gives result (types_in (sections ctx.now) walk.entry) }
+{
+    let mut walk = walk;
+    let mut least = None;
+    let mut found = Found {
+        types: Vec::new(alloc),
+        has_array: false,
+    };
+    'entries: loop {
+        match walk.next() {
+            Err(fault) => return Err(TypeFault::Walk(fault)),
+            Ok(None) => return finish(found, least),
+            Ok(Some(entry)) => {
+                take_entry(alloc, ctx, &entry, walk.copy(), &mut found, &mut least)?
+            }
+        }
+    }
+}
+
+/// Whether units of a language are passed over.
+fn is_other(language: Option<i128>) -> bool
+    ensures { result ≡ is_passed_over language }
+{
+    match language {
+        None => false,
+        Some(z) => {
+            z == 0x04
+                || z == 0x16
+                || z == 0x19
+                || z == 0x1a
+                || z == 0x1c
+                || z == 0x21
+                || z == 0x8001
+        }
+    }
+}
+
+/// The bytes of `.debug_abbrev`; none where it is absent.
+fn abbreviation_bytes<'a>(image: &Image<'a>) -> &'a [u8]
+    ensures { result.now ≡ section_bytes AbbrevSection (file_of image.now) }
+{
+    match image.section(Kind::Abbrev) {
+        Some(bytes) => bytes,
+        None => &[],
+    }
+}
+
+fn from_abbrev(fault: AbbrevFault) -> TypeFault
+    ensures { result ≡ of_abbrev fault }
+{
+    match fault {
+        AbbrevFault::Memory => TypeFault::Memory,
+        other => TypeFault::Abbrev(other),
+    }
+}
+
+/// The types of a unit whose abbreviations are read.
+fn read_unit<'a>(
+    alloc: Global,
+    image: &Image<'a>,
+    unit: &Unit,
+    abbrevs: &Abbrevs,
+) -> Result<UnitTypes<'a>, TypeFault>
+    requires unit { IsUnitOf image.now unit.now }
+    requires small { unit.now.end < unit.now.at + 2 ^ 32 }
+    ensures { Gives result (after_root image.now unit.now abbrevs.now (root_of (within_of image.now unit.now) abbrevs.now unit.now.first)) }
+{
+    let root = match root(image, unit, abbrevs) {
+        Ok(root) => root,
+        Err(fault) => return Err(TypeFault::Walk(fault)),
+    };
+    if is_other(root.language) {
+        return Ok(UnitTypes {
+            read: false,
+            has_array: false,
+            types: SourceTypes::new(Vec::new(alloc)),
+        });
+    }
+    let ctx = context(image, unit, root.str_base);
+    read_types(alloc, &ctx, Walk::new(image, unit, abbrevs, &root))
+}
+
+/// The types of a unit of an image: each entry of a tag of the table is one, in the order of the entries.
+/// References are still offsets in `.debug_info`.
+///
+/// A unit of a language that is passed over has no types. The refusal is the first of: `Abbrev`; `Walk` of the
+/// root, with its language and its base of string offsets; `Walk` of all its entries; then that of a type whose
+/// entry has the lowest offset, at one entry the one of the lowest number in the order of the variants, and of
+/// two of one number the one that keeps the lower values. Refusals of members, enumerators and parameters stand
+/// at those. `Memory` comes only where memory can't be found.
+pub fn types_of_unit<'a>(
+    alloc: Global,
+    image: &Image<'a>,
+    unit: &Unit,
+) -> Result<UnitTypes<'a>, TypeFault>
+    requires unit { IsUnitOf image.now unit.now }
+    requires small { unit.now.end < unit.now.at + 2 ^ 32 }
+    ensures { Gives result (types_of_unit_of image.now unit.now) }
+{
+    match Abbrevs::read(alloc, abbreviation_bytes(image), unit.abbrev_at) {
+        Ok(abbrevs) => read_unit(alloc, image, unit, &abbrevs),
+        Err(fault) => Err(from_abbrev(fault)),
+    }
+}
