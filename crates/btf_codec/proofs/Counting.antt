@@ -1,5 +1,5 @@
 -- How many words the fields of types take.
-use Rattle.std.proofs.Common.{◌≡◌, ℕ, ◌+◌, ◌*◌, ◌<◌, ◌≤◌, List, [], ◌∷◌, ◌++◌, length, take, drop, get_or, Option, ◌^◌, refl, sym, ap, subst, ◌∙◌, arith}
+use Rattle.std.proofs.Common.{◌≡◌, ℕ, ◌+◌, ◌*◌, ◌<◌, ◌≤◌, List, [], ◌∷◌, ◌++◌, length, take, drop, get_or, Option, None, Some, ◌^◌, refl, sym, ap, subst, ◌∙◌, arith}
 use Rattle.std.specs.List.{flat_map}
 use Rattle.std.proofs.lemmas.List.{length-append, take_more, flat_map_more, take-append-drop}
 use Rattle.std.proofs.lemmas.Grind.{flat_map-append}
@@ -8,7 +8,7 @@ use Rattle.c_model.specs.declared.graph.CType.{CType}
 use Rattle.c_model.specs.declared.graph.Ref.{Ref}
 use Rattle.btf_codec.specs.Fields.{Field, fields_of, layout_of, part_fields, parts_fields, rest_by, rest_fields, target_at}
 use Rattle.btf_codec.specs.declared.layout.Layout.{Layout}
-use Rattle.btf_codec.specs.declared.layout.Layout.TheVariants.{Sized, Prototype}
+use Rattle.btf_codec.specs.declared.layout.Layout.TheVariants.{Int, Link, Array, Forward, TaggedLink, Float, Sized, Prototype}
 use Rattle.btf_codec.specs.declared.layout.PartLayout.{PartLayout}
 use Rattle.btf_codec.specs.declared.layout.PartLayout.TheVariants.{Member, Enumerator, WideEnumerator, Parameter, Variable}
 
@@ -59,3 +59,25 @@ pub prototype_fits : (layout : Layout) (t : CType) (ps : List Part) → layout �
 prototype_fits layout t ps e p h =
     let g : length (rest_fields Prototype t.label t.targets) < 2 ^ 32 = subst (λ (l : Layout). length (rest_fields l t.label t.targets) < 2 ^ 32) e h in
     rw p (omega (arith, g, length_any Parameter t.label.parts [] (drop 1 t.targets)))
+
+-- a type has six words at most besides those of its parts, and a part three
+parts_at_most : (layout : PartLayout) (ps : List Part) (rs : List Ref) → length (parts_fields layout ps rs) ≤ 3 * length ps
+parts_at_most Member ps rs = omega (arith, length_parts Member 3 (λ (p : Part) (r : Ref). refl) ps rs)
+parts_at_most Enumerator ps rs = omega (arith, length_parts Enumerator 2 (λ (p : Part) (r : Ref). refl) ps rs)
+parts_at_most WideEnumerator ps rs = omega (arith, length_parts WideEnumerator 3 (λ (p : Part) (r : Ref). refl) ps rs)
+parts_at_most Parameter ps rs = omega (arith, length_parts Parameter 2 (λ (p : Part) (r : Ref). refl) ps rs)
+parts_at_most Variable ps rs = omega (arith, length_parts Variable 3 (λ (p : Part) (r : Ref). refl) ps rs)
+
+rest_at_most : (o : Option Layout) (t : CType) → length (rest_by o t.label t.targets) ≤ 4 + 3 * length t.label.parts
+rest_at_most None t = omega arith
+rest_at_most (Some Int) t = omega arith
+rest_at_most (Some Link) t = omega arith
+rest_at_most (Some Array) t = omega arith
+rest_at_most (Some Forward) t = omega arith
+rest_at_most (Some TaggedLink) t = omega arith
+rest_at_most (Some Float) t = omega arith
+rest_at_most (Some (Sized parts)) t = omega (arith, parts_at_most parts t.label.parts t.targets)
+rest_at_most (Some Prototype) t = omega (arith, parts_at_most Parameter t.label.parts (drop 1 t.targets))
+
+pub length_at_most : (t : CType) → length (fields_of t) ≤ 6 + 3 * length t.label.parts
+length_at_most t = omega (arith, length_by t (layout_of t.label.kind) refl, rest_at_most (layout_of t.label.kind) t)

@@ -1,7 +1,8 @@
 -- The bytes of a table whose strings give each name its offset.
-use Rattle.std.specs.Prelude.{ℕ, ◌*◌, List, ◌++◌, length, map, All, IsSome, unwrap_or, Option, None, Some}
+use Rattle.std.specs.Prelude.{ℕ, ◌+◌, ◌*◌, ◌<◌, ◌≤◌, ◌^◌, List, ◌++◌, length, map, drop, All, IsSome, unwrap_or, Option, None, Some}
 use Rattle.std.specs.List.{flat_map}
 use Rattle.dw_base.specs.declared.numbers.Order.{Order}
+use Rattle.c_model.specs.Graph.{IsBelow}
 use Rattle.c_model.specs.declared.label.Part.{Part}
 use Rattle.c_model.specs.declared.graph.CType.{CType}
 use Rattle.btf_strings.specs.Names.{Names, offset_of, own_section}
@@ -36,6 +37,18 @@ HasOffset strings name = IsSome (offset_of strings name)
 pub record HasOffsets (strings : Names) (t : CType) : Type 0 where
   pub name : HasOffset strings t.label.name
   pub parts : All (λ (p : Part). HasOffset strings p.name) t.label.parts
+
+-- the names of a type have offsets, and its references are below a number
+pub record IsReadyType (strings : Names) (count : ℕ) (t : CType) : Type 0 where
+  pub offsets : HasOffsets strings t
+  pub within : All (IsBelow count) t.targets
+
+-- what the writer asks of a table
+pub record IsReady (types : List CType) (first : ℕ) (strings : Names) : Type 0 where
+  pub few : length types < 2 ^ 32
+  pub base : first ≤ length types
+  pub each : All (IsReadyType strings (length types)) (drop first types)
+  pub fits : 4 * length (flat_map fields_of (drop first types)) + length (own_section strings) < 2 ^ 32
 
 -- the base of a table: the types that come first, and the section that its strings go on from
 abbrev pub base_of : ℕ → Option (List ℕ) → Option Base

@@ -5,6 +5,8 @@ pub mod fault;
 mod layout;
 mod shared;
 pub mod table;
+#[cfg(test)]
+mod tests;
 mod words;
 pub mod writer;
 

@@ -7,6 +7,7 @@ ghost use Rattle.btf_codec.specs.Fields.{fields_of, id_of, info_of, part_fields,
 ghost use Rattle.btf_codec.specs.Spells.{Spells, header_bytes, words_bytes};
 ghost use Rattle.btf_codec.specs.Spelling.{HasOffsets, base_of, spelling_of, types_words, words_of};
 ghost use Rattle.btf_strings.specs.Names.{own_section};
+ghost use Rattle.c_model.specs.declared.graph.CType.{CType};
 ghost use Rattle.c_model.specs.declared.label.Part.{Part};
 ghost use Rattle.c_model.specs.declared.graph.Ref.{Ref};
 
@@ -36,6 +37,11 @@ pub fn write(alloc: Global, table: &TableOut<'_>, order: Order) -> Result<Bytes,
         (table.now.strings.base ≡ None → table.now.base ≡ 0) →
         Spells (base_of table.now.base table.now.strings.base) order (drop table.now.base table.now.types)
         (own_section table.now.strings) b) }
+    // The bytes spell no other table over that base.
+    ensures only { IfOk result (λ b. All IsWellFormed (drop table.now.base table.now.types) →
+        (table.now.strings.base ≡ None → table.now.base ≡ 0) → (types : List CType) (names : List ℕ) →
+        Spells (base_of table.now.base table.now.strings.base) order types names b →
+        (types ≡ drop table.now.base table.now.types) × (names ≡ own_section table.now.strings)) }
 {
     let own = &table.types.items()[table.base as usize..];
     let names = table.strings.bytes();

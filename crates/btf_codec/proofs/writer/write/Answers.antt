@@ -3,6 +3,10 @@ use Rattle.std.specs.List.{flat_map}
 use Rattle.btf_codec.specs.Fields.{fields_of}
 use Rattle.c_model.specs.Kinds.{IsWellFormed}
 use Rattle.c_model.specs.declared.graph.CType.{CType}
+use Rattle.btf_strings.specs.Names.{own_section}
+use Rattle.btf_codec.specs.Spells.{Spells}
+use Rattle.btf_codec.specs.Spelling.{base_of}
+use Rattle.btf_codec.proofs.Alone.{spelled_alone}
 use Rattle.btf_codec.proofs.Meeting.{meets, own_are, spelled, written}
 use Rattle.btf_codec.proofs.writer.write.Goals as goal
 
@@ -31,3 +35,9 @@ returns-clause-spells c = λ (formed : All IsWellFormed (drop c.args.table.now.b
       sound = c.bytes-names.ensures.sound;
     })
     zero (returns-clause-bytes c formed)
+
+pub returns-clause-only : goal.returns-clause-only
+returns-clause-only c = λ (formed : All IsWellFormed (drop c.args.table.now.base c.args.table.now.types)) (zero : c.args.table.now.strings.base ≡ None → c.args.table.now.base ≡ 0)
+    (types : List CType) (names : List ℕ) (other : Spells (base_of c.args.table.now.base c.args.table.now.strings.base) c.args.order types names c.new.result).
+    spelled_alone (base_of c.args.table.now.base c.args.table.now.strings.base) c.args.order (drop c.args.table.now.base c.args.table.now.types) types (own_section c.args.table.now.strings) names c.new.result
+    (returns-clause-spells c formed zero) other
