@@ -33,6 +33,14 @@ impl Numbering {
         })
     }
 
+    /// The number of keys.
+    pub fn len(&self) -> u32
+        requires { length self.now < 2 ^ 32 }
+        ensures { result ≡ length self.now }
+    {
+        self.set.len() as u32
+    }
+
     /// The place of a key in the list. A key that is not there is appended first. Keys are compared whole,
     /// and the counter rises by the key's length. After want of memory the list is unchanged.
     pub fn take<L: Ledger>(&mut self, key: NodeKey, steps: &mut Steps<L>) -> Result<u32, AllocError>
