@@ -1,5 +1,5 @@
 -- Names that stand one after another.
-use Rattle.std.proofs.Common.{◌≡◌, ℕ, ◌+◌, Bool, true, false, cond, List, [], ◌∷◌, ◌++◌, length, drop, Option, None, Some, if◌then◌else◌, is_some, refl, sym, ap, ◌||◌, ◌∙◌, arith, append_assoc}
+use Rattle.std.proofs.Common.{◌≡◌, ℕ, ◌+◌, ◌≤◌, Bool, true, false, cond, List, [], ◌∷◌, ◌++◌, length, drop, Option, None, Some, if◌then◌else◌, is_some, refl, sym, ap, ◌||◌, ◌∙◌, arith, append_assoc}
 use Rattle.std.specs.List.{flat_map, list_any}
 use Rattle.std.specs.Str.{bytes_eq}
 use Rattle.std.proofs.lemmas.List.{length-append, drop_at}
@@ -20,15 +20,15 @@ unfolding offset_among
 value_is at [] name h = refl
 value_is at (e ∷ es) name h =
     chosen (bytes_eq name e.0.now) e.1 at (value_of name es) (offset_among (at + length e.0.now + 1) (names_of es) name) h.0
-    (value_is (at + length e.0.now + 1) es name h.1)
+    (value_is (at + length e.0.now + 1) es name h.2)
 
 -- one name more is placed behind the others
-pub placed_more : (at : ℕ) (es : List (Bor (List ℕ) × ℕ)) (e : Bor (List ℕ) × ℕ) → ArePlaced at es → e.1 ≡ at + length (flat_map terminated (names_of es)) → ArePlaced at (es ++ e ∷ [])
-placed_more at [] e h is = (omega (arith, is), tt)
-placed_more at (f ∷ es) e h is =
+pub placed_more : (at : ℕ) (es : List (Bor (List ℕ) × ℕ)) (e : Bor (List ℕ) × ℕ) → ArePlaced at es → e.1 ≡ at + length (flat_map terminated (names_of es)) → e.1 ≤ 0x00ff_ffff → ArePlaced at (es ++ e ∷ [])
+placed_more at [] e h is le = (omega (arith, is), omega (arith, is, le), tt)
+placed_more at (f ∷ es) e h is le =
     let l : length (terminated f.0.now ++ flat_map terminated (names_of es)) ≡ length f.0.now + 1 + length (flat_map terminated (names_of es)) =
     omega (arith, length-append (terminated f.0.now) (flat_map terminated (names_of es)), length-append f.0.now (0 ∷ [])) in
-    (h.0, placed_more (at + length f.0.now + 1) es e h.1 (omega (arith, is, l)))
+    (h.0, h.1, placed_more (at + length f.0.now + 1) es e h.2 (omega (arith, is, l)) le)
 
 -- a name that isn't among them is found once it is appended
 step_none : (t : Bool) (at : ℕ) (o : Option ℕ) → (if t then Some at else o) ≡ None → (t ≡ false) × (o ≡ None)
@@ -90,3 +90,15 @@ text_among p (n ∷ ns) name at from clean is e =
     (λ (h : offset_among (from + length n + 1) ns name ≡ Some at). text_among (p ++ terminated n) ns name at (from + length n + 1) clean
     (omega (arith, length-append p (terminated n), length-append n (0 ∷ []))) h)
     e
+
+-- no offset among placed names is past the last
+near_step : (t : Bool) (at k : ℕ) (o : Option ℕ) → at ≤ 0x00ff_ffff → (o ≡ Some k → k ≤ 0x00ff_ffff) → (if t then Some at else o) ≡ Some k → k ≤ 0x00ff_ffff
+near_step true at k o le later e = let q : at ≡ k = cc in omega (arith, q, le)
+near_step false at k o le later e = later e
+
+pub offset_near : (at : ℕ) (es : List (Bor (List ℕ) × ℕ)) (name : List ℕ) (k : ℕ) → ArePlaced at es → offset_among at (names_of es) name ≡ Some k → k ≤ 0x00ff_ffff
+unfolding offset_among
+offset_near at [] name k h e = cc
+offset_near at (f ∷ es) name k h e =
+    near_step (bytes_eq name f.0.now) at k (offset_among (at + length f.0.now + 1) (names_of es) name) h.1
+    (λ (later : offset_among (at + length f.0.now + 1) (names_of es) name ≡ Some k). offset_near (at + length f.0.now + 1) es name k h.2 later) e

@@ -1,9 +1,9 @@
 -- What a table of names keeps.
-use Rattle.std.specs.Prelude.{◌≡◌, ℕ, ◌+◌, ◌<◌, ◌^◌, List, [], ◌∷◌, length, map, Option, ⊤, IfSome, slice_get, None, Some, if◌then◌else◌}
+use Rattle.std.specs.Prelude.{◌≡◌, ℕ, ◌+◌, ◌<◌, ◌≤◌, ◌^◌, List, [], ◌∷◌, length, map, Option, ⊤, IfSome, slice_get, None, Some, if◌then◌else◌}
 use Rattle.std.specs.Option.{option_or}
 use Rattle.std.specs.Map.{lookup}
 use Rattle.std.specs.Str.{bytes_eq}
-use Rattle.btf_strings.specs.Names.{base_offset, first_offset, own_section}
+use Rattle.btf_strings.specs.Names.{Names, base_offset, first_offset, offset_of, own_section}
 use denote.Bor.{Bor}
 
 -- the names with places, in order
@@ -18,15 +18,20 @@ value_of name entries = lookup (λ (k : Bor (List ℕ)). bytes_eq name k.now) en
 abbrev pub Notes : List (Bor (List ℕ) × ℕ) → List (Bor (List ℕ) × ℕ) → List ℕ → ℕ → Type 0
 Notes old new text at = (name : List ℕ) → value_of name new ≡ option_or (value_of name old) (if bytes_eq name text then Some at else None)
 
--- the values are the offsets of names that stand one after another
+-- the values are the offsets of names that stand one after another, and none is past the last
 abbrev pub ArePlaced : ℕ → List (Bor (List ℕ) × ℕ) → Type 0
 ArePlaced at [] = ⊤
-ArePlaced at (e ∷ es) = (e.1 ≡ at) × ArePlaced (at + length e.0.now + 1) es
+ArePlaced at (e ∷ es) = (e.1 ≡ at) × (at ≤ 0x00ff_ffff) × ArePlaced (at + length e.0.now + 1) es
 
 -- a base's section has fewer than 2^32 bytes and begins with NUL
 pub record IsSection (section : List ℕ) : Type 0 where
   pub few : length section < 2 ^ 32
   pub empty : slice_get section 0 ≡ Some 0
+
+-- what holds of each table of names: each offset fits a word of 4 bytes
+pub record IsSound (t : Names) : Type 0 where
+  pub section : IfSome t.base IsSection
+  pub narrow : (name : List ℕ) (at : ℕ) → offset_of t name ≡ Some at → at < 2 ^ 32
 
 -- what holds of the parts of each table of names
 pub record IsKept (base : Option (List ℕ)) (held : List (Bor (List ℕ) × ℕ)) (own : List ℕ) (places : List (Bor (List ℕ) × ℕ)) : Type 0 where

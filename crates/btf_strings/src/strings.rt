@@ -2,7 +2,7 @@
 ghost use Rattle.std.specs.Prelude.{◌≡◌, ◌+◌, ◌<◌, ◌≤◌, ◌^◌, ℕ, List, [], ◌∷◌, ◌++◌, None, Some, Ok, Err, length, IfOk, IfSome, OnOk, OnErr, IsErrOf};
 ghost use Rattle.std.specs.Option.{option_copied};
 ghost use Rattle.btf_strings.specs.Names.{HasNoNul, all_strings, base_offset, first_string, next_offset, offset_of, own_names, own_section, with_name};
-ghost use Rattle.btf_strings.specs.Kept.{IsSection, Notes, value_of};
+ghost use Rattle.btf_strings.specs.Kept.{IsSection, IsSound, Notes, value_of};
 ghost use Rattle.dw_base.specs.Texts.{text_of};
 
 use crate::fault::StringsFault;
@@ -104,7 +104,7 @@ impl<'a> Strings<'a> {
     /// The own string section.
     pub fn bytes(&self) -> &[u8]
         ensures value { result.now ≡ own_section self.now }
-        ensures base { IfSome self.now.base IsSection }
+        ensures sound { IsSound self.now }
     {
         self.own.as_slice()
     }
@@ -124,6 +124,7 @@ impl<'a> Strings<'a> {
     fn append(&mut self, name: &'a [u8], at: u32) -> Result<(), StringsFault>
         requires new { offset_of self.old name.now ≡ None }
         requires at { at ≡ next_offset self.old }
+        requires room { at ≤ LAST_OFFSET }
         ensures ok { OnOk result (self.new ≡ record self.old { own = self.old.own ++ name.now ∷ [] }) }
         ensures err { OnErr result (self.new ≡ self.old) }
         ensures fault { OnErr result (IsErrOf result StringsFault.Memory) }

@@ -120,14 +120,14 @@ fn put_header(
 }
 
 /// A file of 64 bits, little-endian, with these sections.
-fn file_of(
+fn file_of<'s>(
     alloc: Global,
-    info: &[u8],
-    abbrev: &[u8],
-    text: &[u8],
-    line_text: &[u8],
+    info: &'s [u8],
+    abbrev: &'s [u8],
+    text: &'s [u8],
+    line_text: &'s [u8],
 ) -> Result<Vec<u8>, AllocError> {
-    let names = b"\0.debug_info\0.debug_abbrev\0.debug_str\0.debug_line_str\0";
+    let names: &'s [u8] = b"\0.debug_info\0.debug_abbrev\0.debug_str\0.debug_line_str\0";
     let mut file = Vec::new(alloc);
     file.extend_from_slice(b"\x7fELF\x02\x01\x01\0\0\0\0\0\0\0\0\0")?;
     put(&mut file, 2, 2)?;

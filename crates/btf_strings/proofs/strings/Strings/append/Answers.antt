@@ -20,7 +20,7 @@ invariant_of-self-2 c =
     c.in_ok-push.ensures.items ∙ ap (λ (xs : List ℕ). xs ++ 0 ∷ []) (c.in_ok-extend_from_slice.ensures.items ∙ ap (λ (xs : List ℕ). xs ++ c.args.name.now) c.reserve.ensures.items) in
     rw (own, placed c)
     (kept_with_one_more (option_copied c.self.inside.base) c.self.inside.held.entries c.self.inside.own.items c.self.inside.places.entries c.args.name c.args.at c.self.invariant
-    (c.requires.at ∙ ap (λ (t : Names). next_offset t) (sym c.self.view_is)))
+    (c.requires.at ∙ ap (λ (t : Names). next_offset t) (sym c.self.view_is)) c.requires.room)
 
 pub returns-clause-ok : goal.returns-clause-ok
 returns-clause-ok c =

@@ -1,0 +1,9 @@
+pub mod Alone
+pub mod Counting
+pub mod Decoding
+pub mod Endings
+pub mod Good
+pub mod KindTable
+pub mod Meeting
+pub mod Putting
+pub mod Shapes

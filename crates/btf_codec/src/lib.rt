@@ -1,0 +1,15 @@
+//! BTF files: the table of types that the bytes of a file spell (the Linux kernel's BTF documentation).
+#![tactic(auto)]
+
+pub mod fault;
+mod layout;
+mod shared;
+pub mod table;
+#[cfg(test)]
+mod tests;
+mod words;
+pub mod writer;
+
+pub use fault::BtfFault;
+pub use table::{Table, TableOut};
+pub use writer::write;

@@ -1,0 +1,4 @@
+pub mod Splitting
+pub mod Beside
+pub mod Rounds
+pub mod Costs

@@ -1,0 +1,8 @@
+//! The coarsest agreeing partition of a graph.
+#![tactic(auto)]
+
+pub mod placing;
+pub mod refine;
+mod shared;
+
+pub use refine::{Refined, classes};

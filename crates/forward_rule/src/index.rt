@@ -1,0 +1,98 @@
+//! The index of forwards.
+ghost use Rattle.std.specs.Prelude.{◌≡◌, ◌↔◌, ◌<◌, ℕ, [], length, take, is_some, IsTrue, IfOk};
+ghost use Rattle.c_model.specs.Partition.{IsCoarsest};
+ghost use Rattle.c_model.specs.Forwards.{forward_at, definitions_in, IsOpen, IsIndexOf, IsForwardIndex};
+
+use crate::families::declared_family;
+use crate::gather::{gathered, opened};
+use c_model::{Classes, Graph};
+use std::alloc::{AllocError, Global};
+use std::marker::Model;
+
+/// Which forwards of a graph are open, and what defines them. Contracts see it as a list with the
+/// definitions of each node, none where the node is no open forward.
+#[derive(Debug, Drop)]
+pub struct FwdIndex {
+    count: u32,
+    kept: Option<Kept>,
+}
+
+/// Of each node the number of its tag's group and 1, or 0 where it is no forward, and the groups of
+/// definitions.
+#[derive(Debug, Drop)]
+pub struct Kept {
+    pub tags: Vec<u32>,
+    pub groups: Vec<Vec<u32>>,
+}
+
+impl Model for FwdIndex {
+    ghost use Rattle.std.specs.Prelude.{List, ℕ};
+
+    ghost Value = { List (List ℕ) };
+
+    ghost use Rattle.forward_rule.specs.Kept.{index_of, IsKept};
+
+    ghost view = { λ f. index_of f.count f.kept };
+
+    ghost invariant = { λ f. IsKept f.count f.kept };
+}
+
+impl FwdIndex {
+    /// The index of a graph where no forward is open.
+    pub fn plain(graph: &Graph<'_>) -> FwdIndex
+        ensures of { IsIndexOf graph.now result }
+        ensures closed { (x : ℕ) → definitions_in result x ≡ [] }
+    {
+        FwdIndex {
+            count: graph.len(),
+            kept: None,
+        }
+    }
+
+    /// The index of a graph that opens exactly its open forwards. `base` is the coarsest plain agreement of
+    /// the graph's base nodes.
+    pub fn build(alloc: Global, graph: &Graph<'_>, base: &Classes) -> Result<FwdIndex, AllocError>
+        requires { IsCoarsest (take graph.now.base graph.now.nodes) base.now }
+        ensures { IfOk result (λ f. IsForwardIndex graph.now f) }
+    {
+        let Kept { tags, groups } = gathered(alloc, graph)?;
+        let groups = opened(alloc, base.numbers(), groups)?;
+        Ok(FwdIndex {
+            count: graph.len(),
+            kept: Some(Kept { tags, groups }),
+        })
+    }
+
+    /// Whether node `x` is a forward of the files. Base nodes are none.
+    pub fn is_forward(graph: &Graph<'_>, x: u32) -> bool
+        requires { x < length graph.now.nodes }
+        ensures { result ≡ is_some (forward_at graph.now x) }
+    {
+        x >= graph.base() && declared_family(&graph.node(x).label).is_some()
+    }
+
+    /// Whether node `x` is an open forward.
+    #[inline(always)]
+    pub fn is_open(&self, x: u32) -> bool
+        requires { x < length self.now }
+        ensures { IsTrue result ↔ IsOpen self.now x }
+    {
+        !self.definitions(x).is_empty()
+    }
+
+    /// The definitions of node `x` in node order. None where it is no open forward.
+    #[inline(always)]
+    pub fn definitions(&self, x: u32) -> &[u32]
+        requires { x < length self.now }
+        ensures { result.now ≡ definitions_in self.now x }
+    {
+        let Some(kept) = &self.kept else {
+            return &[];
+        };
+        let tag = kept.tags[x as usize];
+        if tag == 0 {
+            return &[];
+        }
+        &kept.groups[tag as usize - 1]
+    }
+}

@@ -1,0 +1,11 @@
+pub mod Pairs
+pub mod Faults
+pub mod SaidLemmas
+pub mod LoadLemmas
+pub mod DoneLemmas
+pub mod RunLemmas
+pub mod PromiseLemmas
+pub mod Ints
+pub mod Classes
+pub mod IntClasses
+pub mod Naming

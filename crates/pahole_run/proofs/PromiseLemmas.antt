@@ -1,0 +1,455 @@
+-- What a run promises follows from how it ends.
+use Rattle.std.proofs.Common.{◌≡◌, ◌≢◌, ◌+◌, ◌<◌, ◌≤◌, ◌⊎◌, ◌++◌, List, [], ℕ, Ok, Err, Result, refl, sym, ap, ◌∙◌, subst, arith, length, Option, None, Some, inl, inr, IsOk, OnOk, IsSome, IfSome}
+use Rattle.std.specs.Option.{ForSome, option_map, IsSomeAnd}
+use Rattle.std.specs.Io.{StartsWith}
+use Rattle.dw_base.specs.declared.places.Limits.{Limits}
+use Rattle.world_io.specs.Meaning.{Meaning}
+use Rattle.world_io.specs.Calls.{Rose, raised, under, IsLeft}
+use Rattle.world_io.specs.declared.fault.Failed.{Failed}
+use Rattle.world_io.specs.declared.files.HeldFile.{HeldFile}
+use Rattle.pahole_run.specs.declared.job.Job.{Job}
+use Rattle.pahole_run.specs.declared.job.UsageFault.{UsageFault}
+use Rattle.pahole_run.specs.declared.refusal.Fault.{Fault}
+use Rattle.pahole_run.specs.declared.refusal.Refusal.{Refusal}
+use Rattle.pahole_run.specs.declared.refusal.Refusal.TheVariants.{Missing, Fault as Numbered}
+use Rattle.pahole_run.specs.declared.refusal.Ended.{Ended}
+use Rattle.pahole_run.specs.declared.refusal.Ended.TheVariants.{Refused, Read, Store, Memory}
+use Rattle.pahole_run.specs.Line.{usage_line, fault_line, read_line, store_line, memory_line, line_of, status_of}
+use Rattle.c_model.specs.declared.graph.CType.{CType}
+use Rattle.pahole_run.specs.Merged.{TheTable}
+use Rattle.pahole_run.specs.Btf.{btf_of}
+use Rattle.pahole_run.specs.Refusals.{first_refusal, contents, nodes_of, MergeTo}
+use Rattle.pahole_run.specs.Said.{Gained, Says, OnlyComplains}
+use Rattle.pahole_run.specs.Steps.{Done, Cause, CalledAtMost, Counted, Holds, Unstored}
+use Rattle.pahole_run.specs.Run.{Outcome, Ran, Runs, status_at, line_at}
+use Rattle.pahole_run.specs.Run.Outcome.{NoJob, NoMemory, Did}
+use Rattle.pahole_run.specs.Promises.{NoFault, Complained, Encodes, Succeeds, Refuses, Fails, HasCause, IsComplete, RefusesWords, Keeps}
+
+-- the job of the words is one
+of_job :
+    (words : Result Job UsageFault) (j job : Job) (held : List HeldFile) (types : List CType)
+    → words ≡ Ok j → words ≡ Ok job → MergeTo held job types → MergeTo held j types
+of_job words j job held types w v m =
+    let same : job ≡ j = cc in subst (λ (k : Job). MergeTo held k types) same m
+
+-- an end of a job is complete
+complete_end :
+    (limits : Limits) (words : Result Job UsageFault) (before middle : Meaning) (status : ℕ) (j job : Job) (held : List HeldFile) (types : List CType) (e : Ended)
+    → words ≡ Ok j → Done limits j before middle (Err e) → status ≡ status_of e
+    → words ≡ Ok job → before.files ≡ Some held → MergeTo held job types → NoFault before middle
+    → (first_refusal limits held job types ≡ None → (status ≡ 0) ⊎ (status ≡ 4))
+    × ((fault : Fault) → first_refusal limits held job types ≡ Some (Numbered fault) → (status ≡ 1) ⊎ (status ≡ 4))
+complete_end limits words before middle status j job held types (Refused (Missing i)) w d is v files m quiet =
+    let told : first_refusal limits held j types ≡ Some (Missing i) = d.told held files types (of_job words j job held types w v m) in (
+      λ (none : first_refusal limits held job types ≡ None). absurd (cc),
+      λ (fault : Fault) (some : first_refusal limits held job types ≡ Some (Numbered fault)). absurd (cc),
+    )
+complete_end limits words before middle status j job held types (Refused (Numbered f)) w d is v files m quiet =
+    let told : first_refusal limits held j types ≡ Some (Numbered f) = d.told held files types (of_job words j job held types w v m) in (
+      λ (none : first_refusal limits held job types ≡ None). absurd (cc),
+      λ (fault : Fault) (some : first_refusal limits held job types ≡ Some (Numbered fault)). inl is,
+    )
+complete_end limits words before middle status j job held types (Read i) w d is v files m quiet = absurd (omega (arith, d.cause.0, quiet.0))
+complete_end limits words before middle status j job held types Store w d is v files m quiet = absurd (omega (arith, d.cause.1, quiet.1))
+complete_end limits words before middle status j job held types Memory w d is v files m quiet =
+    (λ (none : first_refusal limits held job types ≡ None). inr is, λ (fault : Fault) (some : first_refusal limits held job types ≡ Some (Numbered fault)). inr is)
+
+complete_at :
+    (limits : Limits) (words : Result Job UsageFault) (before middle : Meaning) (status : ℕ) (o : Outcome)
+    → Ran limits words before middle o → status ≡ status_at o → IsComplete limits words before middle status
+complete_at limits words before middle status (NoJob u) ran is job held types v files m quiet = absurd (cc (ran.0, v))
+complete_at limits words before middle status NoMemory ran is job held types v files m quiet =
+    (λ (none : first_refusal limits held job types ≡ None). inr is, λ (fault : Fault) (some : first_refusal limits held job types ≡ Some (Numbered fault)). inr is)
+complete_at limits words before middle status (Did j (Ok u)) ran is job held types v files m quiet =
+    let told : first_refusal limits held j types ≡ None = (ran.1.told held files types (of_job words j job held types ran.0 v m)).0 in
+    let same : words ≡ Ok j = ran.0 in (
+      λ (none : first_refusal limits held job types ≡ None). inl is,
+      λ (fault : Fault) (some : first_refusal limits held job types ≡ Some (Numbered fault)). absurd (cc),
+    )
+complete_at limits words before middle status (Did j (Err e)) ran is job held types v files m quiet =
+    complete_end limits words before middle status j job held types e ran.0 ran.1 is v files m quiet
+
+pub complete_of :
+    (limits : Limits) (words : Result Job UsageFault) (before after : Meaning) (status : ℕ)
+    → Runs limits words before after status → IsComplete limits words before after status
+complete_of limits words before after status r job held types v files m quiet =
+    let loads : after.loads ≡ r.middle.loads = ap (λ (w : Meaning). w.loads) r.said.only.0 in
+    let stores : after.stores ≡ r.middle.stores = ap (λ (w : Meaning). w.stores) r.said.only.0 in
+    let quiet_then : NoFault before r.middle =
+    (subst (λ (n : ℕ). n < raised before.loads) loads quiet.0, subst (λ (n : ℕ). n < raised before.stores) stores quiet.1) in
+    complete_at limits words before r.middle status r.outcome r.ran r.is job held types v files m quiet_then
+
+on_ok : (P : Type 0) (r : Result (Unit {0}) Failed) → IsOk r → OnOk r P → P
+on_ok P (Ok x) h p = p
+on_ok P (Err e) h p = absurd (cc)
+
+-- what was complained, seen from before the job
+complained_of :
+    (line : List ℕ) (before middle after : Meaning) (heard : Result (Unit {0}) Failed)
+    → middle.complained ≡ before.complained → middle.complaints ≡ before.complaints
+    → Says middle after line heard → Complained line before after
+complained_of line before middle after heard c n s =
+    let Was : Option (List ℕ) → List ℕ → Type 0 = λ o l. after.complained ≡ option_map (λ (xs : List ℕ). xs ++ l) o in
+    record {
+      part = (s.part.0, s.part.1, subst (λ (o : Option (List ℕ)). Was o s.part.0) c s.part.2);
+      whole =
+          λ few.
+          elim s.failed [
+            | inl ok ↦
+                subst (λ (o : Option (List ℕ)). Was o line) c
+                (on_ok (Gained middle after line × (after.complaints ≡ middle.complaints)) heard ok s.ok).0
+            | inr rose ↦ absurd (omega (arith, few, rose, n))
+          ];
+    }
+
+not_zero : (e : Ended) → status_of e ≡ 0 → ⊥
+not_zero (Refused (Missing i)) h = omega arith
+not_zero (Refused (Numbered f)) h = omega arith
+not_zero (Read i) h = omega arith
+not_zero Store h = omega arith
+not_zero Memory h = omega arith
+
+-- what is done, of told files
+encodes_of :
+    (limits : Limits) (before middle : Meaning) (j : Job)
+    → Done limits j before middle (Ok tt)
+    → ForSome before.files (λ (held : List HeldFile). Encodes limits held j middle)
+encodes_of limits before middle j d held files =
+    let t : TheTable (nodes_of (contents held j.files)) = d.table held files in
+    let told : (first_refusal limits held j t.types ≡ None) × Holds j.out (btf_of t.types) middle =
+    d.told held files t.types (t.index, t.partition, t.is) in record {
+      table = t;
+      accepted = told.0;
+      stored = told.1;
+      spells = d.spells held files t.types (t.index, t.partition, t.is);
+    }
+
+succeeds_at :
+    (limits : Limits) (words : Result Job UsageFault) (before middle : Meaning) (status : ℕ) (o : Outcome)
+    → Ran limits words before middle o → status ≡ status_at o → status ≡ 0 → Succeeds limits words before middle
+succeeds_at limits words before middle status (NoJob u) ran is zero = absurd (omega arith)
+succeeds_at limits words before middle status NoMemory ran is zero = absurd (omega arith)
+succeeds_at limits words before middle status (Did j (Ok u)) ran is zero = (j, ran.0, encodes_of limits before middle j ran.1, ran.1.others)
+succeeds_at limits words before middle status (Did j (Err e)) ran is zero = absurd (not_zero e (sym is ∙ zero))
+
+pub succeeds_of :
+    (limits : Limits) (words : Result Job UsageFault) (before after : Meaning) (status : ℕ)
+    → Runs limits words before after status → status ≡ 0 → Succeeds limits words before after
+succeeds_of limits words before after status r zero =
+    let stored : r.middle.stored ≡ after.stored = sym (ap (λ (w : Meaning). w.stored) r.said.only.0) in
+    let at_middle : Succeeds limits words before r.middle =
+    succeeds_at limits words before r.middle status r.outcome r.ran r.is zero in (
+      at_middle.0,
+      at_middle.1,
+      λ held files.
+          let now : Encodes limits held at_middle.0 r.middle = at_middle.2 held files in record {
+            table = now.table;
+            accepted = now.accepted;
+            spells = now.spells;
+            stored =
+                subst
+                (λ (o : Option (List HeldFile)).
+                IfSome (under at_middle.0.out o) (λ (v : Option (List ℕ)). v ≡ Some (btf_of now.table.types)))
+                stored now.stored;
+          },
+      λ q ne. ap (under q) (sym stored) ∙ at_middle.3 q ne,
+    )
+
+refuses_end :
+    (limits : Limits) (words : Result Job UsageFault) (before middle after : Meaning) (status : ℕ) (j : Job) (e : Ended)
+    (heard : Result (Unit {0}) Failed)
+    → words ≡ Ok j → Done limits j before middle (Err e) → Says middle after (line_of j e) heard
+    → status ≡ status_of e → status ≡ 1 → Refuses limits words before after
+refuses_end limits words before middle after status j (Refused (Missing i)) heard w d s is one = absurd (omega arith)
+refuses_end limits words before middle after status j (Refused (Numbered f)) heard w d s is one = (
+  j,
+  f,
+  w,
+  d.told,
+  complained_of (fault_line j.files f) before middle after heard (ap (λ (m : Meaning). m.complained) d.rest)
+      (ap (λ (m : Meaning). m.complaints) d.rest) s,
+)
+refuses_end limits words before middle after status j (Read i) heard w d s is one = absurd (omega arith)
+refuses_end limits words before middle after status j Store heard w d s is one = absurd (omega arith)
+refuses_end limits words before middle after status j Memory heard w d s is one = absurd (omega arith)
+
+refuses_at :
+    (limits : Limits) (words : Result Job UsageFault) (before middle after : Meaning) (status : ℕ) (o : Outcome)
+    (heard : Result (Unit {0}) Failed)
+    → Ran limits words before middle o → Says middle after (line_at o) heard → status ≡ status_at o → status ≡ 1
+    → Refuses limits words before after
+refuses_at limits words before middle after status (NoJob u) heard ran s is one = absurd (omega arith)
+refuses_at limits words before middle after status NoMemory heard ran s is one = absurd (omega arith)
+refuses_at limits words before middle after status (Did j (Ok u)) heard ran s is one = absurd (omega arith)
+refuses_at limits words before middle after status (Did j (Err e)) heard ran s is one =
+    refuses_end limits words before middle after status j e heard ran.0 ran.1 s is one
+
+pub refuses_of :
+    (limits : Limits) (words : Result Job UsageFault) (before after : Meaning) (status : ℕ)
+    → Runs limits words before after status → status ≡ 1 → Refuses limits words before after
+refuses_of limits words before after status r one =
+    refuses_at limits words before r.middle after status r.outcome r.heard r.ran r.said r.is one
+
+some_is : (o : Option (List HeldFile)) → IsSome o → (x : List HeldFile) × (o ≡ Some x)
+some_is None h = absurd (cc)
+some_is (Some x) h = (x, refl)
+
+cause_end :
+    (limits : Limits) (words : Result Job UsageFault) (before middle : Meaning) (status : ℕ) (j : Job) (e : Ended)
+    → words ≡ Ok j → Done limits j before middle (Err e) → status ≡ status_of e → status ≡ 3
+    → HasCause limits words before middle
+cause_end limits words before middle status j (Refused (Missing i)) w d is three =
+    let told : (x : List HeldFile) × (before.files ≡ Some x) = some_is before.files d.cause.2 in
+    inr (inr (j, i, told.0, w, told.1, d.told told.0 told.1))
+cause_end limits words before middle status j (Refused (Numbered f)) w d is three = absurd (omega arith)
+cause_end limits words before middle status j (Read i) w d is three = inl d.cause.0
+cause_end limits words before middle status j Store w d is three = inr (inl d.cause.1)
+cause_end limits words before middle status j Memory w d is three = absurd (omega arith)
+
+cause_at :
+    (limits : Limits) (words : Result Job UsageFault) (before middle : Meaning) (status : ℕ) (o : Outcome)
+    → Ran limits words before middle o → status ≡ status_at o → status ≡ 3 → HasCause limits words before middle
+cause_at limits words before middle status (NoJob u) ran is three = absurd (omega arith)
+cause_at limits words before middle status NoMemory ran is three = absurd (omega arith)
+cause_at limits words before middle status (Did j (Ok u)) ran is three = absurd (omega arith)
+cause_at limits words before middle status (Did j (Err e)) ran is three =
+    cause_end limits words before middle status j e ran.0 ran.1 is three
+
+pub cause_of :
+    (limits : Limits) (words : Result Job UsageFault) (before after : Meaning) (status : ℕ)
+    → Runs limits words before after status → status ≡ 3 → HasCause limits words before after
+cause_of limits words before after status r three =
+    let loads : r.middle.loads ≡ after.loads = sym (ap (λ (w : Meaning). w.loads) r.said.only.0) in
+    let stores : r.middle.stores ≡ after.stores = sym (ap (λ (w : Meaning). w.stores) r.said.only.0) in
+    elim (cause_at limits words before r.middle status r.outcome r.ran r.is three) [
+      | inl rose ↦ inl (subst (λ (n : ℕ). Rose before.loads n) loads rose)
+      | inr other ↦
+          elim other [
+            | inl rose ↦ inr (inl (subst (λ (n : ℕ). Rose before.stores n) stores rose))
+            | inr missing ↦ inr (inr missing)
+          ]
+    ]
+
+words_at :
+    (limits : Limits) (words : Result Job UsageFault) (before middle after : Meaning) (status : ℕ) (o : Outcome)
+    (heard : Result (Unit {0}) Failed)
+    → Ran limits words before middle o → Says middle after (line_at o) heard → status ≡ status_at o
+    → RefusesWords words before after status
+words_at limits words before middle after status (NoJob u) heard ran s is =
+    record {
+      only =
+          λ two. (
+            u,
+            ran.0,
+            complained_of (usage_line u) before middle after heard (ap (λ (m : Meaning). m.complained) ran.1)
+                (ap (λ (m : Meaning). m.complaints) ran.1) s,
+          );
+      always = λ v e. inl is;
+    }
+words_at limits words before middle after status NoMemory heard ran s is =
+    record { only = λ two. absurd (omega arith); always = λ v e. inr is }
+words_at limits words before middle after status (Did j (Ok u)) heard ran s is =
+    record { only = λ two. absurd (omega arith); always = λ v e. absurd (cc (ran.0, e)) }
+words_at limits words before middle after status (Did j (Err e)) heard ran s is =
+    record { only = λ two. absurd (not_two e (sym is ∙ two)); always = λ v w. absurd (cc (ran.0, w)) }
+  where
+    not_two : (e : Ended) → status_of e ≡ 2 → ⊥
+    not_two (Refused (Missing i)) h = omega arith
+    not_two (Refused (Numbered f)) h = omega arith
+    not_two (Read i) h = omega arith
+    not_two Store h = omega arith
+    not_two Memory h = omega arith
+
+pub words_of :
+    (limits : Limits) (words : Result Job UsageFault) (before after : Meaning) (status : ℕ)
+    → Runs limits words before after status → RefusesWords words before after status
+words_of limits words before after status r =
+    words_at limits words before r.middle after status r.outcome r.heard r.ran r.said r.is
+
+counts_at :
+    (before middle : Meaning) (status : ℕ) (j : Job) (r : Result (Unit {0}) Ended)
+    → Cause before middle r → status ≡ status_at (Did j r) → status ≢ 3
+    → (middle.loads ≡ before.loads) × (middle.stores ≡ before.stores)
+counts_at before middle status j (Ok u) c is ne = (c.0, c.1)
+counts_at before middle status j (Err (Refused (Missing i))) c is ne = absurd (ne is)
+counts_at before middle status j (Err (Refused (Numbered f))) c is ne = (c.0, c.1)
+counts_at before middle status j (Err (Read i)) c is ne = absurd (ne is)
+counts_at before middle status j (Err Store) c is ne = absurd (ne is)
+counts_at before middle status j (Err Memory) c is ne = (c.0, c.1)
+
+stored_at :
+    (before middle : Meaning) (status : ℕ) (j : Job) (r : Result (Unit {0}) Ended)
+    → Unstored before middle r → status ≡ status_at (Did j r) → status ≢ 0 → status ≢ 3
+    → middle.stored ≡ before.stored
+stored_at before middle status j (Ok u) c is nz ne = absurd (nz is)
+stored_at before middle status j (Err (Refused r)) c is nz ne = c
+stored_at before middle status j (Err (Read i)) c is nz ne = c
+stored_at before middle status j (Err Store) c is nz ne = absurd (ne is)
+stored_at before middle status j (Err Memory) c is nz ne = c
+
+memory_end :
+    (before middle after : Meaning) (status : ℕ) (limits : Limits) (j : Job) (e : Ended) (heard : Result (Unit {0}) Failed)
+    → Done limits j before middle (Err e) → Says middle after (line_of j e) heard → status ≡ status_of e → status ≡ 4
+    → Complained memory_line before after
+memory_end before middle after status limits j (Refused (Missing i)) heard d s is four = absurd (omega arith)
+memory_end before middle after status limits j (Refused (Numbered f)) heard d s is four = absurd (omega arith)
+memory_end before middle after status limits j (Read i) heard d s is four = absurd (omega arith)
+memory_end before middle after status limits j Store heard d s is four = absurd (omega arith)
+memory_end before middle after status limits j Memory heard d s is four =
+    complained_of memory_line before middle after heard (ap (λ (m : Meaning). m.complained) d.rest)
+    (ap (λ (m : Meaning). m.complaints) d.rest) s
+
+memory_at :
+    (limits : Limits) (words : Result Job UsageFault) (before middle after : Meaning) (status : ℕ) (o : Outcome)
+    (heard : Result (Unit {0}) Failed)
+    → Ran limits words before middle o → Says middle after (line_at o) heard → status ≡ status_at o → status ≡ 4
+    → Complained memory_line before after
+memory_at limits words before middle after status (NoJob u) heard ran s is four = absurd (omega arith)
+memory_at limits words before middle after status NoMemory heard ran s is four =
+    complained_of memory_line before middle after heard (ap (λ (m : Meaning). m.complained) ran)
+    (ap (λ (m : Meaning). m.complaints) ran) s
+memory_at limits words before middle after status (Did j (Ok u)) heard ran s is four = absurd (omega arith)
+memory_at limits words before middle after status (Did j (Err e)) heard ran s is four =
+    memory_end before middle after status limits j e heard ran.1 s is four
+
+-- until the complaint nothing is complained
+uncomplained :
+    (limits : Limits) (words : Result Job UsageFault) (before middle : Meaning) (o : Outcome)
+    → Ran limits words before middle o → (middle.complained ≡ before.complained) × (middle.complaints ≡ before.complaints)
+uncomplained limits words before middle (NoJob u) ran =
+    (ap (λ (m : Meaning). m.complained) ran.1, ap (λ (m : Meaning). m.complaints) ran.1)
+uncomplained limits words before middle NoMemory ran =
+    (ap (λ (m : Meaning). m.complained) ran, ap (λ (m : Meaning). m.complaints) ran)
+uncomplained limits words before middle (Did j r) ran =
+    (ap (λ (m : Meaning). m.complained) ran.1.rest, ap (λ (m : Meaning). m.complaints) ran.1.rest)
+
+fails_end :
+    (limits : Limits) (words : Result Job UsageFault) (before middle after : Meaning) (status : ℕ) (j : Job) (e : Ended)
+    (heard : Result (Unit {0}) Failed)
+    → words ≡ Ok j → Done limits j before middle (Err e) → Says middle after (line_of j e) heard
+    → status ≡ status_of e → status ≡ 3 → Fails words before after
+fails_end limits words before middle after status j (Refused (Missing i)) heard w d s is three = (
+  j,
+  w,
+  inl (
+    i,
+    complained_of (read_line j.files i) before middle after heard (ap (λ (m : Meaning). m.complained) d.rest)
+        (ap (λ (m : Meaning). m.complaints) d.rest) s,
+    ap (λ (m : Meaning). m.stored) s.only.0 ∙ d.unstored,
+    subst (λ (o : Option ℕ). Counted (i + 1) before.calls o) (sym (ap (λ (m : Meaning). m.calls) s.only.0)) d.exact,
+  ),
+)
+fails_end limits words before middle after status j (Refused (Numbered f)) heard w d s is three = absurd (omega arith)
+fails_end limits words before middle after status j (Read i) heard w d s is three = (
+  j,
+  w,
+  inl (
+    i,
+    complained_of (read_line j.files i) before middle after heard (ap (λ (m : Meaning). m.complained) d.rest)
+        (ap (λ (m : Meaning). m.complaints) d.rest) s,
+    ap (λ (m : Meaning). m.stored) s.only.0 ∙ d.unstored,
+    subst (λ (o : Option ℕ). Counted (i + 1) before.calls o) (sym (ap (λ (m : Meaning). m.calls) s.only.0)) d.exact,
+  ),
+)
+fails_end limits words before middle after status j Store heard w d s is three =
+    let stored : middle.stored ≡ after.stored = sym (ap (λ (m : Meaning). m.stored) s.only.0) in (
+      j,
+      w,
+      inr (
+        complained_of (store_line j.out) before middle after heard (ap (λ (m : Meaning). m.complained) d.rest)
+            (ap (λ (m : Meaning). m.complaints) d.rest) s,
+        λ q ne. ap (under q) (sym stored) ∙ d.others q ne,
+        λ held files types m.
+            subst
+            (λ (o : Option (List HeldFile)).
+            IfSome (under j.out before.stored)
+            (λ (old : Option (List ℕ)).
+            IfSome (under j.out o) (λ (now : Option (List ℕ)). IsLeft (btf_of types) old now)))
+            stored (d.kept held files types m),
+      ),
+    )
+fails_end limits words before middle after status j Memory heard w d s is three = absurd (omega arith)
+
+fails_at :
+    (limits : Limits) (words : Result Job UsageFault) (before middle after : Meaning) (status : ℕ) (o : Outcome)
+    (heard : Result (Unit {0}) Failed)
+    → Ran limits words before middle o → Says middle after (line_at o) heard → status ≡ status_at o → status ≡ 3
+    → Fails words before after
+fails_at limits words before middle after status (NoJob u) heard ran s is three = absurd (omega arith)
+fails_at limits words before middle after status NoMemory heard ran s is three = absurd (omega arith)
+fails_at limits words before middle after status (Did j (Ok u)) heard ran s is three = absurd (omega arith)
+fails_at limits words before middle after status (Did j (Err e)) heard ran s is three =
+    fails_end limits words before middle after status j e heard ran.0 ran.1 s is three
+
+pub fails_of :
+    (limits : Limits) (words : Result Job UsageFault) (before after : Meaning) (status : ℕ)
+    → Runs limits words before after status → status ≡ 3 → Fails words before after
+fails_of limits words before after status r three =
+    fails_at limits words before r.middle after status r.outcome r.heard r.ran r.said r.is three
+
+-- what stays, but for the complaint
+record KeepsSoFar (words : Result Job UsageFault) (before after : Meaning) (status : ℕ) : Type 0 where
+  printed : after.printed ≡ before.printed
+  prints : after.prints ≡ before.prints
+  counts : status ≢ 3 → (after.loads ≡ before.loads) × (after.stores ≡ before.stores)
+  stored : status ≢ 0 → status ≢ 3 → after.stored ≡ before.stored
+  calls : (job : Job) → words ≡ Ok job → CalledAtMost (length job.files + 1) before.calls after.calls
+  no_calls : (u : UsageFault) → words ≡ Err u → after.calls ≡ before.calls
+
+keeps_at :
+    (limits : Limits) (words : Result Job UsageFault) (before middle : Meaning) (status : ℕ) (o : Outcome)
+    → Ran limits words before middle o → status ≡ status_at o → KeepsSoFar words before middle status
+keeps_at limits words before middle status (NoJob u) ran is =
+    record {
+      printed = ap (λ (m : Meaning). m.printed) ran.1;
+      prints = ap (λ (m : Meaning). m.prints) ran.1;
+      counts = λ ne. (ap (λ (m : Meaning). m.loads) ran.1, ap (λ (m : Meaning). m.stores) ran.1);
+      stored = λ nz ne. ap (λ (m : Meaning). m.stored) ran.1;
+      calls = λ job v. absurd (cc (ran.0, v));
+      no_calls = λ v e. ap (λ (m : Meaning). m.calls) ran.1;
+    }
+keeps_at limits words before middle status NoMemory ran is =
+    record {
+      printed = ap (λ (m : Meaning). m.printed) ran;
+      prints = ap (λ (m : Meaning). m.prints) ran;
+      counts = λ ne. (ap (λ (m : Meaning). m.loads) ran, ap (λ (m : Meaning). m.stores) ran);
+      stored = λ nz ne. ap (λ (m : Meaning). m.stored) ran;
+      calls = λ job v c e. (c, ap (λ (m : Meaning). m.calls) ran ∙ e, omega arith);
+      no_calls = λ v e. ap (λ (m : Meaning). m.calls) ran;
+    }
+keeps_at limits words before middle status (Did j r) ran is =
+    record {
+      printed = ap (λ (m : Meaning). m.printed) ran.1.rest;
+      prints = ap (λ (m : Meaning). m.prints) ran.1.rest;
+      counts = counts_at before middle status j r ran.1.cause is;
+      stored = stored_at before middle status j r ran.1.unstored is;
+      calls =
+          λ job v.
+          let same : j ≡ job = cc (ran.0, v) in
+          subst (λ (k : Job). CalledAtMost (length k.files + 1) before.calls middle.calls) same ran.1.calls;
+      no_calls = λ v e. absurd (cc (ran.0, e));
+    }
+
+pub keeps_of :
+    (limits : Limits) (words : Result Job UsageFault) (before after : Meaning) (status : ℕ)
+    → Runs limits words before after status → Keeps words before after status
+keeps_of limits words before after status r =
+    let k : KeepsSoFar words before r.middle status = keeps_at limits words before r.middle status r.outcome r.ran r.is in
+    let from : after ≡ record r.middle { complained = after.complained; complaints = after.complaints } = r.said.only.0 in
+    record {
+      printed = ap (λ (m : Meaning). m.printed) from ∙ k.printed;
+      prints = ap (λ (m : Meaning). m.prints) from ∙ k.prints;
+      counts = λ ne. (ap (λ (m : Meaning). m.loads) from ∙ (k.counts ne).0, ap (λ (m : Meaning). m.stores) from ∙ (k.counts ne).1);
+      stored = λ nz ne. ap (λ (m : Meaning). m.stored) from ∙ k.stored nz ne;
+      calls =
+          λ job v.
+          subst (λ (o : Option ℕ). CalledAtMost (length job.files + 1) before.calls o)
+          (sym (ap (λ (m : Meaning). m.calls) from)) (k.calls job v);
+      no_calls = λ v e. ap (λ (m : Meaning). m.calls) from ∙ k.no_calls v e;
+      silent =
+          λ zero. (
+            ap (λ (m : Meaning). m.complained) (r.quiet zero) ∙ (uncomplained limits words before r.middle r.outcome r.ran).0,
+            ap (λ (m : Meaning). m.complaints) (r.quiet zero) ∙ (uncomplained limits words before r.middle r.outcome r.ran).1,
+          );
+      memory = memory_at limits words before r.middle after status r.outcome r.heard r.ran r.said r.is;
+    }

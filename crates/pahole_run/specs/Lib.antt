@@ -1,0 +1,12 @@
+pub mod Words
+pub mod Plain
+pub mod Merging
+pub mod Merged
+pub mod Btf
+pub mod Layers
+pub mod Refusals
+pub mod Said
+pub mod Line
+pub mod Steps
+pub mod Run
+pub mod Promises

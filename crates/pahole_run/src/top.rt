@@ -1,0 +1,91 @@
+//! A run.
+ghost use Rattle.std.specs.Prelude.{◌≡◌, ◌<◌, ◌^◌, length, map, string_bytes, Ok};
+ghost use Rattle.pahole_run.specs.Words.{job_of_words};
+ghost use Rattle.pahole_run.specs.Promises.{Succeeds, Refuses, Fails, RefusesWords, HasCause, Keeps, IsComplete};
+ghost use Rattle.pahole_run.specs.Run.{Runs, Unworded};
+
+use crate::complaint::{say_end, say_memory, say_usage};
+use crate::job::{Job, JobFault};
+use crate::scan::job_of;
+use crate::steps::do_job;
+use dw_base::Limits;
+use std::alloc::Global;
+use std::thread::Threads;
+use world_io::{Gate, World};
+
+/// Does all that the program does: it reads the job of the words after the program's name, loads the files, and
+/// stores the BTF of their types. It answers the exit status.
+pub fn run<R: Threads + Sync, W: World, G: Gate>(
+    rt: &R,
+    alloc: Global,
+    world: &mut W,
+    gate: &G,
+    limits: Limits,
+    words: &[String],
+) -> u8
+    requires { (limits.file_bytes < 2 ^ 32) × (limits.all_bytes < 2 ^ 32) }
+    ensures done { result ≡ 0 → Succeeds limits (job_of_words (map string_bytes words.now)) (W.meaning world.old) (W.meaning world.new) }
+    ensures refused { result ≡ 1 → Refuses limits (job_of_words (map string_bytes words.now)) (W.meaning world.old) (W.meaning world.new) }
+    ensures usage { RefusesWords (job_of_words (map string_bytes words.now)) (W.meaning world.old) (W.meaning world.new) result }
+    ensures failed { result ≡ 3 → Fails (job_of_words (map string_bytes words.now)) (W.meaning world.old) (W.meaning world.new) }
+    ensures cause { result ≡ 3 → HasCause limits (job_of_words (map string_bytes words.now)) (W.meaning world.old) (W.meaning world.new) }
+    ensures keeps { Keeps (job_of_words (map string_bytes words.now)) (W.meaning world.old) (W.meaning world.new) result }
+    ensures complete { IsComplete limits (job_of_words (map string_bytes words.now)) (W.meaning world.old) (W.meaning world.new) result }
+{
+    let _ = rt;
+    run_words(alloc, world, gate, limits, words)
+}
+
+/// The same, by what came of the words.
+fn run_words<W: World, G: Gate>(
+    alloc: Global,
+    world: &mut W,
+    gate: &G,
+    limits: Limits,
+    words: &[String],
+) -> u8
+    requires { (limits.file_bytes < 2 ^ 32) × (limits.all_bytes < 2 ^ 32) }
+    ensures { Runs limits (job_of_words (map string_bytes words.now)) (W.meaning world.old) (W.meaning world.new) result }
+{
+    match job_of(alloc, words) {
+        Ok(job) => run_job(alloc, world, gate, limits, &job),
+        Err(fault) => refuse_words(world, fault),
+    }
+}
+
+/// Complains why the words give no job.
+fn refuse_words<W: World>(world: &mut W, fault: JobFault) -> u8
+    ensures { Unworded fault (W.meaning world.old) (W.meaning world.new) result }
+{
+    match fault {
+        JobFault::Usage(usage) => {
+            let _ = say_usage(world, usage);
+            2
+        }
+        JobFault::Memory => {
+            let _ = say_memory(world);
+            4
+        }
+    }
+}
+
+/// Does a job, and answers the status.
+fn run_job<W: World, G: Gate>(
+    alloc: Global,
+    world: &mut W,
+    gate: &G,
+    limits: Limits,
+    job: &Job,
+) -> u8
+    requires bytes { (limits.file_bytes < 2 ^ 32) × (limits.all_bytes < 2 ^ 32) }
+    requires few { length job.now.files < 2 ^ 32 }
+    ensures { Runs limits (Ok job.now) (W.meaning world.old) (W.meaning world.new) result }
+{
+    match do_job(alloc, world, gate, limits, job) {
+        Ok(()) => 0,
+        Err(ended) => {
+            let _ = say_end(world, job, &ended);
+            ended.status()
+        }
+    }
+}

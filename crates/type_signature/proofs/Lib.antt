@@ -1,0 +1,4 @@
+pub mod Codes
+pub mod Counting
+pub mod Taking
+pub mod Marks
