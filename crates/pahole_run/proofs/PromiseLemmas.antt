@@ -1,7 +1,6 @@
 -- What a run promises follows from how it ends.
-use Rattle.std.proofs.Common.{◌≡◌, ◌≢◌, ◌+◌, ◌<◌, ◌≤◌, ◌⊎◌, ◌++◌, List, [], ℕ, Ok, Err, Result, refl, sym, ap, ◌∙◌, subst, arith, length, Option, None, Some, inl, inr, ⊎_elim, IsOk, OnOk, IsSome, IfSome}
-use Rattle.std.specs.Option.{ForSome, option_map, IsSomeAnd}
-use Rattle.std.specs.Io.{StartsWith}
+use Rattle.std.proofs.Common.{◌≡◌, ◌≢◌, ◌+◌, ◌<◌, ◌≤◌, ◌⊎◌, ◌++◌, List, ℕ, Ok, Err, Result, refl, sym, ap, ◌∙◌, subst, arith, length, Option, None, Some, inl, inr, ⊎_elim, IsOk, OnOk, IsSome, IfSome}
+use Rattle.std.specs.Option.{ForSome, option_map}
 use Rattle.dw_base.specs.declared.places.Limits.{Limits}
 use Rattle.world_io.specs.Meaning.{Meaning}
 use Rattle.world_io.specs.Calls.{Rose, raised, under, IsLeft}
@@ -10,7 +9,6 @@ use Rattle.world_io.specs.declared.files.HeldFile.{HeldFile}
 use Rattle.pahole_run.specs.declared.job.Job.{Job}
 use Rattle.pahole_run.specs.declared.job.UsageFault.{UsageFault}
 use Rattle.pahole_run.specs.declared.refusal.Fault.{Fault}
-use Rattle.pahole_run.specs.declared.refusal.Refusal.{Refusal}
 use Rattle.pahole_run.specs.declared.refusal.Refusal.TheVariants.{Missing, Fault as Numbered}
 use Rattle.pahole_run.specs.declared.refusal.Ended.{Ended}
 use Rattle.pahole_run.specs.declared.refusal.Ended.TheVariants.{Refused, Read, Store, Memory}
@@ -19,7 +17,7 @@ use Rattle.c_model.specs.declared.graph.CType.{CType}
 use Rattle.pahole_run.specs.Merged.{TheTable}
 use Rattle.pahole_run.specs.Btf.{btf_of}
 use Rattle.pahole_run.specs.Refusals.{first_refusal, contents, nodes_of, MergeTo}
-use Rattle.pahole_run.specs.Said.{Gained, Says, OnlyComplains}
+use Rattle.pahole_run.specs.Said.{Gained, Says}
 use Rattle.pahole_run.specs.Steps.{Done, Cause, CalledAtMost, Counted, Holds, Unstored}
 use Rattle.pahole_run.specs.Run.{Outcome, Ran, Runs, status_at, line_at}
 use Rattle.pahole_run.specs.Run.Outcome.{NoJob, NoMemory, Did}
