@@ -1,10 +1,9 @@
 -- A job from its steps.
-use Rattle.std.proofs.Common.{◌≡◌, ◌≢◌, ◌+◌, ◌<◌, ◌≤◌, ◌++◌, ◌⊎◌, List, [], ◌∷◌, ℕ, suc, Ok, Err, Result, ap, ◌∙◌, sym, map, drop, length, subst, arith, refl, Option, None, Some, IfSome, OnOk, inl, inr}
-use Rattle.std.specs.Option.{option_map, option_or, IsSomeAnd, ForSome}
+use Rattle.std.proofs.Common.{◌≡◌, ◌+◌, ◌≤◌, List, ℕ, Ok, Err, Result, ap, ◌∙◌, sym, length, subst, arith, refl, Option, None, Some, IfSome, OnOk}
+use Rattle.std.specs.Option.{option_map, option_or, ForSome}
 use Rattle.std.specs.Global.{Vec}
-use Rattle.std.specs.Io.{StartsWith}
 use Rattle.dw_base.specs.declared.places.Limits.{Limits}
-use Rattle.world_io.specs.Meaning.{Meaning, file_of}
+use Rattle.world_io.specs.Meaning.{Meaning}
 use Rattle.world_io.specs.Calls.{Rose, Stores, raised, under, IsLeft}
 use Rattle.world_io.specs.declared.files.HeldFile.{HeldFile}
 use Rattle.world_io.specs.declared.fault.OutFault.{OutFault}
@@ -19,7 +18,7 @@ use Rattle.c_model.specs.declared.graph.CType.{CType}
 use Rattle.pahole_run.specs.Merged.{AreMerged, TheTable}
 use Rattle.pahole_run.specs.Btf.{btf_of, IsSpelled}
 use Rattle.pahole_run.specs.Refusals.{load_refusal, contents, nodes_of, first, file_checks, first_refusal, MergeTo}
-use Rattle.pahole_run.specs.Steps.{LoadsAll, OnlyLoads, CalledAtMost, Counted, EndsAt, IsLoadEnd, Cause, Tells, IsOwn, Begins, Kept, Unstored, Holds, StoresOut, IsStoreEnd, Makes, Done}
+use Rattle.pahole_run.specs.Steps.{LoadsAll, OnlyLoads, CalledAtMost, Counted, EndsAt, IsLoadEnd, Cause, Tells, IsOwn, Kept, Unstored, Holds, StoresOut, IsStoreEnd, Makes, Done}
 use Rattle.pahole_run.proofs.LoadLemmas.{called_within, called_once, part_told}
 
 -- one store

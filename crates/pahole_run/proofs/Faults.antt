@@ -1,5 +1,5 @@
 -- A fault that is passed on.
-use Rattle.std.proofs.Common.{◌≡◌, Result, Ok, Err}
+use Rattle.std.proofs.Common.{◌≡◌, Result, Err}
 use Rattle.pahole_run.specs.declared.plain.PlainFault.{PlainFault}
 use Rattle.pahole_run.specs.declared.plain.PlainFault.TheVariants.{NotElf, NotYet, Memory}
 use Rattle.pahole_run.specs.Plain.{Fails}

@@ -1,17 +1,16 @@
 -- The coarsest agreeing partition of INTs, and the table that it makes.
-use Rattle.std.proofs.Common.{◌≡◌, ◌≢◌, ◌↔◌, ◌<◌, ◌≤◌, ◌+◌, ◌⊎◌, ◌&&◌, ◌||◌, ℕ, suc, zero, Bool, true, false, List, [], ◌∷◌, ◌++◌, Option, None, Some, map, length, get_or, refl, sym, ◌∙◌, ap, subst, arith, eqb, ltb, ⊎_elim, inl, inr, if◌then◌else◌, nat_eq}
-use Rattle.std.specs.List.{position_or_len, list_any, slice_get, AllByRecursion, Contains}
-use Rattle.std.specs.Option.{option_map, option_map_or, option_and_then}
+use Rattle.std.proofs.Common.{◌≡◌, ◌≢◌, ◌↔◌, ◌<◌, ◌≤◌, ◌+◌, ◌&&◌, ◌||◌, ℕ, suc, zero, Bool, true, false, List, [], ◌∷◌, ◌++◌, Option, None, Some, map, length, get_or, refl, sym, ◌∙◌, ap, subst, arith, ltb, ⊎_elim, if◌then◌else◌, nat_eq}
+use Rattle.std.specs.List.{position_or_len, list_any, slice_get}
+use Rattle.std.specs.Option.{option_map, option_map_or}
 use Rattle.std.specs.Str.{bytes_eq}
-use Rattle.std.proofs.lemmas.Bool.{eqb-true, eq-eqb, true≢false, cases_lt, cases_order, ne_eqb, both_ways, and_parts, le-ltb, lt-ltb}
+use Rattle.std.proofs.lemmas.Bool.{eqb-true, eq-eqb, cases_lt, cases_order, both_ways, and_parts, le-ltb, lt-ltb}
 use Rattle.std.proofs.lemmas.List.{append-nil, append_assoc, get_or_past, length-map}
 use Rattle.std.proofs.lemmas.List.Folds.{list_any-append}
 use Rattle.std.proofs.lemmas.List.Sums.{passes_at_first, fails_before_first}
 use Rattle.std.proofs.lemmas.Option.{get_or_from_slice_get}
 use Rattle.btf_strings.proofs.Noting.{bytes_eq_same, bytes_eq_true}
-use Rattle.c_model.specs.Graph.{Shape}
-use Rattle.c_model.specs.Partition.{label_at, targets_at, classes_of, target_by, AreAlike, Agrees, Refines, IsCoarsest}
-use Rattle.c_model.specs.Forwards.{Tag, declared_tag, declaration_at, forward_at, definitions_in, IsOpen, IsIndexOf, IsOpenForward, IsForwardIndex, HasFittingForwards, IsCoarsestWith}
+use Rattle.c_model.specs.Partition.{label_at, targets_at, classes_of, target_by, Agrees, IsCoarsest}
+use Rattle.c_model.specs.Forwards.{Tag, declared_tag, declaration_at, forward_at, definitions_in, IsIndexOf, IsForwardIndex, HasFittingForwards, IsCoarsestWith}
 use Rattle.c_model.specs.Unfolding.{Tree, unfold_at, unfold_id, unfold_with, stand, stands_for}
 use Rattle.c_model.specs.declared.label.Label.{Label}
 use Rattle.c_model.specs.declared.label.Part.{Part}
@@ -20,7 +19,7 @@ use Rattle.c_model.specs.declared.graph.Ref.{Ref}
 use Rattle.c_model.proofs.Coarsest.{nothing_open_is_plain}
 use Rattle.c_model.proofs.Licences.{cases_nil}
 use Rattle.pahole_run.specs.Merging.{IsInt, AreInts, is_same_int, is_same, with_type, merged}
-use Rattle.pahole_run.specs.Merged.{graph_of, first_of, firsts_below, place_of, id_of, renamed, type_of, types_of_nodes, table_of, IsTableOf, AreMerged, Represents, TheTable}
+use Rattle.pahole_run.specs.Merged.{graph_of, first_of, firsts_below, place_of, renamed, type_of, types_of_nodes, table_of, IsTableOf, AreMerged, Represents, TheTable}
 use Rattle.pahole_run.proofs.Classes.{first_of-le, first_of-below, first_of-class, first_of-same, first_of-first_of, same_place, one_class, type_kept, type_passed, type_at}
 
 -- labels

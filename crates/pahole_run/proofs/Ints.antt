@@ -1,13 +1,13 @@
 -- The types of plain files are INTs.
-use Rattle.std.proofs.Common.{◌≡◌, ◌≢◌, ◌+◌, ◌*◌, ◌<◌, ◌≤◌, ◌^◌, ◌++◌, ◌&&◌, ◌||◌, List, [], ◌∷◌, ℕ, zero, suc, Bool, true, false, Option, None, Some, Result, Ok, Err, refl, sym, ap, ◌∙◌, subst, arith, rules, cond, eqb, if◌then◌else◌, drop, is_none, get_or, length, nat_eq, nat_le, ⊎_elim, ◌⊎◌, inl, inr}
+use Rattle.std.proofs.Common.{◌≡◌, ◌≢◌, ◌+◌, ◌*◌, ◌<◌, ◌≤◌, ◌^◌, ◌++◌, ◌&&◌, ◌||◌, List, [], ◌∷◌, ℕ, Bool, true, false, Option, None, Some, Result, Ok, Err, refl, sym, ap, subst, arith, eqb, if◌then◌else◌, drop, is_none, get_or, length, nat_eq, nat_le, ⊎_elim, ◌⊎◌, inl, inr}
 use Rattle.std.specs.Prelude.{option_and_then}
 use Rattle.std.specs.Option.{option_map}
 use Rattle.std.specs.Result.{result_unwrap_or}
-use Rattle.std.specs.List.{flat_map, list_all, AllByRecursion}
+use Rattle.std.specs.List.{AllByRecursion}
 use Rattle.std.proofs.lemmas.Bool.{eqb-true, or_cases}
 use Rattle.std.proofs.lemmas.List.Elements.{All-from_recursion}
 use Rattle.dw_base.specs.Texts.{text_from, text_of}
-use Rattle.dw_base.specs.Collect.{collect, Chain}
+use Rattle.dw_base.specs.Collect.{Chain}
 use Rattle.dw_base.proofs.Chains.{sound}
 use Rattle.c_model.specs.Kinds.{HasNoNul}
 use Rattle.c_model.specs.declared.graph.CType.{CType}

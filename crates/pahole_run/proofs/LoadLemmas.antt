@@ -1,5 +1,5 @@
 -- Loading file by file.
-use Rattle.std.proofs.Common.{◌≡◌, ◌≢◌, ◌+◌, ◌-◌, ◌^◌, ◌<◌, ◌≤◌, ◌++◌, List, [], ◌∷◌, ℕ, suc, Ok, Err, Result, ap, ◌∙◌, sym, map, drop, take, get_or, length, drop-cons, subst, arith, refl, Option, None, Some, Bool, true, false, IfSome, append_assoc, length-append, if◌then◌else◌, IsSome, unwrap_or}
+use Rattle.std.proofs.Common.{◌≡◌, ◌≢◌, ◌+◌, ◌-◌, ◌^◌, ◌<◌, ◌≤◌, ◌++◌, List, [], ◌∷◌, ℕ, suc, Ok, Err, Result, ap, ◌∙◌, sym, drop, get_or, length, drop-cons, subst, arith, refl, Option, None, Some, Bool, true, false, IfSome, append_assoc, length-append, if◌then◌else◌, IsSome, unwrap_or}
 use Rattle.std.specs.Option.{IsSomeAnd, ForSome, option_or}
 use Rattle.std.specs.Global.{Vec}
 use Rattle.std.proofs.lemmas.Bool.{le-ltb, lt-ltb}
@@ -8,7 +8,7 @@ use Rattle.dw_base.specs.declared.places.Section.TheVariants.{Image}
 use Rattle.std.specs.Option.{option_map}
 use Rattle.dw_base.specs.declared.places.Limits.{Limits}
 use Rattle.world_io.specs.Meaning.{Meaning, file_of}
-use Rattle.world_io.specs.Calls.{Rose, Loads, raised, IsMissing}
+use Rattle.world_io.specs.Calls.{Rose, Loads, raised}
 use Rattle.world_io.specs.declared.files.HeldFile.{HeldFile}
 use Rattle.world_io.specs.declared.fault.LoadFault.{LoadFault}
 use Rattle.world_io.specs.declared.fault.LoadFault.TheVariants.{Failed as LoadFailed, Missing as LoadMissing, TooLarge, Memory as LoadMemory}

@@ -1,27 +1,23 @@
 -- The names and the words of integers.
-use Rattle.std.proofs.Common.{◌≡◌, ◌+◌, ◌-◌, ◌*◌, ◌<◌, ◌≤◌, ◌++◌, ◌⊎◌, ◌&&◌, ℕ, zero, suc, Bool, true, false, List, [], ◌∷◌, Option, None, Some, Result, Ok, Err, map, length, take, drop, get_or, refl, sym, ◌∙◌, ap, subst, arith, ⊎_elim, inl, inr, if◌then◌else◌, drop-cons, IsSome, is_none, nat_lt, All}
+use Rattle.std.proofs.Common.{◌≡◌, ◌+◌, ◌*◌, ◌<◌, ◌++◌, ℕ, zero, suc, Bool, true, false, List, [], ◌∷◌, Option, None, Some, Ok, Err, map, length, take, drop, get_or, refl, sym, ◌∙◌, ap, subst, arith, inl, inr, if◌then◌else◌, drop-cons, IsSome, All}
 use Rattle.std.specs.List.{flat_map, AllByRecursion}
 use Rattle.std.specs.Option.{option_map}
 use Rattle.std.proofs.lemmas.Grind.{flat_map-append}
-use Rattle.std.proofs.lemmas.List.{append-nil, take_more, take_all, drop_all, length-append}
+use Rattle.std.proofs.lemmas.List.{take_more, take_all, drop_all, length-append}
 use Rattle.std.proofs.lemmas.List.Elements.{All-from_recursion}
 use Rattle.btf_strings.specs.Names.{Names, offset_of, next_offset, with_name, own_names, own_section, first_places}
 use Rattle.btf_strings.proofs.Listed.{listed_after}
 use Rattle.btf_strings.proofs.Offsets.{offset_kept}
-use Rattle.btf_strings.specs.declared.fault.StringsFault.TheVariants.{Full}
-use Rattle.btf_codec.specs.Fields.{fields_of, rest_by, layout_of, info_of}
+use Rattle.btf_codec.specs.Fields.{fields_of, rest_by, layout_of}
 use Rattle.btf_codec.specs.Spells.{Spells}
 use Rattle.btf_codec.specs.Spelling.{HasOffset, HasOffsets, spelling_of, base_of}
 use Rattle.dw_base.specs.declared.numbers.Order.TheVariants.{Little}
-use Rattle.c_model.specs.Graph.{IsBelow, RefersWithin}
 use Rattle.c_model.specs.Kinds.{IsWellFormed, plain_row, word}
 use Rattle.c_model.specs.declared.label.Part.{Part}
 use Rattle.c_model.specs.declared.graph.CType.{CType}
 use Rattle.pahole_run.specs.declared.fault.TableFault.TheVariants.{NamesTooLong}
-use Rattle.pahole_run.specs.declared.refusal.Refusal.{Refusal}
 use Rattle.pahole_run.specs.declared.refusal.Ended.{Ended}
-use Rattle.pahole_run.specs.declared.refusal.Ended.TheVariants.{Refused, Read, Store, Memory}
-use Rattle.pahole_run.specs.Layers.{of_strings, of_table, seen_as, numbered}
+use Rattle.pahole_run.specs.Layers.{of_table, seen_as}
 use Rattle.pahole_run.specs.Merging.{IsInt, AreInts}
 use Rattle.pahole_run.specs.Btf.{names_of_type, names_in, strings_of, no_strings, is_far, far_name, names_refusal, btf_of, IsSpelled}
 use Rattle.pahole_run.specs.Steps.{Tells, IsOwn, PutsName}

@@ -1,7 +1,7 @@
 -- Lists read two by two.
-use Rattle.std.proofs.Common.{◌≡◌, ℕ, zero, suc, ◌+◌, ◌-◌, ◌*◌, ◌/◌, ◌<◌, ◌≤◌, ◌⊎◌, List, [], ◌∷◌, drop, get_or, length, Bool, true, false, if◌then◌else◌, ◌&&◌, Option, None, Some, refl, sym, ap, ◌∙◌, arith, rules, inl, inr, subst}
+use Rattle.std.proofs.Common.{◌≡◌, ℕ, ◌+◌, ◌*◌, ◌/◌, ◌<◌, ◌≤◌, ◌⊎◌, List, [], ◌∷◌, drop, get_or, length, true, false, ◌&&◌, Option, None, Some, refl, sym, ap, ◌∙◌, arith, rules, inl, inr}
 use Rattle.std.specs.Option.{option_map}
-use Rattle.std.specs.Prelude.{option_and_then, nat_eq, nat_lt, ◌==◌}
+use Rattle.std.specs.Prelude.{nat_eq, nat_lt}
 use Rattle.std.proofs.lemmas.List.{drop_more, length-drop}
 use Rattle.pahole_run.specs.Plain.{pairs_from, is_plain_form, value_end, values_end, value_of}
 

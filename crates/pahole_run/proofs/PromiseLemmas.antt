@@ -1,7 +1,6 @@
 -- What a run promises follows from how it ends.
-use Rattle.std.proofs.Common.{◌≡◌, ◌≢◌, ◌+◌, ◌<◌, ◌≤◌, ◌⊎◌, ◌++◌, List, [], ℕ, Ok, Err, Result, refl, sym, ap, ◌∙◌, subst, arith, length, Option, None, Some, inl, inr, IsOk, OnOk, IsSome, IfSome}
-use Rattle.std.specs.Option.{ForSome, option_map, IsSomeAnd}
-use Rattle.std.specs.Io.{StartsWith}
+use Rattle.std.proofs.Common.{◌≡◌, ◌≢◌, ◌+◌, ◌<◌, ◌≤◌, ◌⊎◌, ◌++◌, List, ℕ, Ok, Err, Result, refl, sym, ap, ◌∙◌, subst, arith, length, Option, None, Some, inl, inr, ⊎_elim, IsOk, OnOk, IsSome, IfSome}
+use Rattle.std.specs.Option.{ForSome, option_map}
 use Rattle.dw_base.specs.declared.places.Limits.{Limits}
 use Rattle.world_io.specs.Meaning.{Meaning}
 use Rattle.world_io.specs.Calls.{Rose, raised, under, IsLeft}
@@ -10,7 +9,6 @@ use Rattle.world_io.specs.declared.files.HeldFile.{HeldFile}
 use Rattle.pahole_run.specs.declared.job.Job.{Job}
 use Rattle.pahole_run.specs.declared.job.UsageFault.{UsageFault}
 use Rattle.pahole_run.specs.declared.refusal.Fault.{Fault}
-use Rattle.pahole_run.specs.declared.refusal.Refusal.{Refusal}
 use Rattle.pahole_run.specs.declared.refusal.Refusal.TheVariants.{Missing, Fault as Numbered}
 use Rattle.pahole_run.specs.declared.refusal.Ended.{Ended}
 use Rattle.pahole_run.specs.declared.refusal.Ended.TheVariants.{Refused, Read, Store, Memory}
@@ -19,11 +17,11 @@ use Rattle.c_model.specs.declared.graph.CType.{CType}
 use Rattle.pahole_run.specs.Merged.{TheTable}
 use Rattle.pahole_run.specs.Btf.{btf_of}
 use Rattle.pahole_run.specs.Refusals.{first_refusal, contents, nodes_of, MergeTo}
-use Rattle.pahole_run.specs.Said.{Gained, Says, OnlyComplains}
+use Rattle.pahole_run.specs.Said.{Gained, Says}
 use Rattle.pahole_run.specs.Steps.{Done, Cause, CalledAtMost, Counted, Holds, Unstored}
 use Rattle.pahole_run.specs.Run.{Outcome, Ran, Runs, status_at, line_at}
 use Rattle.pahole_run.specs.Run.Outcome.{NoJob, NoMemory, Did}
-use Rattle.pahole_run.specs.Promises.{NoFault, Complained, Encodes, Succeeds, Refuses, Fails, HasCause, IsComplete, RefusesWords, Keeps}
+use Rattle.pahole_run.specs.Promises.{NoFault, Complained, Encodes, Succeeds, Refuses, IsFirstMissing, CannotRead, CannotStore, Fails, IsComplete, RefusesWords, Keeps}
 
 -- the job of the words is one
 of_job :
@@ -194,42 +192,6 @@ some_is : (o : Option (List HeldFile)) → IsSome o → (x : List HeldFile) × (
 some_is None h = absurd (cc)
 some_is (Some x) h = (x, refl)
 
-cause_end :
-    (limits : Limits) (words : Result Job UsageFault) (before middle : Meaning) (status : ℕ) (j : Job) (e : Ended)
-    → words ≡ Ok j → Done limits j before middle (Err e) → status ≡ status_of e → status ≡ 3
-    → HasCause limits words before middle
-cause_end limits words before middle status j (Refused (Missing i)) w d is three =
-    let told : (x : List HeldFile) × (before.files ≡ Some x) = some_is before.files d.cause.2 in
-    inr (inr (j, i, told.0, w, told.1, d.told told.0 told.1))
-cause_end limits words before middle status j (Refused (Numbered f)) w d is three = absurd (omega arith)
-cause_end limits words before middle status j (Read i) w d is three = inl d.cause.0
-cause_end limits words before middle status j Store w d is three = inr (inl d.cause.1)
-cause_end limits words before middle status j Memory w d is three = absurd (omega arith)
-
-cause_at :
-    (limits : Limits) (words : Result Job UsageFault) (before middle : Meaning) (status : ℕ) (o : Outcome)
-    → Ran limits words before middle o → status ≡ status_at o → status ≡ 3 → HasCause limits words before middle
-cause_at limits words before middle status (NoJob u) ran is three = absurd (omega arith)
-cause_at limits words before middle status NoMemory ran is three = absurd (omega arith)
-cause_at limits words before middle status (Did j (Ok u)) ran is three = absurd (omega arith)
-cause_at limits words before middle status (Did j (Err e)) ran is three =
-    cause_end limits words before middle status j e ran.0 ran.1 is three
-
-pub cause_of :
-    (limits : Limits) (words : Result Job UsageFault) (before after : Meaning) (status : ℕ)
-    → Runs limits words before after status → status ≡ 3 → HasCause limits words before after
-cause_of limits words before after status r three =
-    let loads : r.middle.loads ≡ after.loads = sym (ap (λ (w : Meaning). w.loads) r.said.only.0) in
-    let stores : r.middle.stores ≡ after.stores = sym (ap (λ (w : Meaning). w.stores) r.said.only.0) in
-    elim (cause_at limits words before r.middle status r.outcome r.ran r.is three) [
-      | inl rose ↦ inl (subst (λ (n : ℕ). Rose before.loads n) loads rose)
-      | inr other ↦
-          elim other [
-            | inl rose ↦ inr (inl (subst (λ (n : ℕ). Rose before.stores n) stores rose))
-            | inr missing ↦ inr (inr missing)
-          ]
-    ]
-
 words_at :
     (limits : Limits) (words : Result Job UsageFault) (before middle after : Meaning) (status : ℕ) (o : Outcome)
     (heard : Result (Unit {0}) Failed)
@@ -323,58 +285,67 @@ uncomplained limits words before middle NoMemory ran =
 uncomplained limits words before middle (Did j r) ran =
     (ap (λ (m : Meaning). m.complained) ran.1.rest, ap (λ (m : Meaning). m.complaints) ran.1.rest)
 
+-- what a failed load leaves, and why it failed
+read_end :
+    (limits : Limits) (before middle after : Meaning) (j : Job) (e : Ended) (i : ℕ) (heard : Result (Unit {0}) Failed)
+    → Done limits j before middle (Err e) → Says middle after (read_line j.files i) heard
+    → Rose before.loads middle.loads ⊎ IsFirstMissing limits j i before → middle.stored ≡ before.stored
+    → Counted (i + 1) before.calls middle.calls → CannotRead limits j before after
+read_end limits before middle after j e i heard d s cause stored counted =
+    record {
+      file = i;
+      cause =
+          ⊎_elim (λ rose. inl (subst (λ (n : ℕ). Rose before.loads n) (sym (ap (λ (m : Meaning). m.loads) s.only.0)) rose)) (λ missing. inr missing) cause;
+      complained =
+          complained_of (read_line j.files i) before middle after heard (ap (λ (m : Meaning). m.complained) d.rest)
+          (ap (λ (m : Meaning). m.complaints) d.rest) s;
+      stored = ap (λ (m : Meaning). m.stored) s.only.0 ∙ stored;
+      calls = subst (λ (o : Option ℕ). Counted (i + 1) before.calls o) (sym (ap (λ (m : Meaning). m.calls) s.only.0)) counted;
+    }
+
+-- what a failed store leaves
+store_end :
+    (limits : Limits) (before middle after : Meaning) (j : Job) (heard : Result (Unit {0}) Failed)
+    → Done limits j before middle (Err Store) → Says middle after (store_line j.out) heard → CannotStore limits j before after
+store_end limits before middle after j heard d s =
+    let stored : middle.stored ≡ after.stored = sym (ap (λ (m : Meaning). m.stored) s.only.0) in
+    record {
+      cause = subst (λ (n : ℕ). Rose before.stores n) (sym (ap (λ (m : Meaning). m.stores) s.only.0)) d.cause.1;
+      complained =
+          complained_of (store_line j.out) before middle after heard (ap (λ (m : Meaning). m.complained) d.rest)
+          (ap (λ (m : Meaning). m.complaints) d.rest) s;
+      others = λ q ne. ap (under q) (sym stored) ∙ d.others q ne;
+      part =
+          λ held files types m.
+          subst
+          (λ (o : Option (List HeldFile)).
+          IfSome (under j.out before.stored)
+          (λ (old : Option (List ℕ)).
+          IfSome (under j.out o) (λ (now : Option (List ℕ)). IsLeft (btf_of types) old now)))
+          stored (d.kept held files types m);
+    }
+
 fails_end :
     (limits : Limits) (words : Result Job UsageFault) (before middle after : Meaning) (status : ℕ) (j : Job) (e : Ended)
     (heard : Result (Unit {0}) Failed)
     → words ≡ Ok j → Done limits j before middle (Err e) → Says middle after (line_of j e) heard
-    → status ≡ status_of e → status ≡ 3 → Fails words before after
-fails_end limits words before middle after status j (Refused (Missing i)) heard w d s is three = (
-  j,
-  w,
-  inl (
-    i,
-    complained_of (read_line j.files i) before middle after heard (ap (λ (m : Meaning). m.complained) d.rest)
-        (ap (λ (m : Meaning). m.complaints) d.rest) s,
-    ap (λ (m : Meaning). m.stored) s.only.0 ∙ d.unstored,
-    subst (λ (o : Option ℕ). Counted (i + 1) before.calls o) (sym (ap (λ (m : Meaning). m.calls) s.only.0)) d.exact,
-  ),
-)
+    → status ≡ status_of e → status ≡ 3 → Fails limits words before after
+fails_end limits words before middle after status j (Refused (Missing i)) heard w d s is three =
+    let told : (x : List HeldFile) × (before.files ≡ Some x) = some_is before.files d.cause.2 in
+    let missing : IsFirstMissing limits j i before = (told.0, told.1, λ types m. d.told told.0 told.1 types m) in
+    (j, w, inl (read_end limits before middle after j (Refused (Missing i)) i heard d s (inr missing) d.unstored d.exact))
 fails_end limits words before middle after status j (Refused (Numbered f)) heard w d s is three = absurd (omega arith)
-fails_end limits words before middle after status j (Read i) heard w d s is three = (
-  j,
-  w,
-  inl (
-    i,
-    complained_of (read_line j.files i) before middle after heard (ap (λ (m : Meaning). m.complained) d.rest)
-        (ap (λ (m : Meaning). m.complaints) d.rest) s,
-    ap (λ (m : Meaning). m.stored) s.only.0 ∙ d.unstored,
-    subst (λ (o : Option ℕ). Counted (i + 1) before.calls o) (sym (ap (λ (m : Meaning). m.calls) s.only.0)) d.exact,
-  ),
-)
+fails_end limits words before middle after status j (Read i) heard w d s is three =
+    (j, w, inl (read_end limits before middle after j (Read i) i heard d s (inl d.cause.0) d.unstored d.exact))
 fails_end limits words before middle after status j Store heard w d s is three =
-    let stored : middle.stored ≡ after.stored = sym (ap (λ (m : Meaning). m.stored) s.only.0) in (
-      j,
-      w,
-      inr (
-        complained_of (store_line j.out) before middle after heard (ap (λ (m : Meaning). m.complained) d.rest)
-            (ap (λ (m : Meaning). m.complaints) d.rest) s,
-        λ q ne. ap (under q) (sym stored) ∙ d.others q ne,
-        λ held files types m.
-            subst
-            (λ (o : Option (List HeldFile)).
-            IfSome (under j.out before.stored)
-            (λ (old : Option (List ℕ)).
-            IfSome (under j.out o) (λ (now : Option (List ℕ)). IsLeft (btf_of types) old now)))
-            stored (d.kept held files types m),
-      ),
-    )
+    (j, w, inr (store_end limits before middle after j heard d s))
 fails_end limits words before middle after status j Memory heard w d s is three = absurd (omega arith)
 
 fails_at :
     (limits : Limits) (words : Result Job UsageFault) (before middle after : Meaning) (status : ℕ) (o : Outcome)
     (heard : Result (Unit {0}) Failed)
     → Ran limits words before middle o → Says middle after (line_at o) heard → status ≡ status_at o → status ≡ 3
-    → Fails words before after
+    → Fails limits words before after
 fails_at limits words before middle after status (NoJob u) heard ran s is three = absurd (omega arith)
 fails_at limits words before middle after status NoMemory heard ran s is three = absurd (omega arith)
 fails_at limits words before middle after status (Did j (Ok u)) heard ran s is three = absurd (omega arith)
@@ -383,9 +354,22 @@ fails_at limits words before middle after status (Did j (Err e)) heard ran s is 
 
 pub fails_of :
     (limits : Limits) (words : Result Job UsageFault) (before after : Meaning) (status : ℕ)
-    → Runs limits words before after status → status ≡ 3 → Fails words before after
+    → Runs limits words before after status → status ≡ 3 → Fails limits words before after
 fails_of limits words before after status r three =
     fails_at limits words before r.middle after status r.outcome r.heard r.ran r.said r.is three
+
+few_end : (e : Ended) → status_of e ≤ 4
+few_end (Refused (Missing i)) = omega arith
+few_end (Refused (Numbered f)) = omega arith
+few_end (Read i) = omega arith
+few_end Store = omega arith
+few_end Memory = omega arith
+
+few_at : (o : Outcome) → status_at o ≤ 4
+few_at (NoJob u) = omega arith
+few_at NoMemory = omega arith
+few_at (Did j (Ok u)) = omega arith
+few_at (Did j (Err e)) = few_end e
 
 -- what stays, but for the complaint
 record KeepsSoFar (words : Result Job UsageFault) (before after : Meaning) (status : ℕ) : Type 0 where
@@ -437,6 +421,7 @@ keeps_of limits words before after status r =
     let k : KeepsSoFar words before r.middle status = keeps_at limits words before r.middle status r.outcome r.ran r.is in
     let from : after ≡ record r.middle { complained = after.complained; complaints = after.complaints } = r.said.only.0 in
     record {
+      few = subst (λ (n : ℕ). n ≤ 4) (sym r.is) (few_at r.outcome);
       printed = ap (λ (m : Meaning). m.printed) from ∙ k.printed;
       prints = ap (λ (m : Meaning). m.prints) from ∙ k.prints;
       counts = λ ne. (ap (λ (m : Meaning). m.loads) from ∙ (k.counts ne).0, ap (λ (m : Meaning). m.stores) from ∙ (k.counts ne).1);

@@ -1,6 +1,5 @@
 -- A run from its parts.
-use Rattle.std.proofs.Common.{◌≡◌, ◌≢◌, ◌+◌, ◌≤◌, ◌⊎◌, List, [], ℕ, Ok, Err, Result, refl, sym, ap, ◌∙◌, arith, Option, None, Some, inl, inr, IsSome}
-use Rattle.std.specs.Option.{ForSome}
+use Rattle.std.proofs.Common.{◌≡◌, [], Ok, Err, Result, refl, arith}
 use Rattle.dw_base.specs.declared.places.Limits.{Limits}
 use Rattle.world_io.specs.Meaning.{Meaning}
 use Rattle.pahole_run.specs.declared.job.Job.{Job}
@@ -13,7 +12,7 @@ use Rattle.pahole_run.specs.declared.refusal.Refusal.TheVariants.{Missing, Fault
 use Rattle.pahole_run.specs.declared.refusal.Ended.{Ended}
 use Rattle.pahole_run.specs.declared.refusal.Ended.TheVariants.{Refused, Read, Store, Memory as EndMemory}
 use Rattle.pahole_run.specs.Line.{status_of}
-use Rattle.pahole_run.specs.Run.{Outcome, Ran, outcome_of, status_at}
+use Rattle.pahole_run.specs.Run.{Ran, outcome_of, status_at}
 use Rattle.pahole_run.proofs.SaidLemmas.{said_all, said_none}
 
 -- nothing is said

@@ -1,6 +1,6 @@
 -- The bytes of a table of types, and what is too much for them (the Linux kernel's BTF documentation, "BTF Header",
 -- "String Encoding" and "Type Encoding").
-use Rattle.std.specs.Prelude.{ℕ, ◌≡◌, ◌+◌, ◌*◌, ◌-◌, ◌^◌, ◌&&◌, Bool, nat_lt, List, [], ◌∷◌, length, map, is_none, IsSome, Option, None, Some, if◌then◌else◌}
+use Rattle.std.specs.Prelude.{ℕ, ◌+◌, ◌*◌, ◌-◌, ◌^◌, ◌&&◌, Bool, nat_lt, List, [], ◌∷◌, length, map, is_none, Option, None, Some, if◌then◌else◌}
 use Rattle.std.specs.List.{flat_map}
 use Rattle.std.specs.Option.{option_map}
 use Rattle.btf_strings.specs.Names.{Names, offset_of, next_offset, with_name, own_names, own_section}

@@ -1,6 +1,5 @@
 -- A layer's fault as the end of a run: its number, place and kept values.
 use Rattle.std.specs.Prelude.{ℕ, Option, None, Some, option_and_then}
-use Rattle.dw_base.specs.declared.places.Place.{Place}
 use Rattle.dw_base.specs.declared.places.Section.{Section}
 use Rattle.dw_base.specs.declared.places.Section.TheVariants.{Image, Table}
 use Rattle.pahole_run.specs.declared.plain.PlainFault.{PlainFault}
@@ -10,9 +9,7 @@ use Rattle.btf_strings.specs.declared.fault.StringsFault.TheVariants.{Full, Memo
 use Rattle.pahole_run.specs.declared.fault.TableFault.{TableFault}
 use Rattle.pahole_run.specs.declared.fault.TableFault.TheVariants.{NodesTooMany, TooManyTypes, NamesTooLong, TableTooLong, Memory as TableMemory}
 use Rattle.pahole_run.specs.declared.refusal.Value.{Value}
-use Rattle.pahole_run.specs.declared.refusal.Value.TheVariants.{Plain, Wide, Signed}
-use Rattle.pahole_run.specs.declared.refusal.Kept.{Kept}
-use Rattle.pahole_run.specs.declared.refusal.Fault.{Fault}
+use Rattle.pahole_run.specs.declared.refusal.Value.TheVariants.{Plain}
 use Rattle.pahole_run.specs.declared.refusal.Refusal.{Refusal}
 use Rattle.pahole_run.specs.declared.refusal.Refusal.TheVariants.{Missing, Fault as Numbered}
 use Rattle.pahole_run.specs.declared.refusal.Ended.{Ended}

@@ -1,8 +1,8 @@
 -- The line that a run complains.
-use Rattle.std.specs.Prelude.{ℕ, List, [], ◌∷◌, ◌++◌, codes, decimal, slice_get, unwrap_or, Option, None, Some, map}
+use Rattle.std.specs.Prelude.{ℕ, List, [], ◌∷◌, ◌++◌, codes, decimal, slice_get, unwrap_or, Option, None, Some}
 use Rattle.std.specs.Fmt.{signed_decimal}
 use Rattle.dw_base.specs.declared.places.Section.{Section}
-use Rattle.dw_base.specs.declared.places.Section.TheVariants.{Image, Info, Abbrev, Btf, Table}
+use Rattle.dw_base.specs.declared.places.Section.TheVariants.{Image, Info, Abbrev, Btf}
 use Rattle.pahole_run.specs.declared.job.UsageFault.{UsageFault}
 use Rattle.pahole_run.specs.declared.job.Job.{Job}
 use Rattle.pahole_run.specs.declared.refusal.Value.{Value}

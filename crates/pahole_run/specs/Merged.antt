@@ -1,9 +1,9 @@
 -- The table of types that a graph without a base makes: one type for each class of the coarsest agreeing partition.
-use Rattle.std.specs.Prelude.{ℕ, zero, suc, ◌≡◌, ◌↔◌, ◌+◌, ◌<◌, ◌==◌, List, [], ◌∷◌, ◌++◌, length, map, slice_index, Option, Some, if◌then◌else◌}
+use Rattle.std.specs.Prelude.{ℕ, zero, suc, ◌≡◌, ◌↔◌, ◌+◌, ◌<◌, ◌==◌, List, [], ◌∷◌, ◌++◌, length, map, slice_index, Some, if◌then◌else◌}
 use Rattle.std.specs.List.{position_or_len}
 use Rattle.c_model.specs.Graph.{Shape}
 use Rattle.c_model.specs.Forwards.{IsForwardIndex, IsCoarsestWith}
-use Rattle.c_model.specs.Unfolding.{Tree, unfold_with, unfold_id}
+use Rattle.c_model.specs.Unfolding.{unfold_with, unfold_id}
 use Rattle.c_model.specs.declared.graph.CType.{CType}
 use Rattle.c_model.specs.declared.graph.Ref.{Ref}
 use Rattle.c_model.specs.declared.graph.Ref.TheVariants.{Void, Node}

@@ -1,12 +1,10 @@
 -- Integers merged by their labels.
-use Rattle.std.specs.Prelude.{ℕ, ◌≡◌, ◌<◌, ◌^◌, ◌≢◌, ◌==◌, ◌&&◌, Bool, false, List, [], ◌∷◌, ◌++◌, All, if◌then◌else◌}
+use Rattle.std.specs.Prelude.{◌≡◌, ◌<◌, ◌^◌, ◌==◌, ◌&&◌, Bool, false, List, [], ◌∷◌, ◌++◌, if◌then◌else◌}
 use Rattle.std.specs.List.{list_any, AllByRecursion}
 use Rattle.std.specs.Str.{bytes_eq}
 use Rattle.c_model.specs.Kinds.{HasNoNul}
 use Rattle.c_model.specs.declared.label.Label.{Label}
-use Rattle.c_model.specs.declared.label.Part.{Part}
 use Rattle.c_model.specs.declared.graph.CType.{CType}
-use Rattle.c_model.specs.declared.graph.Ref.{Ref}
 
 -- a type is an INT
 pub record IsInt (t : CType) : Type 0 where

@@ -1,5 +1,5 @@
 -- Plain files: ELF files whose one unit holds base types alone (System V gABI; DWARF 5, sections 5.1, 7.5 and 7.8).
-use Rattle.std.specs.Prelude.{ℕ, ◌≡◌, ◌+◌, ◌*◌, ◌==◌, ◌&&◌, ◌||◌, nat_lt, nat_le, nat_eq, Bool, true, false, not, List, [], ◌∷◌, ◌++◌, length, take, drop, slice_index, find, codes, is_none, unwrap_or, option_and_then, Option, None, Some, Result, Ok, Err, if◌then◌else◌}
+use Rattle.std.specs.Prelude.{ℕ, ◌≡◌, ◌+◌, ◌*◌, ◌==◌, ◌&&◌, ◌||◌, nat_lt, nat_le, nat_eq, Bool, true, false, not, List, [], ◌∷◌, length, take, drop, slice_index, find, codes, is_none, unwrap_or, option_and_then, Option, None, Some, Result, Ok, Err, if◌then◌else◌}
 use Rattle.std.specs.List.{starts_with, list_any, list_all}
 use Rattle.std.specs.Option.{option_map}
 use Rattle.std.specs.Str.{bytes_eq}
@@ -7,7 +7,6 @@ use Rattle.dw_base.specs.Numbers.{number_of}
 use Rattle.dw_base.specs.Texts.{text_of}
 use Rattle.dw_base.specs.Collect.{collect}
 use Rattle.dw_base.specs.declared.numbers.Order.TheVariants.{Little}
-use Rattle.c_model.specs.declared.label.Label.{Label}
 use Rattle.c_model.specs.declared.graph.CType.{CType}
 use Rattle.pahole_run.specs.declared.plain.PlainFault.{PlainFault}
 use Rattle.pahole_run.specs.declared.plain.PlainFault.TheVariants.{NotElf, NotYet, Memory}

@@ -1,6 +1,6 @@
 -- What a run promises, status by status.
-use Rattle.std.specs.Prelude.{ℕ, ◌≡◌, ◌≢◌, ◌+◌, ◌<◌, ◌≤◌, ◌⊎◌, ◌++◌, List, [], length, Option, None, Some, Result, Ok, Err, IfSome, IsSomeAnd}
-use Rattle.std.specs.Option.{ForSome, option_map}
+use Rattle.std.specs.Prelude.{ℕ, ◌≡◌, ◌≢◌, ◌+◌, ◌<◌, ◌≤◌, ◌⊎◌, List, length, None, Some, Result, Ok, Err}
+use Rattle.std.specs.Option.{ForSome}
 use Rattle.std.specs.Io.{StartsWith}
 use Rattle.dw_base.specs.declared.places.Limits.{Limits}
 use Rattle.world_io.specs.Meaning.{Meaning}
@@ -41,17 +41,36 @@ Succeeds limits words before after =
     × ForSome before.files (λ (held : List HeldFile). Encodes limits held job after)
     × ((q : List ℕ) → q ≢ job.out → under q after.stored ≡ under q before.stored)
 
--- 3: a file cannot be read and nothing is stored, or the store failed
-abbrev pub Fails : Result Job UsageFault → Meaning → Meaning → Type 0
-Fails words before after =
-    (job : Job) × (words ≡ Ok job)
-    × (((i : ℕ) × Complained (read_line job.files i) before after × (after.stored ≡ before.stored)
-    × Counted (i + 1) before.calls after.calls)
-    ⊎ (Complained (store_line job.out) before after
-    × ((q : List ℕ) → q ≢ job.out → under q after.stored ≡ under q before.stored)
-    × ForSome before.files
-    (λ (held : List HeldFile).
-    (types : List CType) → MergeTo held job types → Begins job.out (btf_of types) before after)))
+-- the first refusal of the told files is that a file of the job is not there
+abbrev pub IsFirstMissing : Limits → Job → ℕ → Meaning → Type 0
+IsFirstMissing limits job file before =
+    (held : List HeldFile) × (before.files ≡ Some held)
+    × ((types : List CType) → MergeTo held job types → first_refusal limits held job types ≡ Some (Missing file))
+
+-- a file cannot be read: a load failed, or the told files do not have it; nothing is stored, and this file's load
+-- was the last call
+pub record CannotRead (limits : Limits) (job : Job) (before after : Meaning) : Type 0 where
+  pub file : ℕ
+  pub cause : Rose before.loads after.loads ⊎ IsFirstMissing limits job file before
+  pub complained : Complained (read_line job.files file) before after
+  pub stored : after.stored ≡ before.stored
+  pub calls : Counted (file + 1) before.calls after.calls
+
+-- the output cannot be stored: the store failed, and of the bytes of the table a beginning is stored, if any; and
+-- nothing else is
+pub record CannotStore (limits : Limits) (job : Job) (before after : Meaning) : Type 0 where
+  pub cause : Rose before.stores after.stores
+  pub complained : Complained (store_line job.out) before after
+  pub others : (q : List ℕ) → q ≢ job.out → under q after.stored ≡ under q before.stored
+  pub part :
+      ForSome before.files
+      (λ (held : List HeldFile).
+      (types : List CType) → MergeTo held job types → Begins job.out (btf_of types) before after)
+
+-- 3: a file cannot be read, or the output cannot be stored
+abbrev pub Fails : Limits → Result Job UsageFault → Meaning → Meaning → Type 0
+Fails limits words before after =
+    (job : Job) × (words ≡ Ok job) × (CannotRead limits job before after ⊎ CannotStore limits job before after)
 
 -- 1: the first refusal has a number, and its line is complained
 abbrev pub Refuses : Limits → Result Job UsageFault → Meaning → Meaning → Type 0
@@ -62,14 +81,6 @@ Refuses limits words before after =
     (types : List CType) → MergeTo held job types → first_refusal limits held job types ≡ Some (Numbered fault))
     × Complained (fault_line job.files fault) before after
 
--- 3: a count rose, or the first refusal is a file that is missing
-abbrev pub HasCause : Limits → Result Job UsageFault → Meaning → Meaning → Type 0
-HasCause limits words before after =
-    (Rose before.loads after.loads)
-    ⊎ ((Rose before.stores after.stores)
-    ⊎ ((job : Job) × (i : ℕ) × (held : List HeldFile) × (words ≡ Ok job) × (before.files ≡ Some held)
-    × ((types : List CType) → MergeTo held job types → first_refusal limits held job types ≡ Some (Missing i))))
-
 -- the job's end where nothing fails: by its first refusal, or want of memory
 abbrev pub IsComplete : Limits → Result Job UsageFault → Meaning → Meaning → ℕ → Type 0
 IsComplete limits words before after status =
@@ -78,13 +89,16 @@ IsComplete limits words before after status =
     → (first_refusal limits held job types ≡ None → (status ≡ 0) ⊎ (status ≡ 4))
     × ((fault : Fault) → first_refusal limits held job types ≡ Some (Numbered fault) → (status ≡ 1) ⊎ (status ≡ 4))
 
--- the words decide 2
+-- 2: the words give no job, and the line says why; where they give none, it is 2 or want of memory
 pub record RefusesWords (words : Result Job UsageFault) (before after : Meaning) (status : ℕ) : Type 0 where
   pub only : status ≡ 2 → (u : UsageFault) × (words ≡ Err u) × Complained (usage_line u) before after
   pub always : (u : UsageFault) → words ≡ Err u → (status ≡ 2) ⊎ (status ≡ 4)
 
--- what stays
+-- what stays, status by status: nothing is printed; outside 3 no count of failed loads or stores rises; outside 0 and
+-- 3 nothing is stored. A job makes at most one call for each file and one more, and words without a job make none.
+-- On 0 nothing is complained, on 4 the line of want of memory.
 pub record Keeps (words : Result Job UsageFault) (before after : Meaning) (status : ℕ) : Type 0 where
+  pub few : status ≤ 4
   pub printed : after.printed ≡ before.printed
   pub prints : after.prints ≡ before.prints
   pub counts : status ≢ 3 → (after.loads ≡ before.loads) × (after.stores ≡ before.stores)

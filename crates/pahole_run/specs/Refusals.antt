@@ -1,7 +1,7 @@
 -- The first refusal of the files of a job.
-use Rattle.std.specs.Prelude.{ℕ, ◌+◌, ◌-◌, List, [], ◌∷◌, length, map, min, nat_lt, if◌then◌else◌, Option, None, Some, unwrap_or, option_and_then}
+use Rattle.std.specs.Prelude.{ℕ, ◌+◌, ◌-◌, List, [], ◌∷◌, length, map, min, nat_lt, if◌then◌else◌, Option, None, Some, unwrap_or}
 use Rattle.std.specs.List.{flat_map}
-use Rattle.std.specs.Option.{option_map, option_or}
+use Rattle.std.specs.Option.{option_or}
 use Rattle.std.specs.Result.{result_err, result_unwrap_or}
 use Rattle.dw_base.specs.declared.places.Limits.{Limits}
 use Rattle.dw_base.specs.declared.places.Section.TheVariants.{Image}

@@ -1,7 +1,7 @@
 //! Integers are merged by their labels.
-ghost use Rattle.std.specs.Prelude.{◌≡◌, [], IfOk};
+ghost use Rattle.std.specs.Prelude.{◌≡◌, [], IfOk, OnOk};
 ghost use Rattle.std.specs.List.{list_any};
-ghost use Rattle.pahole_run.specs.Merging.{is_same, merged};
+ghost use Rattle.pahole_run.specs.Merging.{is_same, with_type, merged};
 
 use c_model::CType;
 use std::alloc::{AllocError, Global};
@@ -12,11 +12,20 @@ pub fn merged<'a>(alloc: Global, nodes: Vec<CType<'a>>) -> Result<Vec<CType<'a>>
 {
     let mut types = Vec::new(alloc);
     for node in nodes {
-        if !has_type(&types, &node) {
-            types.push(node)?;
-        }
+        add_type(&mut types, node)?;
     }
     Ok(types)
+}
+
+/// Adds a type, unless it is there.
+fn add_type<'a>(types: &mut Vec<CType<'a>>, node: CType<'a>) -> Result<(), AllocError>
+    ensures { OnOk result (types.new.items ≡ with_type types.old.items node.entry) }
+{
+    if has_type(types, &node) {
+        return Ok(());
+    }
+    types.push(node)?;
+    Ok(())
 }
 
 /// Whether a type is among others.

@@ -241,7 +241,7 @@ fn encodes_plain_files(rt: HostRuntime) -> Result<(), Fail> {
 #[test]
 fn refuses_and_merges(rt: HostRuntime) -> Result<(), Fail> {
     let alloc = rt.alloc();
-    let shipped = (SHIPPED.file_bytes, SHIPPED.nodes);
+    let shipped = (1_073_741_824u32, SHIPPED.nodes);
     let cases = [
         (
             (399, 9),
@@ -302,7 +302,7 @@ fn refuses_and_merges(rt: HostRuntime) -> Result<(), Fail> {
         let mut world = world(alloc, Some(bytes.as_slice()), None)?;
         let words = words(alloc, WORDS)?;
         let limits = Limits {
-            file_bytes,
+            file_bytes: u64::from(file_bytes),
             all_bytes: SHIPPED.all_bytes,
             nodes,
         };

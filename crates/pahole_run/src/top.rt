@@ -1,7 +1,7 @@
 //! A run.
 ghost use Rattle.std.specs.Prelude.{◌≡◌, ◌<◌, ◌^◌, length, map, string_bytes, Ok};
 ghost use Rattle.pahole_run.specs.Words.{job_of_words};
-ghost use Rattle.pahole_run.specs.Promises.{Succeeds, Refuses, Fails, RefusesWords, HasCause, Keeps, IsComplete};
+ghost use Rattle.pahole_run.specs.Promises.{Succeeds, Refuses, Fails, RefusesWords, Keeps, IsComplete};
 ghost use Rattle.pahole_run.specs.Run.{Runs, Unworded};
 
 use crate::complaint::{say_end, say_memory, say_usage};
@@ -13,8 +13,13 @@ use std::alloc::Global;
 use std::thread::Threads;
 use world_io::{Gate, World};
 
-/// Does all that the program does: it reads the job of the words after the program's name, loads the files, and
-/// stores the BTF of their types. It answers the exit status.
+/// Does all that the program does: it reads the job of the words after the program's name, loads the files, merges
+/// their types, and stores the table as BTF. It answers the exit status: 0 where the job is done, 1 where the files
+/// are refused, 2 where the words give no job, 3 where a file cannot be read or the output cannot be stored, and 4 for
+/// want of memory. On all but 0 it complains one line, in pieces and without memory; a complaint that fails ends the
+/// line and changes nothing else. All memory is taken before the store.
+///
+/// `rt` is for workers, which there are none of yet. `gate` is entered before each file's unit is read.
 pub fn run<R: Threads + Sync, W: World, G: Gate>(
     rt: &R,
     alloc: Global,
@@ -24,12 +29,17 @@ pub fn run<R: Threads + Sync, W: World, G: Gate>(
     words: &[String],
 ) -> u8
     requires { (limits.file_bytes < 2 ^ 32) × (limits.all_bytes < 2 ^ 32) }
+    // 0: what is stored spells the table of the coarsest agreeing partition of the files' types.
     ensures done { result ≡ 0 → Succeeds limits (job_of_words (map string_bytes words.now)) (W.meaning world.old) (W.meaning world.new) }
+    // 1: the first refusal of the files has a number.
     ensures refused { result ≡ 1 → Refuses limits (job_of_words (map string_bytes words.now)) (W.meaning world.old) (W.meaning world.new) }
+    // 2: the words give no job.
     ensures usage { RefusesWords (job_of_words (map string_bytes words.now)) (W.meaning world.old) (W.meaning world.new) result }
-    ensures failed { result ≡ 3 → Fails (job_of_words (map string_bytes words.now)) (W.meaning world.old) (W.meaning world.new) }
-    ensures cause { result ≡ 3 → HasCause limits (job_of_words (map string_bytes words.now)) (W.meaning world.old) (W.meaning world.new) }
+    // 3: a load or the store failed, or a file is missing.
+    ensures failed { result ≡ 3 → Fails limits (job_of_words (map string_bytes words.now)) (W.meaning world.old) (W.meaning world.new) }
+    // What stays. 4 is want of memory.
     ensures keeps { Keeps (job_of_words (map string_bytes words.now)) (W.meaning world.old) (W.meaning world.new) result }
+    // Where no load and no store fails, the first refusal decides between 0 and 1.
     ensures complete { IsComplete limits (job_of_words (map string_bytes words.now)) (W.meaning world.old) (W.meaning world.new) result }
 {
     let _ = rt;

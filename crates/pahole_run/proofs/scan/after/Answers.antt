@@ -1,4 +1,4 @@
-use Rattle.std.proofs.Common.{◌≡◌, ◌++◌, List, ℕ, drop, length, Bool, true, false, Option, None, Some, refl, sym, ap, ◌∙◌, subst, eqb, if◌then◌else◌}
+use Rattle.std.proofs.Common.{◌≡◌, List, ℕ, drop, length, Bool, true, false, Option, None, Some, sym, ap, ◌∙◌, subst, eqb, if◌then◌else◌}
 use Rattle.std.specs.Option.{option_copied, MatchOption}
 use Rattle.std.specs.List.{starts_with}
 use Rattle.std.specs.Str.Pattern.{FindsTextPrefix, StripsPrefix}

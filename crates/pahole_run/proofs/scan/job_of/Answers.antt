@@ -1,4 +1,4 @@
-use Rattle.std.proofs.Common.{◌≡◌, ◌≢◌, List, [], ◌∷◌, ℕ, length, map, get_or, refl, sym, ap, ◌∙◌, arith, subst, Result}
+use Rattle.std.proofs.Common.{◌≡◌, List, [], ◌∷◌, ℕ, length, map, get_or, refl, sym, ap, ◌∙◌, arith, subst, Result}
 use Rattle.std.specs.Prelude.{string_bytes, codes}
 use Rattle.pahole_run.specs.declared.job.Job.{Job}
 use Rattle.pahole_run.specs.declared.job.UsageFault.{UsageFault}

@@ -1,4 +1,4 @@
-use Rattle.std.proofs.Common.{◌≡◌, ◌*◌, ◌+◌, length, arith, ap, ◌∙◌}
+use Rattle.std.proofs.Common.{◌≡◌, ◌*◌, length, arith, ap, ◌∙◌}
 use Rattle.std.specs.List.{flat_map}
 use Rattle.btf_strings.specs.Names.{Names, own_section}
 use Rattle.btf_codec.specs.Fields.{fields_of}
