@@ -4,5 +4,7 @@
 pub mod placing;
 pub mod refine;
 mod shared;
+#[cfg(test)]
+mod tests;
 
 pub use refine::{Refined, classes};
