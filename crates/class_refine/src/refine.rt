@@ -5,10 +5,10 @@ ghost use Rattle.c_model.specs.Forwards.{IsIndexOf, HasFittingForwards, IsCoarse
 ghost use Rattle.type_signature.specs.Numberings.{IsNumbering};
 ghost use Rattle.type_signature.specs.Signatures.{signature_at};
 ghost use Rattle.class_refine.specs.Costs.{references};
-ghost use Rattle.class_refine.specs.Placing.{IsPlaced};
 
-use crate::placing::placed_numbers;
-use c_model::{Classes, Graph, Numbers};
+use crate::guess::{guessed, paired};
+use crate::placing::partition;
+use c_model::{Classes, Graph};
 use dw_base::Steps;
 use forward_rule::FwdIndex;
 use std::alloc::{AllocError, Global};
@@ -56,22 +56,6 @@ fn round<L: Ledger>(
     Ok(Numbered { numbers, count })
 }
 
-/// The partition that numbers make, with the open forwards beside their definitions.
-fn partition(
-    alloc: Global,
-    graph: &Graph<'_>,
-    fwd: &FwdIndex,
-    numbers: &[u32],
-) -> Result<Classes, AllocError>
-    requires index { IsIndexOf graph.now fwd.now }
-    requires covers { length numbers.now ≡ length graph.now.nodes }
-    ensures { IfOk result (λ p. IsPlaced fwd.now numbers.now p) }
-{
-    let _count = graph.len();
-    let placed = placed_numbers(alloc, fwd, numbers)?;
-    Ok(Classes::new(Numbers::new(placed)))
-}
-
 /// The coarsest agreeing partition of a graph: each pair of one class has a licence, and every partition
 /// of which that is true relates only pairs that it relates. Rounds begin at the labels and split the
 /// classes by the classes of their targets, until a round splits nothing. The counter rises by the numbers
@@ -91,8 +75,11 @@ pub fn classes<L: Ledger>(
 {
     let _nodes = graph.len();
     let start = numbered_labels(alloc, graph, fwd)?;
-    let mut count = start.count;
-    let mut now = partition(alloc, graph, fwd, &start.numbers)?;
+    let labelled = partition(alloc, graph, fwd, &start.numbers)?;
+    let guess = guessed(alloc, graph, fwd, &start.numbers, labelled)?;
+    let first = paired(alloc, &start.numbers, &guess)?;
+    let mut count = first.count;
+    let mut now = partition(alloc, graph, fwd, &first.numbers)?;
     let mut number = 0;
     loop {
         let next = round(alloc, graph, fwd, &now, steps)?;
