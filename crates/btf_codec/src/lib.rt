@@ -2,6 +2,7 @@
 #![tactic(auto)]
 
 pub mod fault;
+pub mod laws;
 mod layout;
 mod shared;
 pub mod table;
@@ -11,5 +12,6 @@ mod words;
 pub mod writer;
 
 pub use fault::BtfFault;
+pub use laws::spelled_once;
 pub use table::{Table, TableOut};
 pub use writer::write;
