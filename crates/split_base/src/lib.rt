@@ -9,6 +9,7 @@
 mod copy;
 pub mod fault;
 pub mod graph;
+pub mod laws;
 mod shared;
 
 pub use fault::TableFault;
