@@ -1,11 +1,10 @@
 -- First nodes of classes, and the places of classes in a table.
-use Rattle.std.proofs.Common.{◌≡◌, ◌<◌, ◌≤◌, ◌+◌, ◌-◌, ℕ, suc, zero, Bool, true, false, cond, List, [], ◌∷◌, map, length, get_or, refl, sym, ◌∙◌, ap, arith, eqb, ltb, ⊎_elim, ◌⊎◌, inl, inr}
+use Rattle.std.proofs.Common.{◌≡◌, ◌<◌, ◌≤◌, ◌+◌, ◌-◌, ℕ, suc, zero, Bool, true, false, cond, List, ◌∷◌, length, get_or, refl, sym, ◌∙◌, ap, arith, eqb, ltb, ⊎_elim, ◌⊎◌, inl, inr}
 use Rattle.std.specs.List.{position_or_len, filter, range_with_len}
 use Rattle.std.proofs.lemmas.Bool.{eq-eqb, eqb-true, ne_eqb, true≢false, cases_lt, cases_order, lt-ltb, le-ltb}
-use Rattle.std.proofs.lemmas.List.Sums.{position_or_len_is, fails_before_first, passes_at_first}
-use Rattle.std.proofs.lemmas.List.FromFn.{length-range_with_len, get_or-range_with_len}
+use Rattle.std.proofs.lemmas.List.Sums.{fails_before_first, passes_at_first}
 use Rattle.c_model.specs.Graph.{Shape}
-use Rattle.split_base.specs.Table.{first_of, own_firsts, place_of, id_of}
+use Rattle.split_base.specs.Table.{first_of, own_firsts, place_of}
 
 pub first_of-le : (p : List ℕ) (x : ℕ) → first_of p x ≤ x
 first_of-le p x = ⊎_elim (λ h. absurd (true≢false (sym (eq-eqb (get_or p x 0) (get_or p x 0) refl) ∙ fails_before_first (λ c. eqb c (get_or p x 0)) p x 0 h))) (λ h. h) (cases_lt x (first_of p x))

@@ -6,12 +6,12 @@ use Rattle.std.proofs.lemmas.Bool.{eq-eqb, eqb-true, true≢false, and_parts, an
 use Rattle.std.proofs.lemmas.List.Folds.{find_at}
 use Rattle.std.proofs.lemmas.List.Sums.{fails_before_first, passes_at_first}
 use Rattle.std.proofs.lemmas.List.FromFn.{length-range_with_len, get_or-range_with_len}
-use Rattle.std.proofs.lemmas.Option.{slice_get-get_or, slice_get_within, slice_get_past, get_or_from_slice_get}
+use Rattle.std.proofs.lemmas.Option.{slice_get-get_or, slice_get_within, get_or_from_slice_get}
 use Rattle.c_model.specs.declared.label.Label.{Label}
 use Rattle.c_model.specs.declared.graph.CType.{CType}
 use Rattle.c_model.specs.declared.graph.Ref.{Ref}
 use Rattle.c_model.specs.declared.graph.Ref.TheVariants.{Void, Node}
-use Rattle.c_model.specs.Graph.{Shape, IsSound, IsBelow, RefersWithin}
+use Rattle.c_model.specs.Graph.{Shape, IsSound, IsBelow}
 use Rattle.c_model.specs.Partition.{label_at, targets_at, target_by}
 use Rattle.c_model.specs.Forwards.{forward_at, definition_at, definitions_in, IsOpen, IsIndexOf, Tag, HasFittingForwards, AgreesWith}
 use Rattle.c_model.specs.Unfolding.{Tree, stand, stands_for, unfold_at, unfold_with}

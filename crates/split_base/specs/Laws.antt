@@ -20,9 +20,3 @@ TableUnfoldsAsNodes =
     (g : Shape) (index : List (List ℕ)) (p : List ℕ) (types : List CType)
     → IsSound g.base g.nodes → IsIndexOf g index → HasFittingForwards g → AgreesWith g index p → IsTableOf g p types
     → (n x : ℕ) → x < length g.nodes → unfold_id types n (id_of g p x) ≡ Some (unfold_with g.nodes index p n x)
-
--- a partition has one table
-abbrev pub TableIsOne : Type 0
-TableIsOne =
-    (g : Shape) (p : List ℕ) (types others : List CType)
-    → IsSound g.base g.nodes → length p ≡ length g.nodes → IsTableOf g p types → IsTableOf g p others → types ≡ others

@@ -11,6 +11,8 @@ pub mod fault;
 pub mod graph;
 pub mod laws;
 mod shared;
+#[cfg(test)]
+mod tests;
 
 pub use fault::TableFault;
 pub use graph::{graph_of, with_base};

@@ -1,5 +1,4 @@
-use Rattle.std.proofs.Common.{◌≡◌, ◌<◌, ◌∙◌, ap, length, map, ◌++◌}
-use Rattle.c_model.specs.Graph.{RefersWithin}
+use Rattle.std.proofs.Common.{◌≡◌, ◌∙◌, length, map, ◌++◌}
 use Rattle.split_base.specs.Graphs.{joined, moved_type}
 use Rattle.split_base.proofs.Joining.{joined_within}
 use Rattle.split_base.proofs.graph.with_base.Goals as goal

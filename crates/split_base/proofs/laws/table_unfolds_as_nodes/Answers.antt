@@ -1,4 +1,4 @@
-use Rattle.std.proofs.Common.{◌≡◌, Some, ap, sym}
+use Rattle.std.proofs.Common.{Some, ap, sym}
 use Rattle.split_base.proofs.Unfolds.{unfold_with-table}
 use Rattle.split_base.proofs.laws.table_unfolds_as_nodes.Goals as goal
 
