@@ -1,0 +1,6 @@
+use Rattle.std.proofs.Common.{Some, ap, sym}
+use Rattle.split_base.proofs.Unfolds.{unfold_with-table}
+use Rattle.split_base.proofs.laws.table_unfolds_as_nodes.Goals as goal
+
+pub returns : goal.returns
+returns c g index p types sound ix fit a t n x h = ap (λ u. Some u) (sym (unfold_with-table g index ix fit p a sound types t n x h))
