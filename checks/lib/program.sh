@@ -1,6 +1,7 @@
 # Sourced by the checks: sets `program` to the built program, or says why there is none.
 # PAHOLE names another program to look at.
 root=$(cd "$(dirname "${BASH_SOURCE[0]}")/../.." && pwd)
+. "$root/checks/lib/hex.sh"
 program=${PAHOLE:-$root/crates/pahole/out/pahole}
 if [ -z "${PAHOLE:-}" ]; then
   if [ ! -d "$root/crates/pahole" ]; then
@@ -18,11 +19,3 @@ if [ -z "${PAHOLE:-}" ]; then
     exit 1
   fi
 fi
-
-# Lower-case hex on standard input to bytes on standard output.
-unhex() {
-  local line
-  while IFS= read -r line || [ -n "$line" ]; do
-    printf "$(printf '%s' "$line" | sed 's/../\\x&/g')"
-  done
-}

@@ -1,0 +1,56 @@
+#!/usr/bin/env bash
+# Other readers of BTF accept what the program stores (the files stored.o.hex of cases/, which checks/cases.sh
+# compares with the program's): bpftool, and a small C program over libbpf's btf__parse. A reader that isn't
+# installed is skipped by name.
+set -u
+export LC_ALL=C
+root=$(cd "$(dirname "$0")/.." && pwd) || exit 2
+. "$root/checks/lib/hex.sh"
+
+scratch=$(mktemp -d) || exit 2
+trap 'rm -rf "$scratch"' EXIT
+
+# the reader's name, and the command that is given a file
+read_all() {
+  local reader=$1 folder name said
+  shift
+  for folder in "$root"/cases/*/; do
+    [ -f "${folder}stored.o.hex" ] || continue
+    name=$(basename "$folder")
+    unhex <"${folder}stored.o.hex" >"$scratch/o"
+    if said=$("$@" "$scratch/o" 2>&1); then
+      echo "passed $reader $name"
+    else
+      echo "failed $reader $name: ${said//$'\n'/; }"
+    fi
+  done
+}
+
+dump() { bpftool btf dump file "$1" format raw; }
+
+if command -v bpftool >/dev/null 2>&1; then
+  read_all bpftool dump
+else
+  echo "skipped bpftool: it is not installed"
+fi
+
+cat >"$scratch/parse.c" <<'C'
+#include <bpf/btf.h>
+#include <bpf/libbpf.h>
+#include <stdio.h>
+
+int main(int count, char **words) {
+	struct btf *btf = count == 2 ? btf__parse(words[1], NULL) : NULL;
+	if (!btf || libbpf_get_error(btf)) {
+		fprintf(stderr, "btf__parse refuses it\n");
+		return 1;
+	}
+	btf__free(btf);
+	return 0;
+}
+C
+if cc -o "$scratch/parse" "$scratch/parse.c" -lbpf >/dev/null 2>&1; then
+  read_all libbpf "$scratch/parse"
+else
+  echo "skipped libbpf: its headers or a C compiler are not installed"
+fi
