@@ -1,9 +1,13 @@
-//! The graph of the types of all units.
+//! The graph of the types of all units of some files.
 #![tactic(auto)]
 
 pub mod fault;
+pub mod graph;
 mod links;
+mod shared;
 pub mod sources;
+mod tags;
 
 pub use fault::EncodeFault;
+pub use graph::encode;
 pub use sources::UnitAt;
