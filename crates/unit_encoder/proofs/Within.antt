@@ -60,7 +60,7 @@ refs_below all file index seen rs [] so_far e = subst (All (IsBelow (length all)
     same a b e = cc
 refs_below all file index seen rs (t ∷ ts) so_far e =
     one_ref all seen rs (ref_of all file index t) (λ more. refs_from all file index more ts) (λ (r : Ref) (h : ref_of all file index t ≡ Ok r). ref_below all file index t r h) so_far
-      (λ (more : List Ref) (a : All (IsBelow (length all)) more) (h : refs_from all file index more ts ≡ Ok rs). refs_below all file index more rs ts a h) e
+    (λ (more : List Ref) (a : All (IsBelow (length all)) more) (h : refs_from all file index more ts ≡ Ok rs). refs_below all file index more rs ts a h) e
 
 -- what is known of the nodes so far
 abbrev Fine : ℕ → List CType → ℕ → Type 0
@@ -85,7 +85,7 @@ nodes_fine all seen ns [] so_far e = let q : seen ≡ ns = same seen ns e in (su
     same a b e = cc
 nodes_fine all seen ns (s ∷ ss) so_far e =
     one_node all s seen ns (length ss) (refs_from all s.file s.index [] s.targets) (λ more. nodes_from all more ss) (λ (rs : List Ref) (h : refs_from all s.file s.index [] s.targets ≡ Ok rs). refs_below all s.file s.index [] rs s.targets (none_yet (length all)) h) so_far
-      (λ (more : List CType) (a : RefersWithin (length all) more) (h : nodes_from all more ss ≡ Ok ns). nodes_fine all more ns ss a h) e
+    (λ (more : List CType) (a : RefersWithin (length all) more) (h : nodes_from all more ss ≡ Ok ns). nodes_fine all more ns ss a h) e
 
 pub linked_fine : (all : List Source) (ns : List CType) → nodes_from all [] all ≡ Ok ns → RefersWithin (length ns) ns × (length ns ≡ length all)
 linked_fine all ns e =

@@ -13,8 +13,8 @@ pub returns-in-Err : goal.returns-in-Err
 returns-in-Err g c =
     let u = c.index-units-i.result in
     rw c.fault_of.ensures
-      (refused c.in-Err.fault u.file c.loop-i.i (types_of_unit_of u.image u.unit) (gathered 0 [] c.args.units.now) c.in-Err.ensures
-        (λ (h : types_of_unit_of c.index-units-i.result.image c.index-units-i.result.unit ≡ Err c.in-Err.fault). stops c.args.units.now c.loop-i.i c.loop-i.sources.items u c.in-Err.fault (gathered 0 [] c.args.units.now) c.loop-i-test.true c.index-units-i.is h c.loop-i.invariant))
+    (refused c.in-Err.fault u.file c.loop-i.i (types_of_unit_of u.image u.unit) (gathered 0 [] c.args.units.now) c.in-Err.ensures
+    (λ (h : types_of_unit_of c.index-units-i.result.image c.index-units-i.result.unit ≡ Err c.in-Err.fault). stops c.args.units.now c.loop-i.i c.loop-i.sources.items u c.in-Err.fault (gathered 0 [] c.args.units.now) c.loop-i-test.true c.index-units-i.is h c.loop-i.invariant))
 
 pub loop-i-preserved : goal.loop-i-preserved
 loop-i-preserved g c =
