@@ -1,0 +1,4 @@
+pub mod Finding
+pub mod Linking
+pub mod Units
+pub mod Within

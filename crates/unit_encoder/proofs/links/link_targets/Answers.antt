@@ -1,0 +1,19 @@
+use Rattle.std.proofs.Common.{◌≡◌, [], List, Result, Ok, ap, sym, ◌∙◌}
+use Rattle.c_model.specs.declared.graph.Ref.{Ref}
+use Rattle.unit_encoder.specs.declared.links.Out.{Out}
+use Rattle.unit_encoder.specs.Graph.{refs_from}
+use Rattle.unit_encoder.proofs.Linking.{refs_go_on, refs_stop, refs_end}
+use Rattle.unit_encoder.proofs.links.link_targets.Goals as goal
+
+ok_same : (a b : List Ref) → a ≡ b → ◌≡◌ {A = Result (List Ref) Out} (Ok a) (Ok b)
+ok_same a b e = ap (λ (rs : List Ref). Ok rs) e
+
+pub returns-in-Err : goal.returns-in-Err
+returns-in-Err c all numbers count = refs_stop all c.args.file c.args.index c.args.targets.now c.loop-i.i c.loop-i.refs.items _ c.in-Err.out (refs_from all c.args.file c.args.index [] c.args.targets.now) c.loop-i-test.true (c.in-Err.ensures all numbers count) (c.loop-i.invariant all numbers count)
+
+pub loop-i-preserved : goal.loop-i-preserved
+loop-i-preserved c all numbers count = refs_go_on all c.args.file c.args.index c.args.targets.now c.loop-i.i c.loop-i.refs.items c.push.new.self.items _ c.in-Ok.found (refs_from all c.args.file c.args.index [] c.args.targets.now) c.loop-i-test.true (c.in-Ok.ensures all numbers count) c.in_ok-push-in-Ok.ensures.items (c.loop-i.invariant all numbers count)
+
+pub returns : goal.returns
+returns c all numbers count =
+    ok_same c.new.result c.loop-i.refs.items c.new.ensures ∙ refs_end all c.args.file c.args.index c.args.targets.now c.loop-i.i c.loop-i.refs.items (refs_from all c.args.file c.args.index [] c.args.targets.now) c.loop-i-test.false (c.loop-i.invariant all numbers count)

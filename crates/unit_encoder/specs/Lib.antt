@@ -1,0 +1,4 @@
+pub mod Graph
+pub mod Numbers
+pub mod Sources
+pub mod Unread
