@@ -252,7 +252,7 @@ fn refuses_and_merges(rt: HostRuntime) -> Result<(), Fail> {
             None,
         ),
         (
-            (400, 1),
+            (65_536, 1),
             TWO_INTS.as_slice(),
             0,
             0x7f,
