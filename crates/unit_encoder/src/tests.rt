@@ -53,14 +53,26 @@ fn put_header(
     Ok(())
 }
 
-/// A file of 64 bits, little-endian, with units of these entries.
-fn file_of(alloc: Global, entries: &[&[u8]]) -> Result<Vec<u8>, AllocError> {
-    let mut info = Vec::new(alloc);
-    for unit in entries {
-        put(&mut info, (unit.len() as u64).wrapping_add(8), 4)?;
-        info.extend_from_slice(&[5, 0, 1, 8, 0, 0, 0, 0])?;
-        info.extend_from_slice(unit)?;
+/// Puts a unit of these entries; none where there are no entries.
+fn put_unit(info: &mut Vec<u8>, entries: &[u8]) -> Result<(), AllocError> {
+    if entries.is_empty() {
+        return Ok(());
     }
+    put(info, (entries.len() as u64).wrapping_add(8), 4)?;
+    info.extend_from_slice(&[5, 0, 1, 8, 0, 0, 0, 0])?;
+    info.extend_from_slice(entries)
+}
+
+/// The bytes of two units of these entries.
+fn info_of(alloc: Global, first: &[u8], second: &[u8]) -> Result<Vec<u8>, AllocError> {
+    let mut info = Vec::new(alloc);
+    put_unit(&mut info, first)?;
+    put_unit(&mut info, second)?;
+    Ok(info)
+}
+
+/// A file of 64 bits, little-endian, with units and their abbreviations.
+fn file_of(alloc: Global, info: &[u8]) -> Result<Vec<u8>, AllocError> {
     let names = b"\0.debug_info\0.debug_abbrev\0";
     let mut file = Vec::new(alloc);
     file.extend_from_slice(b"\x7fELF\x02\x01\x01\0\0\0\0\0\0\0\0\0")?;
@@ -76,11 +88,11 @@ fn file_of(alloc: Global, entries: &[&[u8]]) -> Result<Vec<u8>, AllocError> {
     }
     put_header(&mut file, 0, 0, 0, 0)?;
     let mut at = 64 + 4 * 64;
-    for (name, section) in [(1u64, info.as_slice()), (13, ABBREVIATIONS), (0, names)] {
+    for (name, section) in [(1u64, info), (13, ABBREVIATIONS), (0, names)] {
         put_header(&mut file, name, 1, at, section.len() as u64)?;
         at = at.wrapping_add(section.len() as u64);
     }
-    for section in [info.as_slice(), ABBREVIATIONS, names] {
+    for section in [info, ABBREVIATIONS, names] {
         file.extend_from_slice(section)?;
     }
     Ok(file)
@@ -125,10 +137,21 @@ fn line(alloc: Global, graph: &Graph<'_>) -> Result<String, Fail> {
     Ok(text)
 }
 
+/// A reference of the first file that names no type.
+fn out(from: u64, to: u128, tag: u64) -> EncodeFault {
+    EncodeFault::TypeRefOut {
+        file: 0,
+        from,
+        to,
+        tag,
+    }
+}
+
 /// Files of units of entries, the most nodes, and what comes of them.
 #[test]
 fn graphs(rt: HostRuntime) -> Result<(), Fail> {
     let alloc = rt.alloc();
+    let none: &[u8] = &[];
     let itself: &[u8] = &[1, 3, 13, 0, 0, 0, 0];
     let int: &[u8] = &[1, 2, 0x69, 0, 4, 5, 0];
     let over: &[u8] = &[1, 4, 13, 0, 0, 0, 0];
@@ -141,37 +164,29 @@ fn graphs(rt: HostRuntime) -> Result<(), Fail> {
     let untyped: &[u8] = &[1, 7, 8, 0, 0];
     let other: &[u8] = &[9, 4, 2, 0x69, 0, 4, 5, 0];
     let far: &[u8] = &[1, 11, 0xff, 0xff, 0xff, 0xff, 0xff, 0xff, 0xff, 0xff, 0];
-    let out = |from, to, tag| EncodeFault::TypeRefOut {
-        file: 0,
-        from,
-        to,
-        tag,
-    };
-    let cases: [(&[&[u8]], u32, Result<&str, EncodeFault>); 15] = [
-        (&[itself, itself], 2, Ok("2:0,0 2:0,1 ")),
-        (&[itself, itself], 1, Err(EncodeFault::NodesTooMany(2))),
-        (&[int, over], 8, Ok("1:16777248 2:0,0 ")),
-        (&[over, int], 8, Ok("2:0,0 1:16777248 ")),
-        (&[ahead, int], 8, Ok("2:0,1 1:16777248 ")),
-        (&[array], 3, Ok("1:16777248 3:30,0,2 1:32 ")),
-        (&[array], 2, Err(EncodeFault::NodesTooMany(3))),
+    let cases: [(&[u8], &[u8], u32, Result<&str, EncodeFault>); 15] = [
+        (itself, itself, 2, Ok("2:0,0 2:0,1 ")),
+        (itself, itself, 1, Err(EncodeFault::NodesTooMany(2))),
+        (int, over, 8, Ok("1:16777248 2:0,0 ")),
+        (over, int, 8, Ok("2:0,0 1:16777248 ")),
+        (ahead, int, 8, Ok("2:0,1 1:16777248 ")),
+        (array, none, 3, Ok("1:16777248 3:30,0,2 1:32 ")),
+        (array, none, 2, Err(EncodeFault::NodesTooMany(3))),
         (
-            &[array, array],
+            array,
+            array,
             9,
             Ok("1:16777248 3:30,0,2 1:32 1:16777248 3:30,3,5 1:32 "),
         ),
-        (&[to_root], 8, Err(out(13, 12, 0x11))),
-        (&[to_function], 8, Err(out(14, 13, 0x2e))),
-        (&[to_middle], 8, Err(out(18, 14, 0))),
-        (&[far], 8, Err(out(13, 18_446_744_073_709_551_615, 0))),
+        (to_root, none, 8, Err(out(13, 12, 0x11))),
+        (to_function, none, 8, Err(out(14, 13, 0x2e))),
+        (to_middle, none, 8, Err(out(18, 14, 0))),
+        (far, none, 8, Err(out(13, 18_446_744_073_709_551_615, 0))),
+        (itself, far, 8, Err(out(32, 18_446_744_073_709_551_634, 0))),
+        (other, over_other, 8, Err(out(33, 14, 0))),
         (
-            &[itself, far],
-            8,
-            Err(out(32, 18_446_744_073_709_551_634, 0)),
-        ),
-        (&[other, over_other], 8, Err(out(33, 14, 0))),
-        (
-            &[itself, untyped, untyped],
+            itself,
+            untyped,
             0,
             Err(EncodeFault::Unit {
                 file: 0,
@@ -180,8 +195,9 @@ fn graphs(rt: HostRuntime) -> Result<(), Fail> {
             }),
         ),
     ];
-    for (entries, most, wanted) in cases {
-        let file = file_of(alloc, entries)?;
+    for (first, second, most, wanted) in cases {
+        let info = info_of(alloc, first, second)?;
+        let file = file_of(alloc, info.as_slice())?;
         let Ok(image) = Image::read(file.as_slice()) else {
             assert!(rt; false);
             return Ok(());
