@@ -2,8 +2,13 @@
 #![tactic(auto)]
 
 pub mod fault;
+mod faults;
+mod file;
 mod layout;
+mod pieces;
+pub mod reader;
 mod shared;
+mod shown;
 pub mod table;
 #[cfg(test)]
 mod tests;
@@ -11,5 +16,6 @@ mod words;
 pub mod writer;
 
 pub use fault::BtfFault;
+pub use reader::read;
 pub use table::{Table, TableOut};
 pub use writer::write;
