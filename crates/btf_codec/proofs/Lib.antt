@@ -3,6 +3,7 @@ pub mod Checking
 pub mod Counting
 pub mod Decoding
 pub mod Endings
+pub mod Gluing
 pub mod Good
 pub mod KindTable
 pub mod Meeting

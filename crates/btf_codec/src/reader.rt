@@ -1,8 +1,8 @@
 //! The reader of BTF files.
-ghost use Rattle.std.specs.Prelude.{◌≡◌, ◌+◌, ◌*◌, ◌-◌, ◌/◌, ◌<◌, ◌≤◌, ◌^◌, ◌++◌, ℕ, List, Ok, Err, length, map, take, slice_index_or, is_some, IfOk, OnOk, IfSome};
+ghost use Rattle.std.specs.Prelude.{◌≡◌, ◌+◌, ◌*◌, ◌-◌, ◌/◌, ◌<◌, ◌≤◌, ◌^◌, ◌++◌, ℕ, List, Ok, Err, length, map, take, slice_index_or, is_some, All, IfOk, OnOk, IfSome};
 ghost use Rattle.std.specs.Option.{option_map};
 ghost use Rattle.btf_codec.specs.Gives.{EndsWithNul, Gives, IsBefore, IsPiece, before_of, shown_of, unless};
-ghost use Rattle.btf_codec.specs.Reading.{names_before, pieces_fault, table_of, type_shown, types_before, types_of, word_in};
+ghost use Rattle.btf_codec.specs.Reading.{file_of, names_before, pieces_fault, table_of, type_shown, types_before, types_of, word_in};
 ghost use Rattle.btf_codec.specs.declared.table.Table.{Table};
 ghost use denote.Bor.{Bor};
 
@@ -98,17 +98,6 @@ fn push_types<'a>(
     Ok(())
 }
 
-/// The types and strings of the table before.
-fn texts_of<'a>(base: Option<&Table<'a>>, names: &'a [u8]) -> Texts<'a>
-    ensures own { result.own.now ≡ names.now }
-    ensures base { result.base.now ≡ names_before (option_map (λ b. before_of b.now) base.entry) }
-{
-    match base {
-        Some(table) => Texts { base: table.names, own: names },
-        None => Texts { base: &[], own: names },
-    }
-}
-
 /// The types of the table before, and how many they are.
 fn types_of<'a>(alloc: Global, base: Option<&Table<'a>>) -> Result<Vec<CType<'a>>, AllocError>
     ensures { IfOk result (λ v. v.items ≡ types_before (option_map (λ b. before_of b.now) base.entry)) }
@@ -117,6 +106,52 @@ fn types_of<'a>(alloc: Global, base: Option<&Table<'a>>) -> Result<Vec<CType<'a>
         Some(table) => copied_types(alloc, table.types.items()),
         None => Ok(Vec::new(alloc)),
     }
+}
+
+/// The parts of a file: its byte order, the bytes of each type and the strings.
+#[derive(Drop)]
+struct File<'a> {
+    order: Order,
+    pieces: Vec<&'a [u8]>,
+    names: &'a [u8],
+}
+
+/// The parts of a file, or its first fault. `types` types come before, and strings of `limit` bytes.
+fn file_of<'a>(
+    alloc: Global,
+    based: bool,
+    types: u32,
+    limit: u64,
+    want: Option<Order>,
+    bytes: &'a [u8],
+) -> Result<File<'a>, BtfFault>
+    requires types { types < 2 ^ 31 }
+    requires limit { limit < 2 ^ 32 }
+    ensures gives { Gives (λ f. record { order = f.order; pieces = map (λ p. p.now) f.pieces.items; names = f.names.now }) result
+        (file_of based types limit want bytes.now) }
+    ensures each { IfOk result (λ f. All (λ p. IsPiece f.order p.now) f.pieces.items) }
+    ensures few { IfOk result (λ f. length f.pieces.items < 2 ^ 30) }
+{
+    let order = match order_in(want, bytes) {
+        Ok(order) => order,
+        Err(fault) => return Err(fault),
+    };
+    let (body, names) = match sections_of(order, bytes) {
+        Ok(sections) => sections,
+        Err(fault) => return Err(fault),
+    };
+    if !are_strings(based, names) {
+        return Err(BtfFault::BtfStrings(24 + body.len() as u64));
+    }
+    let pieces = match pieces_of(alloc, order, body, types + 1) {
+        Ok(pieces) => pieces,
+        Err(fault) => return Err(fault),
+    };
+    let count = types + pieces.len() as u32;
+    if let Err(fault) = check_words(order, &pieces, types + 1, limit + names.len() as u64, count) {
+        return Err(fault);
+    }
+    Ok(File { order, pieces, names })
 }
 
 /// The table that the bytes spell, or the first fault of the bytes.
@@ -129,26 +164,17 @@ pub fn read<'a>(
     requires { IfSome base (λ b. IsBefore b.now) }
     ensures { Gives shown_of result (table_of (option_map (λ b. before_of b.now) base.entry) want bytes.now) }
 {
-    let order = match order_in(want, bytes) {
-        Ok(order) => order,
-        Err(fault) => return Err(fault),
-    };
-    let (types, names) = match sections_of(order, bytes) {
-        Ok(sections) => sections,
-        Err(fault) => return Err(fault),
-    };
-    if !are_strings(base.is_some(), names) {
-        return Err(BtfFault::BtfStrings(24 + types.len() as u64));
-    }
-    let texts = texts_of(base, names);
     let mut all = types_of(alloc, base)?;
     let before = all.len() as u32;
-    let pieces = pieces_of(alloc, order, types, before + 1)?;
-    let count = before + pieces.len() as u32;
-    let limit = texts.base.len() as u64 + names.len() as u64;
-    if let Err(fault) = check_words(order, &pieces, before + 1, limit, count) {
-        return Err(fault);
-    }
-    push_types(alloc, &mut all, texts, order, &pieces)?;
-    Ok(Table { order, base: before, types: Nodes::new(all), names })
+    let strings = match base {
+        Some(table) => table.names,
+        None => &[],
+    };
+    let file = match file_of(alloc, base.is_some(), before, strings.len() as u64, want, bytes) {
+        Ok(file) => file,
+        Err(fault) => return Err(fault),
+    };
+    let texts = Texts { base: strings, own: file.names };
+    push_types(alloc, &mut all, texts, file.order, &file.pieces)?;
+    Ok(Table { order: file.order, base: before, types: Nodes::new(all), names: file.names })
 }
