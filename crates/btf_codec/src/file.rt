@@ -85,7 +85,8 @@ fn is_header(order: Order, bytes: &[u8]) -> bool
 
 /// The bytes of the types and those of the strings.
 pub fn sections_of(order: Order, bytes: &[u8]) -> Result<(&[u8], &[u8]), BtfFault>
-    ensures { seen (λ x. (x.0.now, x.1.now)) result ≡ sections_of order bytes.now }
+    ensures sections { seen (λ x. (x.0.now, x.1.now)) result ≡ sections_of order bytes.now }
+    ensures few { IfOk result (λ x. length x.0.now < 2 ^ 32) }
 {
     if bytes.len() < 24 {
         return Err(BtfFault::BtfHeader);
