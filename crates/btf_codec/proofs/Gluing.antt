@@ -1,11 +1,14 @@
 -- The steps of reading, one behind another.
 use Rattle.std.proofs.Common.{◌≡◌, ℕ, zero, suc, ◌+◌, ◌*◌, ◌-◌, ◌/◌, ◌<◌, ◌≤◌, ◌^◌, ◌&&◌, Bool, true, false, List, [], ◌∷◌, ◌++◌, length, take, drop, map, get_or, All, Option, None, Some, Result, Ok, Err, refl, sym, ap, subst, ◌∙◌, arith}
 use Rattle.std.proofs.lemmas.List.{length-drop, length-map, length-take-le, get_or-map, get_or-take}
+use Rattle.std.specs.Prelude.{is_some}
+use Rattle.std.specs.Option.{option_map}
+use Rattle.c_model.specs.declared.graph.CType.{CType}
 use Rattle.dw_base.specs.declared.numbers.Order.{Order}
 use Rattle.dw_base.specs.declared.numbers.Order.TheVariants.{Little, Big}
 use Rattle.btf_codec.specs.Fields.{layout_of}
 use Rattle.btf_codec.specs.Gives.{Fails, IsPiece, unless}
-use Rattle.btf_codec.specs.Reading.{◌>>=◌, File, file_of, head_of, is_begun, is_ended, kind_in, order_in, pieces_fault, pieces_of, sections_of, type_width, vlen_in, word_in}
+use Rattle.btf_codec.specs.Reading.{◌>>=◌, Before, File, Shown, file_of, names_before, table_of, types_before, types_of, head_of, is_begun, is_ended, kind_in, order_in, pieces_fault, pieces_of, sections_of, type_width, vlen_in, word_in}
 use Rattle.btf_codec.specs.declared.fault.BtfFault.{BtfFault}
 use Rattle.btf_codec.specs.declared.fault.BtfFault.TheVariants.{BtfMagic, BtfHeader, BtfTruncated, BtfKind, BtfInfo, BtfName, BtfRef, BtfStrings, Memory}
 use Rattle.btf_codec.proofs.Splitting.{head_fits}
@@ -157,3 +160,26 @@ pub same_fault : (order : Order) (first limit types n : ℕ) (ps qs : List (Bor 
 same_fault order first limit types n ps qs r q m h =
     h ∙ ap (λ (xs : List (Bor (List ℕ))). unless (pieces_fault order 24 first limit (types + n) (map (λ (p : Bor (List ℕ)). p.now) xs))) q
     ∙ ap (λ (k : ℕ). unless (pieces_fault order 24 first limit (types + k) (map (λ (p : Bor (List ℕ)). p.now) ps))) (m ∙ sym (how_many ps))
+
+-- the table over the parts of a file
+pub table_refused : (before : Option Before) (want : Option Order) (bytes : List ℕ) (based : Bool) (types limit : ℕ) (e : BtfFault) → based ≡ is_some before → types ≡ length (types_before before) → limit ≡ length (names_before before)
+    → Fails e (file_of based types limit want bytes) → Fails e (table_of before want bytes)
+unfolding table_of
+table_refused before want bytes based types limit e b t l h =
+    fails_on e (file_of based types limit want bytes) (table_of before want bytes) h
+    (λ (r : file_of based types limit want bytes ≡ Err e).
+      let s : file_of (is_some before) (length (types_before before)) (length (names_before before)) want bytes ≡ Err e = (λ i. file_of (sym b i) (sym t i) (sym l i) want bytes) ∙ r in
+      rw s refl)
+
+pub table_read : (before : Option Before) (want : Option Order) (bytes strings : List ℕ) (based : Bool) (types : ℕ) (f : File) (all : List CType) → based ≡ is_some before → types ≡ length (types_before before) → strings ≡ names_before before
+    → file_of based types (length strings) want bytes ≡ Ok f → all ≡ types_before before ++ types_of (strings ++ f.names) f.order f.pieces
+    → table_of before want bytes ≡ Ok (record { order = f.order; base = types; types = all; names = f.names })
+unfolding table_of
+table_read before want bytes strings based types f all b t l h a =
+    let s : file_of (is_some before) (length (types_before before)) (length (names_before before)) want bytes ≡ Ok f = (λ i. file_of (sym b i) (sym t i) (length (sym l i)) want bytes) ∙ h in
+    let q : all ≡ types_before before ++ types_of (names_before before ++ f.names) f.order f.pieces = a ∙ ap (λ (xs : List ℕ). types_before before ++ types_of (xs ++ f.names) f.order f.pieces) l in
+    rw s (λ i. let r : Result Shown BtfFault = Ok (record { order = f.order; base = sym t i; types = sym q i; names = f.names }) in r)
+
+pub still_some : {X Y : Type 0} (g : X → Y) (o : Option X) → is_some o ≡ is_some (option_map g o)
+still_some g None = refl
+still_some g (Some x) = refl

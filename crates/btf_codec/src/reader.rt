@@ -154,6 +154,19 @@ fn file_of<'a>(
     Ok(File { order, pieces, names })
 }
 
+/// The strings of the table before.
+fn strings_of<'a>(base: Option<&Table<'a>>) -> &'a [u8]
+    requires { IfSome base (λ b. IsBefore b.now) }
+    ensures names { result.now ≡ names_before (option_map (λ b. before_of b.now) base.entry) }
+    ensures ends { EndsWithNul result.now }
+    ensures short { length result.now < 2 ^ 32 }
+{
+    match base {
+        Some(table) => table.names,
+        None => &[],
+    }
+}
+
 /// The table that the bytes spell, or the first fault of the bytes.
 pub fn read<'a>(
     alloc: Global,
@@ -166,10 +179,7 @@ pub fn read<'a>(
 {
     let mut all = types_of(alloc, base)?;
     let before = all.len() as u32;
-    let strings = match base {
-        Some(table) => table.names,
-        None => &[],
-    };
+    let strings = strings_of(base);
     let file = match file_of(alloc, base.is_some(), before, strings.len() as u64, want, bytes) {
         Ok(file) => file,
         Err(fault) => return Err(fault),
