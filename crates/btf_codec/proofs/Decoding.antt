@@ -1,5 +1,5 @@
 -- What words spell is one table alone: it can be read back from them.
-use Rattle.std.proofs.Common.{nat_le, ◌≡◌, ℕ, zero, suc, ◌+◌, ◌*◌, ◌-◌, ◌/◌, ◌%◌, ◌<◌, ◌≤◌, ◌^◌, ◌==◌, Bool, true, false, List, [], ◌∷◌, ◌++◌, length, drop, get_or, unwrap_or, All, Option, None, Some, if◌then◌else◌, refl, sym, ap, subst, ◌∙◌, arith, append_assoc, append-nil}
+use Rattle.std.proofs.Common.{nat_le, ◌≡◌, ℕ, zero, suc, ◌+◌, ◌*◌, ◌/◌, ◌%◌, ◌<◌, ◌≤◌, ◌^◌, ◌==◌, Bool, true, false, List, [], ◌∷◌, ◌++◌, length, drop, get_or, unwrap_or, All, Option, None, Some, if◌then◌else◌, refl, sym, ap, subst, ◌∙◌, arith, append_assoc}
 use Rattle.std.specs.List.{AllZip, flat_map}
 use Rattle.std.proofs.lemmas.Bool.{le-leb, lt-leb}
 use Rattle.std.proofs.lemmas.List.{length-drop, nil_from_length}
@@ -9,11 +9,11 @@ use Rattle.c_model.specs.declared.label.Part.{Part}
 use Rattle.c_model.specs.declared.graph.CType.{CType}
 use Rattle.c_model.specs.declared.graph.Ref.{Ref}
 use Rattle.c_model.specs.declared.graph.Ref.TheVariants.{Void, Node}
-use Rattle.c_model.specs.Kinds.{FitsParts, FitsPart, IsWellFormed, PartRow, Row, part_targets, row_of}
-use Rattle.btf_codec.specs.Fields.{Field, Named, Refers, Number, bit_of, fields_of, high_of, id_of, info_of, layout_of, low_of, part_fields, parts_fields, rest_by, target_at, vlen_of}
+use Rattle.c_model.specs.Kinds.{FitsParts, FitsPart, IsWellFormed, PartRow, Row, part_targets}
+use Rattle.btf_codec.specs.Fields.{Field, bit_of, fields_of, high_of, id_of, layout_of, low_of, part_fields, parts_fields, rest_by, target_at, vlen_of}
 use Rattle.btf_codec.specs.Spells.{StandsFor}
 use Rattle.btf_codec.proofs.KindTable.{kind_known, vlen_few}
-use Rattle.btf_codec.proofs.Shapes.{HasParts, PartShape, Shape, ShapeOf, Together, refers, together}
+use Rattle.btf_codec.proofs.Shapes.{HasParts, PartShape, ShapeOf, Together, refers, together}
 use Rattle.btf_codec.specs.declared.layout.Layout.{Layout}
 use Rattle.btf_codec.specs.declared.layout.Layout.TheVariants.{Int, Link, Array, Forward, TaggedLink, Float, Sized, Prototype}
 use Rattle.btf_codec.specs.declared.layout.PartLayout.{PartLayout}

@@ -1,5 +1,5 @@
 -- The table of kinds and the layouts go together.
-use Rattle.std.proofs.Common.{◌≡◌, ℕ, ◌+◌, ◌<◌, ◌≤◌, ◌^◌, ◌==◌, Bool, true, false, Option, None, Some, if◌then◌else◌, refl, sym, ap, subst, ◌∙◌, arith}
+use Rattle.std.proofs.Common.{◌≡◌, ℕ, ◌≤◌, ◌^◌, ◌==◌, Bool, true, false, Option, None, Some, if◌then◌else◌, refl, arith}
 use Rattle.std.proofs.lemmas.Bool.{eqb-false, eqb-true, ne_eqb}
 use Rattle.c_model.specs.Kinds.{PartRow, Row, row_of}
 use Rattle.btf_codec.specs.Fields.{layout_of}

@@ -4,6 +4,7 @@
 pub mod fault;
 mod faults;
 mod file;
+pub mod laws;
 mod layout;
 mod pieces;
 pub mod reader;
@@ -16,6 +17,7 @@ mod words;
 pub mod writer;
 
 pub use fault::BtfFault;
+pub use laws::spelled_once;
 pub use reader::read;
 pub use table::{Table, TableOut};
 pub use writer::write;

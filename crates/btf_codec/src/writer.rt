@@ -21,8 +21,12 @@ use c_model::{CType, Part, Ref};
 use dw_base::{Bytes, Order};
 use std::alloc::{AllocError, Global};
 
-/// The bytes of a table's own types and own strings, behind a header. Where the own types are well formed, the bytes
-/// spell the table, each name at the offset that the strings give it.
+/// The bytes of a table's own types and own strings, behind a header (the kernel's BTF documentation, "BTF Header").
+/// Where the own types are well formed, the bytes spell the table, each name at the offset that the strings give it,
+/// and no other table.
+///
+/// Each name of an own type and of its parts has been put into the table's strings, references are below the number
+/// of types, and own types and strings together have fewer than 2^32 bytes.
 pub fn write(alloc: Global, table: &TableOut<'_>, order: Order) -> Result<Bytes, AllocError>
     requires few { length table.now.types < 2 ^ 32 }
     requires base { table.now.base ≤ length table.now.types }

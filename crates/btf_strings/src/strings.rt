@@ -90,6 +90,7 @@ impl<'a> Strings<'a> {
         // The text there is the name.
         ensures text { HasNoNul name.entry → IfSome result (λ at. text_of (all_strings self.now) at ≡ Some name.entry) }
     {
+        // A struct's invariant is known once a field is used.
         let _ = &self.base;
         let bytes = name.bytes();
         if bytes.is_empty() {
