@@ -1,11 +1,11 @@
 -- The types of a file, one piece after another.
-use Rattle.std.proofs.Common.{◌≡◌, ℕ, zero, suc, ◌+◌, ◌*◌, ◌-◌, ◌/◌, ◌<◌, ◌≤◌, ◌^◌, nat_lt, Bool, true, false, List, [], ◌∷◌, ◌++◌, length, take, drop, map, Option, None, Some, Result, Ok, Err, if◌then◌else◌, refl, sym, ap, subst, ◌∙◌, arith, append_assoc, append-nil}
+use Rattle.std.proofs.Common.{◌≡◌, ℕ, zero, suc, ◌+◌, ◌*◌, ◌-◌, ◌/◌, ◌<◌, ◌≤◌, nat_lt, Bool, true, false, List, [], ◌∷◌, ◌++◌, length, take, drop, Option, None, Some, Result, Ok, Err, if◌then◌else◌, refl, sym, ap, subst, ◌∙◌, arith, append_assoc, append-nil}
 use Rattle.std.proofs.lemmas.Bool.{le-ltb, ltb-false}
 use Rattle.std.proofs.lemmas.List.{drop-drop}
 use Rattle.dw_base.specs.declared.numbers.Order.{Order}
 use Rattle.btf_codec.specs.Fields.{layout_of}
 use Rattle.btf_codec.specs.Gives.{Fails}
-use Rattle.btf_codec.specs.Reading.{◌>>=◌, checked, head_of, is_header, is_info, kind_in, part_width, pieces_of, sections_of, type_width, vlen_in, word_in}
+use Rattle.btf_codec.specs.Reading.{◌>>=◌, checked, head_of, is_header, is_info, kind_in, pieces_of, sections_of, type_width, vlen_in, word_in}
 use Rattle.btf_codec.specs.declared.fault.BtfFault.{BtfFault}
 use Rattle.btf_codec.specs.declared.fault.BtfFault.TheVariants.{BtfMagic, BtfHeader, BtfTruncated, BtfKind, BtfInfo, BtfName, BtfRef, BtfStrings, Memory}
 use Rattle.btf_codec.specs.declared.layout.Layout.{Layout}

@@ -1,7 +1,6 @@
 -- What a call of the reader answers, against what reading gives.
 use Rattle.std.specs.Prelude.{◌≡◌, ℕ, ◌*◌, ◌-◌, ◌<◌, ◌^◌, List, length, slice_get, slice_index, Option, None, Some, Result, Ok, Err, ⊤}
-use Rattle.btf_codec.specs.Fields.{layout_of}
-use Rattle.btf_codec.specs.Reading.{Before, Shown, kind_in, layout_in, type_width, vlen_in, word_in}
+use Rattle.btf_codec.specs.Reading.{Before, Shown, layout_in, type_width, vlen_in, word_in}
 use Rattle.btf_codec.specs.declared.fault.BtfFault.{BtfFault}
 use Rattle.btf_codec.specs.declared.fault.BtfFault.TheVariants.{Memory}
 use Rattle.btf_codec.specs.declared.layout.Layout.{Layout}

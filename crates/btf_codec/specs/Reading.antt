@@ -2,19 +2,17 @@
 -- documentation, "BTF Header", "String Encoding" and "Type Encoding"; the order of the checks is this project's own).
 use Rattle.std.specs.Prelude.{ℕ, zero, suc, ◌+◌, ◌*◌, ◌-◌, ◌/◌, ◌%◌, ◌^◌, ◌==◌, ◌&&◌, ◌||◌, nat_lt, nat_le, not, Bool, true, false, List, [], ◌∷◌, ◌++◌, length, take, drop, map, find, is_some, slice_index, unwrap_or, Option, None, Some, Result, Ok, Err, if◌then◌else◌}
 use Rattle.std.specs.Option.{option_map, option_or}
-use Rattle.std.specs.Int.{from_le_bytes, from_be_bytes, w16, w32}
+use Rattle.std.specs.Int.{from_le_bytes, from_be_bytes, w32}
 use Rattle.dw_base.specs.Texts.{text_of}
 use Rattle.dw_base.specs.declared.numbers.Order.{Order}
 use Rattle.dw_base.specs.declared.numbers.Order.TheVariants.{Little, Big}
-use Rattle.c_model.specs.Kinds.{PartRow, Row, row_of}
 use Rattle.c_model.specs.declared.label.Part.{Part}
 use Rattle.c_model.specs.declared.graph.CType.{CType}
 use Rattle.c_model.specs.declared.graph.Ref.{Ref}
 use Rattle.c_model.specs.declared.graph.Ref.TheVariants.{Void, Node}
 use Rattle.btf_codec.specs.Fields.{bit_of, layout_of}
-use Rattle.btf_codec.specs.Spells.{Base, base_names, base_types}
 use Rattle.btf_codec.specs.declared.fault.BtfFault.{BtfFault}
-use Rattle.btf_codec.specs.declared.fault.BtfFault.TheVariants.{BtfMagic, BtfHeader, BtfTruncated, BtfKind, BtfInfo, BtfName, BtfRef, BtfStrings, Memory}
+use Rattle.btf_codec.specs.declared.fault.BtfFault.TheVariants.{BtfMagic, BtfHeader, BtfTruncated, BtfKind, BtfInfo, BtfName, BtfRef, BtfStrings}
 use Rattle.btf_codec.specs.declared.layout.Layout.{Layout}
 use Rattle.btf_codec.specs.declared.layout.Layout.TheVariants.{Int, Link, Array, Forward, TaggedLink, Float, Sized, Prototype}
 use Rattle.btf_codec.specs.declared.layout.PartLayout.{PartLayout}

@@ -1,8 +1,7 @@
-use Rattle.std.proofs.Common.{ℕ, List, [], sym, ap, ◌∙◌, arith}
+use Rattle.std.proofs.Common.{[], sym, ◌∙◌, arith}
 use Rattle.btf_codec.specs.Reading.{pieces_fault}
-use Rattle.btf_codec.proofs.Checking.{fault_found, fault_none, fault_over, nows, piece_at}
+use Rattle.btf_codec.proofs.Checking.{fault_found, fault_none, fault_over, nows}
 use Rattle.btf_codec.proofs.reader.check_words.Goals as goal
-use denote.Bor.{Bor}
 
 pub returns-in-Some : goal.returns-in-Some
 returns-in-Some c =

@@ -1,6 +1,6 @@
-use Rattle.std.proofs.Common.{◌≡◌, ℕ, ◌+◌, ◌*◌, ◌≤◌, ◌<◌, ◌^◌, ◌&&◌, List, [], length, map, get_or, Bool, false, true, Option, None, Some, Result, Ok, Err, refl, sym, ap, subst, ◌∙◌, arith}
-use Rattle.btf_codec.specs.Reading.{file_of, is_begun, is_ended, order_in, pieces_fault, pieces_of, sections_of}
-use Rattle.btf_codec.specs.Gives.{Fails, IsPiece}
+use Rattle.std.proofs.Common.{◌≡◌, ℕ, ◌+◌, ◌<◌, ◌^◌, List, length, map, get_or, Ok, Err, sym, ap, subst, ◌∙◌, arith}
+use Rattle.btf_codec.specs.Reading.{file_of, pieces_fault, pieces_of}
+use Rattle.btf_codec.specs.Gives.{IsPiece}
 use Rattle.btf_codec.proofs.Gluing.{all_well, cut, fails_on, how_many, no_fault, no_order, no_pieces, no_sections, no_strings, no_words, same_fault, the_piece, a_fault}
 use Rattle.btf_codec.proofs.Splitting.{fails_with}
 use Rattle.btf_codec.proofs.reader.file_of.Goals as goal

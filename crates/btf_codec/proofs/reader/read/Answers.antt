@@ -1,8 +1,8 @@
-use Rattle.std.proofs.Common.{◌≡◌, ℕ, List, length, map, ◌++◌, refl, sym, ap, ◌∙◌, arith}
+use Rattle.std.proofs.Common.{ℕ, List, length, map, ◌++◌, ap, ◌∙◌, arith}
 use Rattle.std.specs.Option.{option_map}
 use Rattle.c_model.specs.declared.graph.CType.{CType}
 use Rattle.btf_codec.specs.Gives.{before_of}
-use Rattle.btf_codec.specs.Reading.{names_before, types_before, types_of}
+use Rattle.btf_codec.specs.Reading.{types_of}
 use Rattle.btf_codec.specs.declared.table.Table.{Table}
 use Rattle.btf_codec.proofs.Gluing.{still_some, table_read, table_refused}
 use Rattle.btf_codec.proofs.reader.read.Goals as goal

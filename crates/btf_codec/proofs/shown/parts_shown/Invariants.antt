@@ -1,5 +1,5 @@
 use Rattle.std.proofs.Common.{◌≡◌, ◌++◌, map}
-use Rattle.btf_codec.specs.Reading.{part_shown, part_width, places, word_in}
+use Rattle.btf_codec.specs.Reading.{part_shown, places, word_in}
 use Rattle.btf_codec.proofs.shown.parts_shown.Given as goal
 
 abbrev pub invariant-loop-i : goal.invariant-loop-i
