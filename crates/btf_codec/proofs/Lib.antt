@@ -1,9 +1,14 @@
 pub mod Alone
+pub mod Checking
 pub mod Counting
 pub mod Decoding
 pub mod Endings
+pub mod Gluing
 pub mod Good
 pub mod KindTable
 pub mod Meeting
+pub mod Pasts
 pub mod Putting
 pub mod Shapes
+pub mod Splitting
+pub mod Strung

@@ -1,3 +1,5 @@
 pub mod Fields
-pub mod Spells
+pub mod Gives
+pub mod Reading
 pub mod Spelling
+pub mod Spells

@@ -1,4 +1,8 @@
 //! Why bytes spell no table.
+ghost use Rattle.std.specs.Prelude.{◌≡◌};
+ghost use Rattle.btf_codec.specs.declared.fault.BtfFault.TheVariants.{Memory};
+
+use std::alloc::{AllocError, AllocFailed};
 use thiserror::Error;
 
 /// The first fault of the bytes, by the order of the reader's checks. The `u64` is the offset of the faulty piece in
@@ -23,4 +27,20 @@ pub enum BtfFault {
     BtfStrings(u64),
     #[error("out of memory")]
     Memory,
+}
+
+impl From<AllocError> for BtfFault {
+    ghost from_gives = { λ _ e. e ≡ Memory };
+
+    fn from(_e: AllocError) -> BtfFault {
+        BtfFault::Memory
+    }
+}
+
+impl<T: Drop> From<AllocFailed<T>> for BtfFault {
+    ghost from_gives = { λ _ e. e ≡ Memory };
+
+    fn from(_e: AllocFailed<T>) -> BtfFault {
+        BtfFault::Memory
+    }
 }

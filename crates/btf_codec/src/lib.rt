@@ -2,9 +2,14 @@
 #![tactic(auto)]
 
 pub mod fault;
+mod faults;
+mod file;
 pub mod laws;
 mod layout;
+mod pieces;
+pub mod reader;
 mod shared;
+mod shown;
 pub mod table;
 #[cfg(test)]
 mod tests;
@@ -13,5 +18,6 @@ pub mod writer;
 
 pub use fault::BtfFault;
 pub use laws::spelled_once;
+pub use reader::read;
 pub use table::{Table, TableOut};
 pub use writer::write;

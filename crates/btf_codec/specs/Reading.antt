@@ -1,0 +1,304 @@
+-- Reading a BTF file: the first fault in the order of the checks, or the types that the words show (the Linux kernel's BTF
+-- documentation, "BTF Header", "String Encoding" and "Type Encoding"; the order of the checks is this project's own).
+use Rattle.std.specs.Prelude.{ℕ, zero, suc, ◌+◌, ◌*◌, ◌-◌, ◌/◌, ◌%◌, ◌^◌, ◌==◌, ◌&&◌, ◌||◌, nat_lt, nat_le, not, Bool, true, false, List, [], ◌∷◌, ◌++◌, length, take, drop, map, find, is_some, slice_index, unwrap_or, Option, None, Some, Result, Ok, Err, if◌then◌else◌}
+use Rattle.std.specs.Option.{option_map, option_or}
+use Rattle.std.specs.Int.{from_le_bytes, from_be_bytes, w32}
+use Rattle.dw_base.specs.Texts.{text_of}
+use Rattle.dw_base.specs.declared.numbers.Order.{Order}
+use Rattle.dw_base.specs.declared.numbers.Order.TheVariants.{Little, Big}
+use Rattle.c_model.specs.declared.label.Part.{Part}
+use Rattle.c_model.specs.declared.graph.CType.{CType}
+use Rattle.c_model.specs.declared.graph.Ref.{Ref}
+use Rattle.c_model.specs.declared.graph.Ref.TheVariants.{Void, Node}
+use Rattle.btf_codec.specs.Fields.{bit_of, layout_of}
+use Rattle.btf_codec.specs.declared.fault.BtfFault.{BtfFault}
+use Rattle.btf_codec.specs.declared.fault.BtfFault.TheVariants.{BtfMagic, BtfHeader, BtfTruncated, BtfKind, BtfInfo, BtfName, BtfRef, BtfStrings}
+use Rattle.btf_codec.specs.declared.layout.Layout.{Layout}
+use Rattle.btf_codec.specs.declared.layout.Layout.TheVariants.{Int, Link, Array, Forward, TaggedLink, Float, Sized, Prototype}
+use Rattle.btf_codec.specs.declared.layout.PartLayout.{PartLayout}
+use Rattle.btf_codec.specs.declared.layout.PartLayout.TheVariants.{Member, Enumerator, WideEnumerator, Parameter, Variable}
+
+infixl 10 ◌>>=◌
+abbrev pub ◌>>=◌ : {A B : Type 0} → Result A BtfFault → (A → Result B BtfFault) → Result B BtfFault
+(Ok x) >>= f = f x
+(Err e) >>= f = Err e
+
+-- the number of the 4 bytes at a word's place
+abbrev pub four : List ℕ → ℕ → List ℕ
+four bytes at = slice_index bytes at ∷ slice_index bytes (at + 1) ∷ slice_index bytes (at + 2) ∷ slice_index bytes (at + 3) ∷ []
+
+abbrev pub word_in : Order → List ℕ → ℕ → ℕ
+word_in Little bytes i = from_le_bytes w32 (four bytes (4 * i))
+word_in Big bytes i = from_be_bytes w32 (four bytes (4 * i))
+
+-- the parts of an info word
+abbrev pub kind_in : ℕ → ℕ
+kind_in y = y / 2 ^ 24 % 32
+
+abbrev pub flag_in : ℕ → Bool
+flag_in y = nat_le (2 ^ 31) y
+
+abbrev pub vlen_in : ℕ → ℕ
+vlen_in y = y % 2 ^ 16
+
+-- bits 16 to 23, 29 and 30 are clear
+abbrev pub is_clean : ℕ → Bool
+is_clean y = y == vlen_in y + 2 ^ 24 * kind_in y + 2 ^ 31 * bit_of (flag_in y)
+
+-- kind_flag may be set on this kind
+abbrev pub may_flag : ℕ → Bool
+may_flag k = k == 4 || k == 5 || k == 6 || k == 7 || k == 17 || k == 18 || k == 19
+
+-- vlen is a FUNC's linkage, the number of parts, or 0
+abbrev pub is_vlen : Layout → ℕ → ℕ → Bool
+is_vlen (Sized parts) k v = true
+is_vlen Prototype k v = true
+is_vlen Link k v = if k == 12 then nat_lt v 3 else v == 0
+is_vlen layout k v = v == 0
+
+-- the third word of an ARRAY and of a FWD is 0
+abbrev pub is_third : Layout → ℕ → Bool
+is_third Array third = third == 0
+is_third Forward third = third == 0
+is_third layout third = true
+
+abbrev pub is_info : Layout → ℕ → ℕ → Bool
+is_info layout y third =
+    is_clean y && (not (flag_in y) || may_flag (kind_in y)) && is_vlen layout (kind_in y) (vlen_in y) && is_third layout third
+
+-- how many words a part and a type have
+abbrev pub part_width : PartLayout → ℕ
+part_width Member = 3
+part_width Enumerator = 2
+part_width WideEnumerator = 3
+part_width Parameter = 2
+part_width Variable = 3
+
+abbrev pub type_width : Layout → ℕ → ℕ
+type_width Int v = 4
+type_width Link v = 3
+type_width Array v = 6
+type_width Forward v = 3
+type_width TaggedLink v = 4
+type_width Float v = 3
+type_width (Sized parts) v = 3 + part_width parts * v
+type_width Prototype v = 3 + 2 * v
+
+-- the checks of a type at a place, of whose words so many are left: how many of them it has
+abbrev pub checked : ℕ → ℕ → ℕ → ℕ → ℕ → Option Layout → Result ℕ BtfFault
+checked place id y third left None = Err (BtfKind place id (kind_in y))
+checked place id y third left (Some layout) =
+    if is_info layout y third
+    then (if nat_lt left (type_width layout (vlen_in y)) then Err (BtfTruncated place) else Ok (type_width layout (vlen_in y)))
+    else Err (BtfInfo place id)
+
+abbrev pub head_of : ℕ → ℕ → (ℕ → ℕ) → ℕ → Result ℕ BtfFault
+head_of place id w left = if nat_lt left 3 then Err (BtfTruncated place) else checked place id (w 1) (w 2) left (layout_of (kind_in (w 1)))
+
+-- the bytes of each type, from a place on
+unfoldable pub pieces_of : Order → ℕ → ℕ → ℕ → List ℕ → Result (List (List ℕ)) BtfFault
+pieces_of order zero place id bytes = Ok []
+pieces_of order (suc n) place id [] = Ok []
+pieces_of order (suc n) place id (b ∷ bs) =
+    head_of place id (word_in order (b ∷ bs)) (length (b ∷ bs) / 4) >>= λ (size : ℕ).
+    pieces_of order n (place + 4 * size) (id + 1) (drop (4 * size) (b ∷ bs)) >>= λ (rest : List (List ℕ)).
+    Ok (take (4 * size) (b ∷ bs) ∷ rest)
+
+-- so many places, each so many words behind the one before
+unfoldable pub places : ℕ → ℕ → ℕ → List ℕ
+places at width zero = []
+places at width (suc n) = at ∷ places (at + width) width n
+
+-- the words at such places
+abbrev pub words_at : (ℕ → ℕ) → ℕ → ℕ → ℕ → List ℕ
+words_at w at width n = map w (places at width n)
+
+-- the first number that is not below a limit
+abbrev pub first_past : ℕ → List ℕ → Option ℕ
+first_past limit ws = find (λ (x : ℕ). nat_le limit x) ws
+
+-- the words of a type that are offsets of names
+abbrev pub names_by : Option Layout → (ℕ → ℕ) → ℕ → List ℕ
+names_by (Some (Sized Variable)) w v = w 0 ∷ []
+names_by (Some (Sized parts)) w v = w 0 ∷ words_at w 3 (part_width parts) v
+names_by (Some Prototype) w v = w 0 ∷ words_at w 3 2 v
+names_by layout w v = w 0 ∷ []
+
+-- the words of a type that are ids
+abbrev pub ids_by : Option Layout → (ℕ → ℕ) → ℕ → List ℕ
+ids_by (Some Link) w v = w 2 ∷ []
+ids_by (Some Array) w v = w 3 ∷ w 4 ∷ []
+ids_by (Some TaggedLink) w v = w 2 ∷ []
+ids_by (Some (Sized Member)) w v = words_at w 4 3 v
+ids_by (Some (Sized Variable)) w v = words_at w 3 3 v
+ids_by (Some Prototype) w v = w 2 ∷ words_at w 4 2 v
+ids_by layout w v = []
+
+abbrev pub layout_in : (ℕ → ℕ) → Option Layout
+layout_in w = layout_of (kind_in (w 1))
+
+abbrev pub names_in : (ℕ → ℕ) → List ℕ
+names_in w = names_by (layout_in w) w (vlen_in (w 1))
+
+abbrev pub ids_in : (ℕ → ℕ) → List ℕ
+ids_in w = ids_by (layout_in w) w (vlen_in (w 1))
+
+-- the first word of a type that is no offset in the strings, and after it the first that is no id of the table
+abbrev pub words_fault : ℕ → ℕ → ℕ → ℕ → (ℕ → ℕ) → Option BtfFault
+words_fault place id limit count w =
+    option_or (option_map (λ (x : ℕ). BtfName place id x) (first_past limit (names_in w)))
+    (option_map (λ (x : ℕ). BtfRef place id x) (first_past (count + 1) (ids_in w)))
+
+unfoldable pub pieces_fault : Order → ℕ → ℕ → ℕ → ℕ → List (List ℕ) → Option BtfFault
+pieces_fault order place id limit count [] = None
+pieces_fault order place id limit count (p ∷ ps) =
+    option_or (words_fault place id limit count (word_in order p)) (pieces_fault order (place + length p) (id + 1) limit count ps)
+
+-- the type that the words show, over the base's strings and the own ones
+abbrev pub name_at : List ℕ → ℕ → List ℕ
+name_at strings x = unwrap_or (text_of strings x) []
+
+abbrev pub ref_of : ℕ → Ref
+ref_of zero = Void
+ref_of (suc x) = Node x
+
+abbrev pub whole_value : (ℕ → ℕ) → ℕ → ℕ
+whole_value w at = w (at + 1) + 2 ^ 32 * w (at + 2)
+
+abbrev pub part_shown : PartLayout → List ℕ → (ℕ → ℕ) → ℕ → Part
+part_shown Member strings w at = record { name = name_at strings (w at); value = w (at + 2) }
+part_shown Enumerator strings w at = record { name = name_at strings (w at); value = w (at + 1) }
+part_shown WideEnumerator strings w at = record { name = name_at strings (w at); value = whole_value w at }
+part_shown Parameter strings w at = record { name = name_at strings (w at); value = 0 }
+part_shown Variable strings w at = record { name = []; value = whole_value w at }
+
+abbrev pub parts_shown : PartLayout → List ℕ → (ℕ → ℕ) → ℕ → List Part
+parts_shown layout strings w n = map (part_shown layout strings w) (places 3 (part_width layout) n)
+
+abbrev pub parts_by : Option Layout → List ℕ → (ℕ → ℕ) → ℕ → List Part
+parts_by (Some (Sized layout)) strings w v = parts_shown layout strings w v
+parts_by (Some Prototype) strings w v = parts_shown Parameter strings w v
+parts_by layout strings w v = []
+
+abbrev pub size_by : Option Layout → (ℕ → ℕ) → ℕ
+size_by (Some Int) w = w 2
+size_by (Some Float) w = w 2
+size_by (Some (Sized parts)) w = w 2
+size_by layout w = 0
+
+abbrev pub extra_by : Option Layout → (ℕ → ℕ) → ℕ
+extra_by (Some Int) w = w 3
+extra_by (Some Link) w = if kind_in (w 1) == 12 then vlen_in (w 1) else 0
+extra_by (Some Array) w = w 5
+extra_by (Some TaggedLink) w = w 3
+extra_by layout w = 0
+
+abbrev pub type_by : Option Layout → List ℕ → (ℕ → ℕ) → CType
+type_by layout strings w =
+    record {
+      label = record {
+        kind = kind_in (w 1);
+        name = name_at strings (w 0);
+        flag = flag_in (w 1);
+        size = size_by layout w;
+        extra = extra_by layout w;
+        parts = parts_by layout strings w (vlen_in (w 1));
+      };
+      targets = map ref_of (ids_by layout w (vlen_in (w 1)));
+    }
+
+unfoldable pub type_shown : List ℕ → (ℕ → ℕ) → CType
+type_shown strings w = type_by (layout_in w) strings w
+
+-- the byte order that the magic number shows
+abbrev pub magic_order : ℕ → ℕ → Option Order
+magic_order a b = if a == 0x9f && b == 0xeb then Some Little else if a == 0xeb && b == 0x9f then Some Big else None
+
+abbrev pub is_same_order : Order → Order → Bool
+is_same_order Little Little = true
+is_same_order Little Big = false
+is_same_order Big Little = false
+is_same_order Big Big = true
+
+abbrev pub is_wanted : Option Order → Order → Bool
+is_wanted None order = true
+is_wanted (Some want) order = is_same_order want order
+
+abbrev pub wanted_order : Option Order → Option Order → Result Order BtfFault
+wanted_order want None = Err BtfMagic
+wanted_order want (Some order) = if is_wanted want order then Ok order else Err BtfMagic
+
+abbrev pub order_in : Option Order → List ℕ → Result Order BtfFault
+order_in want bytes = wanted_order want (magic_order (slice_index bytes 0) (slice_index bytes 1))
+
+-- version 1, no flags, a header of 24 bytes, types first and in whole words, then the strings and nothing more
+abbrev pub is_header : Order → List ℕ → Bool
+is_header order bytes =
+    slice_index bytes 2 == 1 && slice_index bytes 3 == 0 && word_in order bytes 1 == 24 && word_in order bytes 2 == 0 && word_in order bytes 3 % 4 == 0
+    && word_in order bytes 4 == word_in order bytes 3 && length bytes == 24 + word_in order bytes 3 + word_in order bytes 5
+
+-- the bytes of the types and those of the strings
+abbrev pub sections_of : Order → List ℕ → Result (List ℕ × List ℕ) BtfFault
+sections_of order bytes =
+    if nat_lt (length bytes) 24
+    then Err BtfHeader
+    else if is_header order bytes then Ok (take (word_in order bytes 3) (drop 24 bytes), drop (24 + word_in order bytes 3) bytes) else Err BtfHeader
+
+-- the own strings end with NUL, and without a base they begin with one
+abbrev pub is_begun : Bool → List ℕ → Bool
+is_begun based [] = based
+is_begun based (b ∷ bs) = based || b == 0
+
+abbrev pub is_ended : List ℕ → Bool
+is_ended names = length names == 0 || slice_index names (length names - 1) == 0
+
+-- the parts of a file: its byte order, the bytes of each type, and the strings
+pub record File : Type 0 where
+  pub order : Order
+  pub pieces : List (List ℕ)
+  pub names : List ℕ
+
+abbrev pub accepted : Order → List (List ℕ) → List ℕ → Option BtfFault → Result File BtfFault
+accepted order pieces names None = Ok (record { order = order; pieces = pieces; names = names })
+accepted order pieces names (Some fault) = Err fault
+
+unfoldable pub file_of : Bool → ℕ → ℕ → Option Order → List ℕ → Result File BtfFault
+file_of based types limit want bytes =
+    order_in want bytes >>= λ (order : Order).
+    sections_of order bytes >>= λ (s : List ℕ × List ℕ).
+    (if is_begun based s.1 && is_ended s.1 then Ok s else Err (BtfStrings (24 + length s.0))) >>= λ (t : List ℕ × List ℕ).
+    pieces_of order (length t.0) 24 (types + 1) t.0 >>= λ (pieces : List (List ℕ)).
+    accepted order pieces t.1 (pieces_fault order 24 (types + 1) (limit + length t.1) (types + length pieces) pieces)
+
+-- the table that comes before the own types: its types and its strings
+pub record Before : Type 0 where
+  pub types : List CType
+  pub names : List ℕ
+
+abbrev pub types_before : Option Before → List CType
+types_before None = []
+types_before (Some b) = b.types
+
+abbrev pub names_before : Option Before → List ℕ
+names_before None = []
+names_before (Some b) = b.names
+
+-- the table of a file: its byte order, how many types come before the own ones, all types, and the own strings
+pub record Shown : Type 0 where
+  pub order : Order
+  pub base : ℕ
+  pub types : List CType
+  pub names : List ℕ
+
+abbrev pub types_of : List ℕ → Order → List (List ℕ) → List CType
+types_of strings order pieces = map (λ (p : List ℕ). type_shown strings (word_in order p)) pieces
+
+unfoldable pub table_of : Option Before → Option Order → List ℕ → Result Shown BtfFault
+table_of before want bytes =
+    file_of (is_some before) (length (types_before before)) (length (names_before before)) want bytes >>= λ (f : File).
+    Ok (record {
+      order = f.order;
+      base = length (types_before before);
+      types = types_before before ++ types_of (names_before before ++ f.names) f.order f.pieces;
+      names = f.names;
+    })

@@ -1,0 +1,142 @@
+//! The parts of a file: header, types and strings.
+ghost use Rattle.std.specs.Prelude.{◌≡◌, ◌+◌, ◌*◌, ◌-◌, ◌/◌, ◌<◌, ◌≤◌, ◌^◌, ◌&&◌, ℕ, List, Ok, Err, length, map, slice_index, IfOk};
+ghost use Rattle.btf_codec.specs.Gives.{Gives, IsPiece, seen, unless};
+ghost use Rattle.btf_codec.specs.Reading.{is_begun, is_ended, is_header, is_same_order, is_wanted, magic_order, order_in, pieces_fault, pieces_of, sections_of, word_in};
+
+use crate::fault::BtfFault;
+use crate::pieces::{head_of, word_in};
+use dw_base::Order;
+use std::alloc::Global;
+
+/// The byte at a place; 0 past the end.
+fn byte_at(bytes: &[u8], place: usize) -> u8
+    ensures { result ≡ slice_index bytes.now place }
+{
+    if place < bytes.len() { bytes[place] } else { 0 }
+}
+
+/// The byte order that a magic number shows.
+fn magic_order(first: u8, second: u8) -> Option<Order>
+    ensures { result ≡ magic_order first second }
+{
+    if first == 0x9f && second == 0xeb {
+        Some(Order::Little)
+    } else if first == 0xeb && second == 0x9f {
+        Some(Order::Big)
+    } else {
+        None
+    }
+}
+
+fn is_same_order(a: Order, b: Order) -> bool
+    ensures { result ≡ is_same_order a b }
+{
+    match a {
+        Order::Little => match b {
+            Order::Little => true,
+            Order::Big => false,
+        },
+        Order::Big => match b {
+            Order::Little => false,
+            Order::Big => true,
+        },
+    }
+}
+
+fn is_wanted(want: Option<Order>, order: Order) -> bool
+    ensures { result ≡ is_wanted want order }
+{
+    match want {
+        None => true,
+        Some(want) => is_same_order(want, order),
+    }
+}
+
+/// The byte order of a file, if it is a wanted one.
+pub fn order_in(want: Option<Order>, bytes: &[u8]) -> Result<Order, BtfFault>
+    ensures { result ≡ order_in want bytes.now }
+{
+    match magic_order(byte_at(bytes, 0), byte_at(bytes, 1)) {
+        None => Err(BtfFault::BtfMagic),
+        Some(order) => {
+            if is_wanted(want, order) {
+                Ok(order)
+            } else {
+                Err(BtfFault::BtfMagic)
+            }
+        }
+    }
+}
+
+fn is_header(order: Order, bytes: &[u8]) -> bool
+    requires { 24 ≤ length bytes.now }
+    ensures { result ≡ is_header order bytes.now }
+{
+    let types = word_in(order, bytes, 3);
+    let names = word_in(order, bytes, 5);
+    byte_at(bytes, 2) == 1
+        && byte_at(bytes, 3) == 0
+        && word_in(order, bytes, 1) == 24
+        && word_in(order, bytes, 2) == 0
+        && types % 4 == 0
+        && word_in(order, bytes, 4) == types
+        && bytes.len() == 24 + types as usize + names as usize
+}
+
+/// The bytes of the types and those of the strings.
+pub fn sections_of(order: Order, bytes: &[u8]) -> Result<(&[u8], &[u8]), BtfFault>
+    ensures sections { seen (λ x. (x.0.now, x.1.now)) result ≡ sections_of order bytes.now }
+    ensures few { IfOk result (λ x. length x.0.now < 2 ^ 32) }
+{
+    if bytes.len() < 24 {
+        return Err(BtfFault::BtfHeader);
+    }
+    if !is_header(order, bytes) {
+        return Err(BtfFault::BtfHeader);
+    }
+    let rest = &bytes[24..];
+    Ok(rest.split_at(word_in(order, bytes, 3) as usize))
+}
+
+/// Whether strings begin and end as they should.
+pub fn are_strings(based: bool, names: &[u8]) -> bool
+    ensures { result ≡ (is_begun based names.now && is_ended names.now) }
+{
+    if names.is_empty() {
+        return based;
+    }
+    (based || names[0] == 0) && names[names.len() - 1] == 0
+}
+
+/// The bytes of each type. The first has the id `first`.
+pub fn pieces_of<'a>(
+    alloc: Global,
+    order: Order,
+    types: &'a [u8],
+    first: u32,
+) -> Result<Vec<&'a [u8]>, BtfFault>
+    requires first { first ≤ 2 ^ 31 }
+    requires few { length types.now < 2 ^ 32 }
+    ensures { Gives (λ v. map (λ p. p.now) v.items) result (pieces_of order (length types.now) 24 first types.now) }
+{
+    let mut pieces = Vec::new(alloc);
+    let mut rest = types;
+    let mut place = 24;
+    let mut id = first;
+    for _ in 0..types.len() {
+        if rest.is_empty() {
+            return Ok(pieces);
+        }
+        let size = match head_of(order, place, id, rest) {
+            Ok(size) => size,
+            Err(fault) => return Err(fault),
+        };
+        let (piece, behind) = rest.split_at(4 * size);
+        pieces.push(piece)?;
+        rest = behind;
+        place += 4 * size as u64;
+        id += 1;
+    }
+    Ok(pieces)
+}
+

@@ -1,0 +1,170 @@
+//! The words of a type in a file.
+ghost use Rattle.std.specs.Prelude.{◌≡◌, ◌+◌, ◌*◌, ◌-◌, ◌/◌, ◌%◌, ◌<◌, ◌≤◌, ◌^◌, ◌&&◌, ◌||◌, ℕ, List, None, Some, Ok, Err, length, map, nat_lt, not, if◌then◌else◌};
+ghost use Rattle.std.specs.Option.{option_map, option_or};
+ghost use Rattle.btf_codec.specs.Fields.{layout_of};
+ghost use Rattle.btf_codec.specs.Reading.{checked, first_past, flag_in, head_of, ids_by, ids_in, is_clean, is_info, is_third, is_vlen, kind_in, may_flag, names_by, names_in, part_width, places, type_width, vlen_in, word_in, words_at, words_fault};
+
+use crate::fault::BtfFault;
+use crate::layout::{Layout, PartLayout, layout_of};
+use dw_base::Order;
+
+/// The word at a place, counted in words.
+#[inline(always)]
+pub fn word_in(order: Order, piece: &[u8], i: usize) -> u32
+    requires { 4 * i + 4 ≤ length piece.now }
+    ensures { result ≡ word_in order piece.now i }
+{
+    let at = 4 * i;
+    let bytes = [piece[at], piece[at + 1], piece[at + 2], piece[at + 3]];
+    match order {
+        Order::Little => u32::from_le_bytes(bytes),
+        Order::Big => u32::from_be_bytes(bytes),
+    }
+}
+
+/// The kind in an info word.
+pub fn kind_in(info: u32) -> u8
+    ensures { result ≡ kind_in info }
+{
+    (info / 0x100_0000 % 32) as u8
+}
+
+/// Whether kind_flag is set in an info word.
+pub fn flag_in(info: u32) -> bool
+    ensures { result ≡ flag_in info }
+{
+    info >= 0x8000_0000
+}
+
+/// vlen in an info word.
+pub fn vlen_in(info: u32) -> u32
+    ensures { result ≡ vlen_in info }
+{
+    info % 0x1_0000
+}
+
+/// How many words a part has.
+pub fn part_width(layout: PartLayout) -> u32
+    ensures value { result ≡ part_width layout }
+    ensures few { result ≤ 3 }
+{
+    match layout {
+        PartLayout::Member => 3,
+        PartLayout::Enumerator => 2,
+        PartLayout::WideEnumerator => 3,
+        PartLayout::Parameter => 2,
+        PartLayout::Variable => 3,
+    }
+}
+
+/// How many words a type has.
+pub fn type_width(layout: Layout, vlen: u32) -> usize
+    requires { vlen < 65536 }
+    ensures { result ≡ type_width layout vlen }
+{
+    match layout {
+        Layout::Int => 4,
+        Layout::Link => 3,
+        Layout::Array => 6,
+        Layout::Forward => 3,
+        Layout::TaggedLink => 4,
+        Layout::Float => 3,
+        Layout::Sized(parts) => 3 + (part_width(parts) * vlen) as usize,
+        Layout::Prototype => 3 + (2 * vlen) as usize,
+    }
+}
+
+/// Whether the bits that are not named are clear.
+fn is_clean(info: u32) -> bool
+    ensures { result ≡ is_clean info }
+{
+    info / 0x1_0000 % 256 == 0 && info / 0x2000_0000 % 4 == 0
+}
+
+/// Whether kind_flag may be set on a kind.
+fn may_flag(kind: u8) -> bool
+    ensures { result ≡ may_flag kind }
+{
+    matches!(kind, 4 | 5 | 6 | 7 | 17 | 18 | 19)
+}
+
+fn is_vlen(layout: Layout, kind: u8, vlen: u32) -> bool
+    ensures { result ≡ is_vlen layout kind vlen }
+{
+    match layout {
+        Layout::Sized(_) => true,
+        Layout::Prototype => true,
+        Layout::Link => {
+            if kind == 12 {
+                vlen < 3
+            } else {
+                vlen == 0
+            }
+        }
+        Layout::Int => vlen == 0,
+        Layout::Array => vlen == 0,
+        Layout::Forward => vlen == 0,
+        Layout::TaggedLink => vlen == 0,
+        Layout::Float => vlen == 0,
+    }
+}
+
+fn is_third(layout: Layout, third: u32) -> bool
+    ensures { result ≡ is_third layout third }
+{
+    match layout {
+        Layout::Array => third == 0,
+        Layout::Forward => third == 0,
+        Layout::Int => true,
+        Layout::Link => true,
+        Layout::TaggedLink => true,
+        Layout::Float => true,
+        Layout::Sized(_) => true,
+        Layout::Prototype => true,
+    }
+}
+
+fn is_info(layout: Layout, info: u32, third: u32) -> bool
+    ensures { result ≡ is_info layout info third }
+{
+    is_clean(info)
+        && (!flag_in(info) || may_flag(kind_in(info)))
+        && is_vlen(layout, kind_in(info), vlen_in(info))
+        && is_third(layout, third)
+}
+
+/// The checks of the type that begins the rest of the types: how many words it has.
+pub fn head_of(order: Order, place: u64, id: u32, rest: &[u8]) -> Result<usize, BtfFault>
+    ensures { result ≡ head_of place id (word_in order rest.now) (length rest.now / 4) }
+{
+    let left = rest.len() / 4;
+    if left < 3 {
+        return Err(BtfFault::BtfTruncated(place));
+    }
+    let info = word_in(order, rest, 1);
+    let third = word_in(order, rest, 2);
+    match layout_of(kind_in(info)) {
+        None => Err(BtfFault::BtfKind(place, id, kind_in(info))),
+        Some(layout) => checked(layout, place, id, info, third, left),
+    }
+}
+
+fn checked(
+    layout: Layout,
+    place: u64,
+    id: u32,
+    info: u32,
+    third: u32,
+    left: usize,
+) -> Result<usize, BtfFault>
+    ensures { result ≡ checked place id info third left (Some layout) }
+{
+    if !is_info(layout, info, third) {
+        return Err(BtfFault::BtfInfo(place, id));
+    }
+    let width = type_width(layout, vlen_in(info));
+    if left < width {
+        return Err(BtfFault::BtfTruncated(place));
+    }
+    Ok(width)
+}

@@ -1,0 +1,190 @@
+//! The reader of BTF files.
+ghost use Rattle.std.specs.Prelude.{◌≡◌, ◌+◌, ◌*◌, ◌-◌, ◌/◌, ◌<◌, ◌≤◌, ◌^◌, ◌++◌, ℕ, List, Ok, Err, length, map, take, slice_index_or, is_some, All, IfOk, OnOk, IfSome};
+ghost use Rattle.std.specs.Option.{option_map};
+ghost use Rattle.btf_codec.specs.Gives.{EndsWithNul, Gives, IsBefore, IsPiece, before_of, shown_of, unless};
+ghost use Rattle.btf_codec.specs.Reading.{file_of, names_before, pieces_fault, table_of, type_shown, types_before, types_of, word_in};
+ghost use Rattle.btf_codec.specs.declared.table.Table.{Table};
+ghost use denote.Bor.{Bor};
+
+use crate::fault::BtfFault;
+use crate::faults::words_fault;
+use crate::file::{are_strings, order_in, pieces_of, sections_of};
+use crate::shown::{Texts, type_shown};
+use crate::table::Table;
+use c_model::{CType, Label, Nodes, Part, Parts, Refs};
+use dw_base::{Name, Order};
+use std::alloc::{AllocError, Global};
+
+/// Nothing, or the first fault of the offsets of names and the ids in the types.
+fn check_words(
+    order: Order,
+    pieces: &[&[u8]],
+    first: u32,
+    limit: u64,
+    count: u32,
+) -> Result<(), BtfFault>
+    requires first { first ≤ 2 ^ 31 }
+    requires few { length pieces.now < 2 ^ 30 }
+    requires each { (k : ℕ) (d : Bor (List ℕ)) → k < length pieces.now → IsPiece order (slice_index_or pieces.now k d).now }
+    requires short { (k : ℕ) (d : Bor (List ℕ)) → k < length pieces.now → length (slice_index_or pieces.now k d).now < 2 ^ 32 }
+    ensures { result ≡ unless (pieces_fault order 24 first limit count (map (λ p. p.now) pieces.now)) }
+{
+    let mut place = 24;
+    let mut id = first;
+    for piece in pieces {
+        if let Some(fault) = words_fault(order, piece, place, id, limit, count) {
+            return Err(fault);
+        }
+        place += piece.len() as u64;
+        id += 1;
+    }
+    Ok(())
+}
+
+/// The same parts.
+fn copied_parts<'a>(alloc: Global, parts: &[Part<'a>]) -> Result<Vec<Part<'a>>, AllocError>
+    ensures { IfOk result (λ v. v.items ≡ parts.now) }
+{
+    let mut copies = Vec::new(alloc);
+    for part in parts {
+        copies.push(Part { name: Name::new(part.name.bytes()), value: part.value })?;
+    }
+    Ok(copies)
+}
+
+/// The same type.
+fn copied<'a>(alloc: Global, t: &CType<'a>) -> Result<CType<'a>, AllocError>
+    ensures { IfOk result (λ u. u ≡ t.now) }
+{
+    let parts = copied_parts(alloc, t.label.parts.items())?;
+    let targets = Vec::from_slice(alloc, t.targets.items())?;
+    let label = Label {
+        kind: t.label.kind,
+        name: Name::new(t.label.name.bytes()),
+        flag: t.label.flag,
+        size: t.label.size,
+        extra: t.label.extra,
+        parts: Parts::new(parts),
+    };
+    Ok(CType { label, targets: Refs::new(targets) })
+}
+
+/// The same types.
+fn copied_types<'a>(alloc: Global, types: &[CType<'a>]) -> Result<Vec<CType<'a>>, AllocError>
+    ensures { IfOk result (λ v. v.items ≡ types.now) }
+{
+    let mut copies = Vec::new(alloc);
+    for t in types {
+        copies.push(copied(alloc, t)?)?;
+    }
+    Ok(copies)
+}
+
+/// Appends the types that pieces show.
+fn push_types<'a>(
+    alloc: Global,
+    all: &mut Vec<CType<'a>>,
+    texts: Texts<'a>,
+    order: Order,
+    pieces: &[&[u8]],
+) -> Result<(), AllocError>
+    requires ends { EndsWithNul texts.base.now }
+    requires each { (k : ℕ) (d : Bor (List ℕ)) → k < length pieces.now → IsPiece order (slice_index_or pieces.now k d).now }
+    ensures { OnOk result (all.new.items ≡ all.old.items ++ types_of (texts.entry.base.now ++ texts.entry.own.now) order (map (λ p. p.now) pieces.now)) }
+{
+    for piece in pieces {
+        all.push(type_shown(alloc, texts, order, piece)?)?;
+    }
+    Ok(())
+}
+
+/// The types of the table before, and how many they are.
+fn types_of<'a>(alloc: Global, base: Option<&Table<'a>>) -> Result<Vec<CType<'a>>, AllocError>
+    ensures { IfOk result (λ v. v.items ≡ types_before (option_map (λ b. before_of b.now) base.entry)) }
+{
+    match base {
+        Some(table) => copied_types(alloc, table.types.items()),
+        None => Ok(Vec::new(alloc)),
+    }
+}
+
+/// The parts of a file: its byte order, the bytes of each type and the strings.
+#[derive(Drop)]
+struct File<'a> {
+    order: Order,
+    pieces: Vec<&'a [u8]>,
+    names: &'a [u8],
+}
+
+/// The parts of a file, or its first fault. `types` types come before, and strings of `limit` bytes.
+fn file_of<'a>(
+    alloc: Global,
+    based: bool,
+    types: u32,
+    limit: u64,
+    want: Option<Order>,
+    bytes: &'a [u8],
+) -> Result<File<'a>, BtfFault>
+    requires types { types < 2 ^ 31 }
+    requires limit { limit < 2 ^ 32 }
+    ensures gives { Gives (λ f. record { order = f.order; pieces = map (λ p. p.now) f.pieces.items; names = f.names.now }) result
+        (file_of based types limit want bytes.now) }
+    ensures each { IfOk result (λ f. All (λ p. IsPiece f.order p.now) f.pieces.items) }
+    ensures few { IfOk result (λ f. length f.pieces.items < 2 ^ 30) }
+{
+    let order = match order_in(want, bytes) {
+        Ok(order) => order,
+        Err(fault) => return Err(fault),
+    };
+    let (body, names) = match sections_of(order, bytes) {
+        Ok(sections) => sections,
+        Err(fault) => return Err(fault),
+    };
+    if !are_strings(based, names) {
+        return Err(BtfFault::BtfStrings(24 + body.len() as u64));
+    }
+    let pieces = match pieces_of(alloc, order, body, types + 1) {
+        Ok(pieces) => pieces,
+        Err(fault) => return Err(fault),
+    };
+    let count = types + pieces.len() as u32;
+    if let Err(fault) = check_words(order, &pieces, types + 1, limit + names.len() as u64, count) {
+        return Err(fault);
+    }
+    Ok(File { order, pieces, names })
+}
+
+/// The strings of the table before.
+fn strings_of<'a>(base: Option<&Table<'a>>) -> &'a [u8]
+    requires { IfSome base (λ b. IsBefore b.now) }
+    ensures names { result.now ≡ names_before (option_map (λ b. before_of b.now) base.entry) }
+    ensures ends { EndsWithNul result.now }
+    ensures short { length result.now < 2 ^ 32 }
+{
+    match base {
+        Some(table) => table.names,
+        None => &[],
+    }
+}
+
+/// The table that the bytes spell, or the first fault of the bytes.
+pub fn read<'a>(
+    alloc: Global,
+    bytes: &'a [u8],
+    want: Option<Order>,
+    base: Option<&Table<'a>>,
+) -> Result<Table<'a>, BtfFault>
+    requires { IfSome base (λ b. IsBefore b.now) }
+    ensures { Gives shown_of result (table_of (option_map (λ b. before_of b.now) base.entry) want bytes.now) }
+{
+    let mut all = types_of(alloc, base)?;
+    let before = all.len() as u32;
+    let strings = strings_of(base);
+    let file = match file_of(alloc, base.is_some(), before, strings.len() as u64, want, bytes) {
+        Ok(file) => file,
+        Err(fault) => return Err(fault),
+    };
+    let texts = Texts { base: strings, own: file.names };
+    push_types(alloc, &mut all, texts, file.order, &file.pieces)?;
+    Ok(Table { order: file.order, base: before, types: Nodes::new(all), names: file.names })
+}
