@@ -30,7 +30,7 @@ pub fault_found : (order : Order) (place id limit count i : ℕ) (ps : List (Bor
     → words_fault place id limit count (word_in order (piece_at ps i)) ≡ Some fault → pieces_fault order place id limit count (nows (drop i ps)) ≡ total → Err fault ≡ unless total
 fault_found order place id limit count i ps fault total lt h so_far =
     let e : Some fault ≡ total =
-      sym (ap (λ (qs : List (List ℕ)). pieces_fault order place id limit count qs) (rest_is ps i lt) ∙ found order place id limit count (piece_at ps i) (nows (drop (i + 1) ps)) fault h) ∙ so_far in
+    sym (ap (λ (qs : List (List ℕ)). pieces_fault order place id limit count qs) (rest_is ps i lt) ∙ found order place id limit count (piece_at ps i) (nows (drop (i + 1) ps)) fault h) ∙ so_far in
     ap (λ (o : Option BtfFault). unless o) e
 
 pub fault_none : (order : Order) (place id limit count i : ℕ) (ps : List (Bor (List ℕ))) (total : Option BtfFault) → i < length ps

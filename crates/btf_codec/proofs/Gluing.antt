@@ -168,8 +168,8 @@ unfolding table_of
 table_refused before want bytes based types limit e b t l h =
     fails_on e (file_of based types limit want bytes) (table_of before want bytes) h
     (λ (r : file_of based types limit want bytes ≡ Err e).
-      let s : file_of (is_some before) (length (types_before before)) (length (names_before before)) want bytes ≡ Err e = (λ i. file_of (sym b i) (sym t i) (sym l i) want bytes) ∙ r in
-      rw s refl)
+    let s : file_of (is_some before) (length (types_before before)) (length (names_before before)) want bytes ≡ Err e = (λ i. file_of (sym b i) (sym t i) (sym l i) want bytes) ∙ r in
+    rw s refl)
 
 pub table_read : (before : Option Before) (want : Option Order) (bytes strings : List ℕ) (based : Bool) (types : ℕ) (f : File) (all : List CType) → based ≡ is_some before → types ≡ length (types_before before) → strings ≡ names_before before
     → file_of based types (length strings) want bytes ≡ Ok f → all ≡ types_before before ++ types_of (strings ++ f.names) f.order f.pieces

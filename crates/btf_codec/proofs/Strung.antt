@@ -19,7 +19,7 @@ text_there (b ∷ []) lt e = found b [] (b == 0) refl (λ (n : b ≡ 0 → ⊥).
 text_there (b ∷ c ∷ cs) lt e =
     found b (c ∷ cs) (b == 0) refl
     (λ (n : b ≡ 0 → ⊥). text_there (c ∷ cs) (omega arith)
-      (let i : length (b ∷ c ∷ cs) - 1 ≡ suc (length (c ∷ cs) - 1) = omega arith in subst (λ (k : ℕ). get_or (b ∷ c ∷ cs) k 0 ≡ 0) i e))
+    (let i : length (b ∷ c ∷ cs) - 1 ≡ suc (length (c ∷ cs) - 1) = omega arith in subst (λ (k : ℕ). get_or (b ∷ c ∷ cs) k 0 ≡ 0) i e))
 
 pub text_in_first : (xs ys : List ℕ) (at : ℕ) → EndsWithNul xs → at < length xs → text_of xs at ≡ text_of (xs ++ ys) at
 unfolding text_of
@@ -34,5 +34,5 @@ pub text_in_second : (xs ys : List ℕ) (at : ℕ) → length xs ≤ at → text
 unfolding text_of
 text_in_second xs ys at le =
     let d : drop (at - length xs) ys ≡ drop at (xs ++ ys) =
-      ap (λ (zs : List ℕ). drop (at - length xs) zs) (sym (drop_at xs ys (length xs) refl)) ∙ drop-drop (at - length xs) (length xs) (xs ++ ys) ∙ ap (λ (k : ℕ). drop k (xs ++ ys)) (omega arith) in
+    ap (λ (zs : List ℕ). drop (at - length xs) zs) (sym (drop_at xs ys (length xs) refl)) ∙ drop-drop (at - length xs) (length xs) (xs ++ ys) ∙ ap (λ (k : ℕ). drop k (xs ++ ys)) (omega arith) in
     ap (λ (zs : List ℕ). text_from zs) d

@@ -41,7 +41,11 @@ fn one_past(order: Order, piece: &[u8], at: usize, limit: u64) -> Option<u32>
     ensures { result ≡ first_past limit (word_in order piece.now at ∷ []) }
 {
     let word = word_in(order, piece, at);
-    if is_past(word, limit) { Some(word) } else { None }
+    if is_past(word, limit) {
+        Some(word)
+    } else {
+        None
+    }
 }
 
 /// The first offset of a name that isn't below a limit.

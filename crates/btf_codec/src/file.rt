@@ -139,4 +139,3 @@ pub fn pieces_of<'a>(
     }
     Ok(pieces)
 }
-

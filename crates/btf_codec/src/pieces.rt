@@ -94,13 +94,7 @@ fn is_vlen(layout: Layout, kind: u8, vlen: u32) -> bool
     match layout {
         Layout::Sized(_) => true,
         Layout::Prototype => true,
-        Layout::Link => {
-            if kind == 12 {
-                vlen < 3
-            } else {
-                vlen == 0
-            }
-        }
+        Layout::Link => { if kind == 12 { vlen < 3 } else { vlen == 0 } }
         Layout::Int => vlen == 0,
         Layout::Array => vlen == 0,
         Layout::Forward => vlen == 0,

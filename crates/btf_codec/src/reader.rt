@@ -47,7 +47,10 @@ fn copied_parts<'a>(alloc: Global, parts: &[Part<'a>]) -> Result<Vec<Part<'a>>, 
 {
     let mut copies = Vec::new(alloc);
     for part in parts {
-        copies.push(Part { name: Name::new(part.name.bytes()), value: part.value })?;
+        copies.push(Part {
+            name: Name::new(part.name.bytes()),
+            value: part.value,
+        })?;
     }
     Ok(copies)
 }
@@ -66,7 +69,10 @@ fn copied<'a>(alloc: Global, t: &CType<'a>) -> Result<CType<'a>, AllocError>
         extra: t.label.extra,
         parts: Parts::new(parts),
     };
-    Ok(CType { label, targets: Refs::new(targets) })
+    Ok(CType {
+        label,
+        targets: Refs::new(targets),
+    })
 }
 
 /// The same types.
@@ -151,7 +157,11 @@ fn file_of<'a>(
     if let Err(fault) = check_words(order, &pieces, types + 1, limit + names.len() as u64, count) {
         return Err(fault);
     }
-    Ok(File { order, pieces, names })
+    Ok(File {
+        order,
+        pieces,
+        names,
+    })
 }
 
 /// The strings of the table before.
@@ -180,11 +190,26 @@ pub fn read<'a>(
     let mut all = types_of(alloc, base)?;
     let before = all.len() as u32;
     let strings = strings_of(base);
-    let file = match file_of(alloc, base.is_some(), before, strings.len() as u64, want, bytes) {
+    let file = match file_of(
+        alloc,
+        base.is_some(),
+        before,
+        strings.len() as u64,
+        want,
+        bytes,
+    ) {
         Ok(file) => file,
         Err(fault) => return Err(fault),
     };
-    let texts = Texts { base: strings, own: file.names };
+    let texts = Texts {
+        base: strings,
+        own: file.names,
+    };
     push_types(alloc, &mut all, texts, file.order, &file.pieces)?;
-    Ok(Table { order: file.order, base: before, types: Nodes::new(all), names: file.names })
+    Ok(Table {
+        order: file.order,
+        base: before,
+        types: Nodes::new(all),
+        names: file.names,
+    })
 }

@@ -44,7 +44,11 @@ fn name_at<'a>(texts: Texts<'a>, at: u32) -> Name<'a>
 fn ref_of(id: u32) -> Ref
     ensures { result ≡ ref_of id }
 {
-    if id == 0 { Ref::Void } else { Ref::Node(id - 1) }
+    if id == 0 {
+        Ref::Void
+    } else {
+        Ref::Node(id - 1)
+    }
 }
 
 /// The low and the high 32 bits in two words.
@@ -295,7 +299,10 @@ fn type_by<'a>(
         extra: extra_by(layout, order, piece, vlen),
         parts: Parts::new(parts),
     };
-    Ok(CType { label, targets: Refs::new(refs) })
+    Ok(CType {
+        label,
+        targets: Refs::new(refs),
+    })
 }
 
 /// The type that a piece shows.

@@ -32,11 +32,11 @@ loop-preserved c =
     let some : 3 ≤ c.in-Ok.size = fit.some in
     record {
       so_far =
-        kept_on c.args.order (length c.args.types.now) c.loop.counter c.loop.place c.loop.id c.in-Ok.size c.loop.rest.now c.split_at.result.0.now c.split_at.result.1.now
-        (map (λ (p : Bor (List ℕ)). p.now) c.loop.pieces.items) (map (λ (p : Bor (List ℕ)). p.now) c.push.new.self.items) (pieces_of c.args.order (length c.args.types.now) 24 c.args.first c.args.types.now)
-        c.loop-test.true (omega arith) h
-        (ap (λ (ps : List (Bor (List ℕ))). map (λ (p : Bor (List ℕ)). p.now) ps) c.in_ok-push.ensures.items ∙ map-append (λ (p : Bor (List ℕ)). p.now) c.loop.pieces.items (c.split_at.result.0 ∷ []))
-        c.split_at.ensures.front c.split_at.ensures.back c.loop.invariant.so_far;
+          kept_on c.args.order (length c.args.types.now) c.loop.counter c.loop.place c.loop.id c.in-Ok.size c.loop.rest.now c.split_at.result.0.now c.split_at.result.1.now
+          (map (λ (p : Bor (List ℕ)). p.now) c.loop.pieces.items) (map (λ (p : Bor (List ℕ)). p.now) c.push.new.self.items) (pieces_of c.args.order (length c.args.types.now) 24 c.args.first c.args.types.now)
+          c.loop-test.true (omega arith) h
+          (ap (λ (ps : List (Bor (List ℕ))). map (λ (p : Bor (List ℕ)). p.now) ps) c.in_ok-push.ensures.items ∙ map-append (λ (p : Bor (List ℕ)). p.now) c.loop.pieces.items (c.split_at.result.0 ∷ []))
+          c.split_at.ensures.front c.split_at.ensures.back c.loop.invariant.so_far;
       place_is = omega (arith, c.split_at.ensures.back_len, c.loop.invariant.place_is);
       ids = omega (arith, c.split_at.ensures.back_len, c.loop.invariant.ids, some);
     }

@@ -61,15 +61,15 @@ check_words-requires-clause-short c =
     let s = c.in-Ok-sections_of.ensures.few in
     subst (λ (ps : List (Bor (List ℕ))). (k : ℕ) (d : Bor (List ℕ)) → k < length ps → length (get_or ps k d).now < 2 ^ 32) (sym c.deref.ensures.value)
     (λ (k : ℕ) (d : Bor (List ℕ)) (lt : k < length c.in-Ok-pieces_of.pieces.items).
-      let t = q.short k (omega (arith, n, lt)) in
-      let l = ap (λ (p : List ℕ). length p) (the_piece c.in-Ok-pieces_of.pieces.items k d lt) in
-      omega (arith, s, t, l))
+    let t = q.short k (omega (arith, n, lt)) in
+    let l = ap (λ (p : List ℕ). length p) (the_piece c.in-Ok-pieces_of.pieces.items k d lt) in
+    omega (arith, s, t, l))
 
 pub returns-in-Err-check_words-clause-gives : goal.returns-in-Err-check_words-clause-gives
 returns-in-Err-check_words-clause-gives c =
     fails_with c.in-Err-check_words.fault (file_of c.args.based c.args.types c.args.limit c.args.want c.args.bytes.now)
     (no_words c.args.based c.args.types c.args.limit c.args.want c.args.bytes.now c.in-Ok.order c.in-Ok-sections_of.sections.0.now c.in-Ok-sections_of.sections.1.now (map (λ (p : Bor (List ℕ)). p.now) c.in-Ok-pieces_of.pieces.items) c.in-Err-check_words.fault (sym c.order_in.ensures ∙ c.in-Ok.is) (sym c.in-Ok-sections_of.ensures.sections) (sym c.are_strings.ensures ∙ c.if-not-are_strings.false) c.in-Ok-pieces_of.ensures
-      (a_fault (pieces_fault c.in-Ok.order 24 (c.args.types + 1) (c.args.limit + length c.in-Ok-sections_of.sections.1.now) (c.args.types + length (map (λ (p : Bor (List ℕ)). p.now) c.in-Ok-pieces_of.pieces.items)) (map (λ (p : Bor (List ℕ)). p.now) c.in-Ok-pieces_of.pieces.items)) c.in-Err-check_words.fault (same_fault c.in-Ok.order (c.args.types + 1) (c.args.limit + length c.in-Ok-sections_of.sections.1.now) c.args.types c.len.result c.in-Ok-pieces_of.pieces.items c.deref.result.now (Err c.in-Err-check_words.fault) c.deref.ensures.value (omega (arith, c.len.ensures)) (sym c.in-Err-check_words.is ∙ c.check_words.ensures))))
+    (a_fault (pieces_fault c.in-Ok.order 24 (c.args.types + 1) (c.args.limit + length c.in-Ok-sections_of.sections.1.now) (c.args.types + length (map (λ (p : Bor (List ℕ)). p.now) c.in-Ok-pieces_of.pieces.items)) (map (λ (p : Bor (List ℕ)). p.now) c.in-Ok-pieces_of.pieces.items)) c.in-Err-check_words.fault (same_fault c.in-Ok.order (c.args.types + 1) (c.args.limit + length c.in-Ok-sections_of.sections.1.now) c.args.types c.len.result c.in-Ok-pieces_of.pieces.items c.deref.result.now (Err c.in-Err-check_words.fault) c.deref.ensures.value (omega (arith, c.len.ensures)) (sym c.in-Err-check_words.is ∙ c.check_words.ensures))))
 
 pub returns-clause-gives : goal.returns-clause-gives
 returns-clause-gives c =
