@@ -1,5 +1,6 @@
 //! Units in bytes, and their graph.
-ghost use Rattle.std.specs.Prelude.{All, IfOk};
+ghost use Rattle.std.specs.Prelude.{All, IfOk, OnOk};
+ghost use Rattle.entry_tree.specs.Contexts.{IsUnitOf};
 ghost use Rattle.unit_encoder.specs.Sources.{IsReadable};
 
 use crate::fault::EncodeFault;
@@ -8,7 +9,7 @@ use crate::sources::UnitAt;
 use c_model::{Graph, Ref};
 use c_types::TypeFault;
 use elf_sections::Image;
-use entry_tree::units;
+use entry_tree::{Unit, units};
 use std::alloc::{AllocError, Global};
 use std::test::Fail;
 use world_io::OpenGate;
@@ -98,24 +99,33 @@ fn file_of(alloc: Global, info: &[u8]) -> Result<Vec<u8>, AllocError> {
     Ok(file)
 }
 
-/// The units of an image, as those of a file.
-fn units_of<'a>(
-    alloc: Global,
+/// One unit more, where it has fewer than 2^32 bytes.
+fn push_readable<'a>(
+    all: &mut Vec<UnitAt<'a>>,
     file: u32,
     image: Image<'a>,
-    all: &mut Vec<UnitAt<'a>>,
-) -> Result<(), Fail>
-    requires { All IsReadable all.old.items }
-    ensures { All IsReadable all.new.items }
+    unit: Unit,
+) -> Result<(), AllocError>
+    requires unit { IsUnitOf image unit }
+    requires readable { All IsReadable all.old.items }
+    ensures { OnOk result (All IsReadable all.new.items) }
 {
-    let list = units(alloc, &image)?;
-    for i in 0..list.items().len() {
-        let unit = list.items()[i];
-        if unit.end.saturating_sub(unit.at) < 1 << 32 {
-            all.push(UnitAt { file, image, unit })?;
-        }
+    if unit.end.saturating_sub(unit.at) < 1 << 32 {
+        all.push(UnitAt { file, image, unit })?;
     }
     Ok(())
+}
+
+/// The units of an image, as those of a file.
+fn units_of<'a>(alloc: Global, file: u32, image: Image<'a>) -> Result<Vec<UnitAt<'a>>, Fail>
+    ensures { IfOk result (λ v. All IsReadable v.items) }
+{
+    let list = units(alloc, &image)?;
+    let mut all = Vec::new(alloc);
+    for i in 0..list.items().len() {
+        push_readable(&mut all, file, image, list.items()[i])?;
+    }
+    Ok(all)
 }
 
 /// The nodes in a line: kind, last word, and what they refer to.
@@ -202,8 +212,7 @@ fn graphs(rt: HostRuntime) -> Result<(), Fail> {
             assert!(rt; false);
             return Ok(());
         };
-        let mut all = Vec::new(alloc);
-        units_of(alloc, 0, image, &mut all)?;
+        let all = units_of(alloc, 0, image)?;
         if all.len() as u64 >= 1 << 32 {
             return Ok(());
         }
