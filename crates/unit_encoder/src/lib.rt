@@ -7,6 +7,8 @@ mod links;
 mod shared;
 pub mod sources;
 mod tags;
+#[cfg(test)]
+mod tests;
 
 pub use fault::EncodeFault;
 pub use graph::encode;
