@@ -1,5 +1,4 @@
-use Rattle.std.proofs.Common.{◌≡◌, [], List, length, Result, Ok, sym, arith}
-use Rattle.c_model.specs.Graph.{RefersWithin}
+use Rattle.std.proofs.Common.{◌≡◌, [], List, Result, Ok, sym, arith}
 use Rattle.c_model.specs.declared.graph.CType.{CType}
 use Rattle.unit_encoder.specs.declared.links.Out.{Out}
 use Rattle.unit_encoder.specs.Graph.{nodes_from}
