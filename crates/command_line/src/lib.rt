@@ -1,0 +1,9 @@
+//! The words of the command line: the job that they give, or what is wrong with them.
+#![tactic(auto)]
+
+pub mod job;
+mod options;
+pub mod scan;
+
+pub use job::{Format, Job, JobFault, Text, Texts, UsageFault};
+pub use scan::job_of;

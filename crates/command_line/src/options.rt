@@ -1,0 +1,82 @@
+//! The table of the options.
+ghost use Rattle.std.specs.Prelude.{◌≡◌, map};
+ghost use Rattle.command_line.specs.Options.{rank, spelling, value_place, settings};
+
+/// What an option sets.
+#[derive(Clone, Copy, Debug)]
+pub enum Setting {
+    Out,
+    Base,
+    Selfmade,
+    Names,
+    Holes,
+    Line,
+    Format,
+    Sizes,
+    Jobs,
+}
+
+/// Where an option's value stands.
+#[derive(Clone, Copy, Debug)]
+pub enum ValuePlace {
+    /// The option has no value.
+    Nowhere,
+    /// The next word is the value.
+    NextWord,
+    /// What follows the spelling in the option's word is the value.
+    SameWord,
+}
+
+/// All settings.
+pub const SETTINGS: [Setting; 9] = [
+    Setting::Out,
+    Setting::Base,
+    Setting::Selfmade,
+    Setting::Names,
+    Setting::Holes,
+    Setting::Line,
+    Setting::Format,
+    Setting::Sizes,
+    Setting::Jobs,
+];
+
+impl Setting {
+    /// How the option is spelled.
+    pub fn spelling(self) -> &'static str
+        ensures { result.now ≡ spelling self }
+    {
+        match self {
+            Setting::Out => "--btf_encode_detached=",
+            Setting::Base => "--btf_base=",
+            Setting::Selfmade => "--selfmade=",
+            Setting::Names => "-C",
+            Setting::Holes => "-H",
+            Setting::Line => "-c",
+            Setting::Format => "-F",
+            Setting::Sizes => "-s",
+            Setting::Jobs => "-j",
+        }
+    }
+
+    /// Where its value stands.
+    pub fn value_place(self) -> ValuePlace
+        ensures { result ≡ value_place self }
+    {
+        match self {
+            Setting::Out | Setting::Base | Setting::Selfmade | Setting::Jobs => {
+                ValuePlace::SameWord
+            }
+            Setting::Names | Setting::Holes | Setting::Line | Setting::Format => {
+                ValuePlace::NextWord
+            }
+            Setting::Sizes => ValuePlace::Nowhere,
+        }
+    }
+
+    /// Its place among all settings.
+    pub fn rank(self) -> u8
+        ensures { result ≡ rank self }
+    {
+        self as u8
+    }
+}
