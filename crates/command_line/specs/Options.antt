@@ -6,7 +6,7 @@ use Rattle.command_line.specs.declared.options.ValuePlace.{ValuePlace}
 use Rattle.command_line.specs.declared.options.ValuePlace.TheVariants.{Nowhere, NextWord, SameWord}
 use Rattle.command_line.specs.Values.{made_number, holes, line, jobs, file_name, names, format}
 
--- an option: its place in the table, how it is spelled, where its value stands, and which values are good
+-- an option: its number, how it is spelled, where its value stands, and which values are good
 pub record Row : Type 0 where
   pub rank : ℕ
   pub spelling : List ℕ
@@ -30,17 +30,5 @@ row Jobs = option 8 (codes "-j") SameWord (λ v. is_some (jobs v))
 abbrev pub settings : List Setting
 settings = Out ∷ Base ∷ Selfmade ∷ Names ∷ Holes ∷ Line ∷ Format ∷ Sizes ∷ Jobs ∷ []
 
-abbrev pub rank : Setting → ℕ
-rank s = (row s).rank
-
 abbrev pub is_same : Setting → Setting → Bool
-is_same s t = rank s == rank t
-
-abbrev pub spelling : Setting → List ℕ
-spelling s = (row s).spelling
-
-abbrev pub value_place : Setting → ValuePlace
-value_place s = (row s).place
-
-abbrev pub is_good : Setting → List ℕ → Bool
-is_good s v = (row s).good v
+is_same s t = (row s).rank == (row t).rank

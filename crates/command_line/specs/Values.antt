@@ -1,16 +1,20 @@
--- The values of options, as texts.
-use Rattle.std.specs.Prelude.{ℕ, ◌-◌, ◌^◌, List, [], ◌∷◌, length, if◌then◌else◌, Option, None, Some, codes, ◌==◌, ◌&&◌, nat_le}
+-- What the value of each option may be, and what it says.
+use Rattle.std.specs.Prelude.{ℕ, ◌-◌, ◌^◌, List, [], ◌∷◌, length, Bool, if◌then◌else◌, Option, None, Some, codes, ◌==◌, ◌&&◌, nat_le}
 use Rattle.std.specs.List.{list_any, slice_split}
 use Rattle.std.specs.Str.{bytes_eq, all_ascii_digits}
 use Rattle.std.specs.Str.Parse.{digits_value}
 use Rattle.command_line.specs.declared.job.Format.{Format}
 use Rattle.command_line.specs.declared.job.Format.TheVariants.{Dwarf, Btf}
 
--- 1 to 20 decimal digits, whose number lies between two bounds
+-- 1 to 20 decimal digits and nothing else
+abbrev pub is_decimal : List ℕ → Bool
+is_decimal v = all_ascii_digits v && nat_le 1 (length v) && nat_le (length v) 20
+
+-- a decimal number between two bounds
 abbrev pub number : ℕ → ℕ → List ℕ → Option ℕ
 number low high v =
-    if all_ascii_digits v && nat_le 1 (length v) && nat_le (length v) 20 && nat_le low (digits_value 10 v) && nat_le (digits_value 10 v) high
-    then Some (digits_value 10 v) else None
+    if is_decimal v && nat_le low (digits_value 10 v) && nat_le (digits_value 10 v) high then Some (digits_value 10 v)
+    else None
 
 abbrev pub made_number : List ℕ → Option ℕ
 made_number = number 0 (2 ^ 64 - 1)
@@ -24,7 +28,7 @@ line = number 1 (2 ^ 32 - 1)
 abbrev pub jobs : List ℕ → Option ℕ
 jobs = number 1 256
 
--- a name of a file is not empty
+-- the name of a file is not empty
 abbrev pub file_name : List ℕ → Option (List ℕ)
 file_name [] = None
 file_name (b ∷ bs) = Some (b ∷ bs)

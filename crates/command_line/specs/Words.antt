@@ -1,5 +1,5 @@
 -- The job of words. Each word has one role, decided by the words before it.
-use Rattle.std.specs.Prelude.{ℕ, ◌≡◌, List, [], ◌∷◌, ◌++◌, drop, length, Bool, true, false, if◌then◌else◌, Option, None, Some, Result, Ok, Err, codes, slice_index, ◌==◌, ◌&&◌, ◌||◌, not, nat_eq, nat_lt, is_some, unwrap_or, option_and_then, find}
+use Rattle.std.specs.Prelude.{ℕ, ◌≡◌, List, [], ◌∷◌, ◌++◌, drop, length, Bool, true, false, if◌then◌else◌, Option, None, Some, Result, Ok, Err, codes, slice_index, ◌==◌, ◌&&◌, ◌||◌, not, nat_eq, nat_lt, is_some, unwrap_or, option_and_then}
 use Rattle.std.specs.List.{list_any, starts_with}
 use Rattle.std.specs.Option.{option_or, option_map}
 use Rattle.std.specs.Str.{bytes_eq}
@@ -11,11 +11,11 @@ use Rattle.command_line.specs.declared.job.UsageFault.{UsageFault}
 use Rattle.command_line.specs.declared.job.JobFault.{JobFault}
 use Rattle.command_line.specs.declared.job.JobFault.TheVariants.{Usage, Memory}
 use Rattle.command_line.specs.declared.options.Setting.{Setting}
-use Rattle.command_line.specs.declared.options.Setting.TheVariants.{Out, Base, Selfmade, Names, Holes, Line, Format as FormatSetting, Sizes, Jobs}
+use Rattle.command_line.specs.declared.options.Setting.TheVariants.{Out, Base, Selfmade, Names, Holes, Line, Format as Shape, Sizes, Jobs}
 use Rattle.command_line.specs.declared.options.ValuePlace.{ValuePlace}
-use Rattle.command_line.specs.declared.options.ValuePlace.TheVariants.{Nowhere, NextWord, SameWord}
+use Rattle.command_line.specs.declared.options.ValuePlace.TheVariants.{NextWord, SameWord}
 use Rattle.command_line.specs.Values.{made_number, holes, line, jobs, file_name, names, format}
-use Rattle.command_line.specs.Options.{settings, is_same, spelling, value_place, is_good}
+use Rattle.command_line.specs.Options.{row, settings, is_same}
 
 -- the role of a word: an option of the table, with its value if it is there; another word that begins with `-`;
 -- the value of the option before it; the first `--`; a file
@@ -26,19 +26,22 @@ pub data Role : Type 0 where
   dashes : Role
   file : List ℕ → Role
 
--- what the words before a word make of it: nothing, a value, or, behind `--`, a file
+-- what the words before a word make of it: nothing, the value of an option, or a file, behind `--`
 pub data Before : Type 0 where
   nothing : Before
   awaits_value : Before
   only_files : Before
 
--- a word is spelled as an option: with the value behind the spelling, or just so
-abbrev pub is_spelled_at : ValuePlace → List ℕ → List ℕ → Bool
-is_spelled_at SameWord p w = starts_with nat_eq w p
-is_spelled_at _ p w = bytes_eq w p
+-- what stands behind the spelling of an option, where a word is so spelled
+abbrev pub behind_spelling : ValuePlace → List ℕ → List ℕ → Option (List ℕ)
+behind_spelling SameWord spelling w = if starts_with nat_eq w spelling then Some (drop (length spelling) w) else None
+behind_spelling _ spelling w = if bytes_eq w spelling then Some [] else None
 
-abbrev pub setting_of : List ℕ → Option Setting
-setting_of w = find (λ s. is_spelled_at (value_place s) (spelling s) w) settings
+-- the first of some options as which a word is spelled, with what stands behind the spelling
+abbrev pub spelled_as : List Setting → List ℕ → Option (Setting × List ℕ)
+spelled_as [] w = None
+spelled_as (s ∷ ss) w =
+    option_or (option_map (λ (v : List ℕ). (s, v)) (behind_spelling (row s).place (row s).spelling w)) (spelled_as ss w)
 
 -- `-`, and a word that does not begin with `-`
 abbrev pub is_file : List ℕ → Bool
@@ -48,31 +51,31 @@ abbrev pub first_of : List (List ℕ) → Option (List ℕ)
 first_of [] = None
 first_of (w ∷ ws) = Some w
 
--- the value of an option with this spelling, from its word and the words behind
-abbrev pub value_at : ValuePlace → List ℕ → List ℕ → List (List ℕ) → Option (List ℕ)
-value_at SameWord p w ws = Some (drop (length p) w)
-value_at NextWord p w ws = first_of ws
-value_at Nowhere p w ws = Some []
+-- the value of an option, by what stands behind its spelling, and the words behind its word
+abbrev pub value_at : ValuePlace → List ℕ → List (List ℕ) → Option (List ℕ)
+value_at NextWord rest ws = first_of ws
+value_at _ rest ws = Some rest
 
-abbrev pub option_role : Option Setting → List ℕ → List (List ℕ) → Role
-option_role None w ws = unknown
-option_role (Some s) w ws = option s (value_at (value_place s) (spelling s) w ws)
+abbrev pub option_role : Option (Setting × List ℕ) → List (List ℕ) → Role
+option_role None ws = unknown
+option_role (Some o) ws = option o.0 (value_at (row o.0).place o.1 ws)
 
+-- the role of a word before other words
 abbrev pub role : Before → List ℕ → List (List ℕ) → Role
 role only_files w ws = file w
 role awaits_value w ws = value
 role nothing w ws =
-    if bytes_eq w (codes "--") then dashes
-    else (if is_file w then file w else option_role (setting_of w) w ws)
+    if is_file w then file w
+    else (if bytes_eq w (codes "--") then dashes else option_role (spelled_as settings w) ws)
 
 abbrev pub behind_option : ValuePlace → Before
 behind_option NextWord = awaits_value
 behind_option _ = nothing
 
--- what a word of this role makes of the next
+-- what a word of this role makes of the next word
 abbrev pub behind : Before → Role → Before
 behind only_files r = only_files
-behind b (option s v) = behind_option (value_place s)
+behind b (option s v) = behind_option (row s).place
 behind b dashes = only_files
 behind b _ = nothing
 
@@ -80,98 +83,95 @@ abbrev pub roles : Before → List (List ℕ) → List Role
 roles b [] = []
 roles b (w ∷ ws) = role b w ws ∷ roles (behind b (role b w ws)) ws
 
--- the value of an option, if it is used: that of its first use
-abbrev pub value_of : List Role → Setting → Option (List ℕ)
-value_of [] s = None
-value_of (option t v ∷ rs) s = if is_same s t then v else value_of rs s
-value_of (_ ∷ rs) s = value_of rs s
-
-abbrev pub is_used : List Role → Setting → Bool
-is_used rs s = is_some (value_of rs s)
-
-abbrev pub any_used : List Role → List Setting → Bool
-any_used rs ss = list_any (λ s. is_used rs s) ss
+-- the options with their values, and the files
+abbrev pub uses : List Role → List (Setting × List ℕ)
+uses [] = []
+uses (option s (Some v) ∷ rs) = (s, v) ∷ uses rs
+uses (_ ∷ rs) = uses rs
 
 abbrev pub files : List Role → List (List ℕ)
 files [] = []
 files (file w ∷ rs) = w ∷ files rs
 files (_ ∷ rs) = files rs
 
-abbrev pub usage : ℕ → ℕ → UsageFault
-usage at code = record { word = at; code = code }
+abbrev pub value_of : List (Setting × List ℕ) → Setting → Option (List ℕ)
+value_of [] s = None
+value_of (u ∷ us) s = if is_same s u.0 then Some u.1 else value_of us s
+
+abbrev pub is_used : List (Setting × List ℕ) → Setting → Bool
+is_used us s = is_some (value_of us s)
 
 -- what is wrong with an option that is not repeated: the value is missing, or bad
 abbrev pub value_fault : Setting → Option (List ℕ) → Option ℕ
 value_fault s None = Some 2
-value_fault s (Some v) = if is_good s v then None else Some 3
+value_fault s (Some v) = if (row s).good v then None else Some 3
 
--- what is wrong with a word, after words of these roles
-abbrev pub code_after : List Role → Role → Option ℕ
-code_after before unknown = Some 1
-code_after before (option s v) = if is_used before s then Some 4 else value_fault s v
-code_after before _ = None
+-- what is wrong with a word, after the use of some options
+abbrev pub code_after : List (Setting × List ℕ) → Role → Option ℕ
+code_after us unknown = Some 1
+code_after us (option s v) = if is_used us s then Some 4 else value_fault s v
+code_after us _ = None
 
--- the first word with a fault, which counts; its position is the number of words before it
+abbrev pub usage : ℕ → ℕ → UsageFault
+usage at code = record { word = at; code = code }
+
+-- the fault of the first word that has one; a word's position is the number of words before it
 abbrev pub word_fault : List Role → List Role → Option UsageFault
 word_fault before [] = None
 word_fault before (r ∷ rs) =
-    option_or (option_map (usage (length before)) (code_after before r)) (word_fault (before ++ r ∷ []) rs)
+    option_or (option_map (usage (length before)) (code_after (uses before) r)) (word_fault (before ++ r ∷ []) rs)
 
 -- the value of an option as its reader gives it
-abbrev pub read_value : {A : Type 0} → (List ℕ → Option A) → Setting → List Role → Option A
-read_value reader s rs = option_and_then reader (value_of rs s)
+abbrev pub read : {A : Type 0} → (List ℕ → Option A) → Setting → List (Setting × List ℕ) → Option A
+read reader s us = option_and_then reader (value_of us s)
 
-abbrev pub format_of : List Role → Format
-format_of rs = unwrap_or (read_value format FormatSetting rs) Dwarf
+abbrev pub format_of : List (Setting × List ℕ) → Format
+format_of us = unwrap_or (read format Shape us) Dwarf
 
 abbrev pub is_btf : Format → Bool
 is_btf Btf = true
 is_btf Dwarf = false
 
 -- options that don't go together
-abbrev pub are_apart : List Role → Bool
-are_apart rs =
-    (is_used rs Out && any_used rs (Names ∷ Sizes ∷ Holes ∷ Line ∷ FormatSetting ∷ Selfmade ∷ []))
-    || (is_used rs Selfmade && any_used rs (Names ∷ Sizes ∷ Holes ∷ Line ∷ FormatSetting ∷ Base ∷ []))
-    || (is_used rs Base && not (is_used rs Out) && not (is_btf (format_of rs)))
+abbrev pub are_apart : List (Setting × List ℕ) → Bool
+are_apart us =
+    (is_used us Out && list_any (is_used us) (Names ∷ Sizes ∷ Holes ∷ Line ∷ Shape ∷ Selfmade ∷ []))
+    || (is_used us Selfmade && list_any (is_used us) (Names ∷ Sizes ∷ Holes ∷ Line ∷ Shape ∷ Base ∷ []))
+    || (is_used us Base && not (is_used us Out) && not (is_btf (format_of us)))
 
-abbrev pub lacks_file : List Role → Bool
-lacks_file rs = (length (files rs) == 0) && not (is_used rs Selfmade)
+-- what is wrong with all words together, by the options and the number of files
+abbrev pub whole_fault : List (Setting × List ℕ) → ℕ → Option ℕ
+whole_fault us count =
+    if are_apart us then Some 5
+    else (if count == 0 && not (is_used us Selfmade) then Some 6
+    else (if (is_used us Selfmade && nat_lt 0 count) || (is_btf (format_of us) && nat_lt 1 count) then Some 7 else None))
 
-abbrev pub has_file_too_many : List Role → Bool
-has_file_too_many rs =
-    (is_used rs Selfmade && nat_lt 0 (length (files rs))) || (is_btf (format_of rs) && nat_lt 1 (length (files rs)))
+abbrev pub jobs_wanted : List (Setting × List ℕ) → ℕ
+jobs_wanted us = unwrap_or (read jobs Jobs us) 1
 
--- what is wrong with all words together
-abbrev pub whole_fault : List Role → Option ℕ
-whole_fault rs =
-    if are_apart rs then Some 5
-    else (if lacks_file rs then Some 6
-    else (if has_file_too_many rs then Some 7 else None))
+abbrev pub job_by : Option ℕ → Option (List ℕ) → List (Setting × List ℕ) → List (List ℕ) → Job
+job_by (Some number) out us fs = Made number (jobs_wanted us)
+job_by None (Some out) us fs = Encode out (read file_name Base us) (jobs_wanted us) fs
+job_by None None us fs =
+    Show (format_of us) (read file_name Base us) (read names Names us) (is_used us Sizes)
+    (unwrap_or (read holes Holes us) 0) (unwrap_or (read line Line us) 64) (jobs_wanted us) fs
 
--- each option's value, or its default
-abbrev pub jobs_wanted : List Role → ℕ
-jobs_wanted rs = unwrap_or (read_value jobs Jobs rs) 1
-
-abbrev pub job_by : Option ℕ → Option (List ℕ) → List Role → Job
-job_by (Some number) out rs = Made number (jobs_wanted rs)
-job_by None (Some out) rs = Encode out (read_value file_name Base rs) (jobs_wanted rs) (files rs)
-job_by None None rs =
-    Show (format_of rs) (read_value file_name Base rs) (read_value names Names rs) (is_used rs Sizes)
-    (unwrap_or (read_value holes Holes rs) 0) (unwrap_or (read_value line Line rs) 64) (jobs_wanted rs) (files rs)
-
-abbrev pub job_of_roles : List Role → Job
-job_of_roles rs = job_by (read_value made_number Selfmade rs) (read_value file_name Out rs) rs
+-- each option has its value, or its default
+abbrev pub job_with : List (Setting × List ℕ) → List (List ℕ) → Job
+job_with us fs = job_by (read made_number Selfmade us) (read file_name Out us) us fs
 
 abbrev pub job_unless : Option UsageFault → Job → Result Job UsageFault
 job_unless None job = Ok job
 job_unless (Some fault) job = Err fault
 
 -- the first word that has a fault, then what is wrong with all words, then the job
-abbrev pub job_of_words : List (List ℕ) → Result Job UsageFault
-job_of_words ws =
-    let rs = roles nothing ws in
-    job_unless (option_or (word_fault [] rs) (option_map (usage (length ws)) (whole_fault rs))) (job_of_roles rs)
+abbrev pub job_of_roles : ℕ → List Role → Result Job UsageFault
+job_of_roles count rs =
+    job_unless (option_or (word_fault [] rs) (option_map (usage count) (whole_fault (uses rs) (length (files rs)))))
+    (job_with (uses rs) (files rs))
+
+unfoldable pub job_of_words : List (List ℕ) → Result Job UsageFault
+job_of_words ws = job_of_roles (length ws) (roles nothing ws)
 
 -- what a reader of words answers; want of memory is free
 abbrev pub Gives : {A : Type 0} → Result A JobFault → Result A UsageFault → Type 0
@@ -179,13 +179,13 @@ Gives (Ok x) wanted = wanted ≡ Ok x
 Gives (Err (Usage fault)) wanted = wanted ≡ Err fault
 Gives (Err Memory) wanted = Unit {0}
 
--- the files and the number of workers of a job
+-- the files of a job, and its number of workers
 abbrev pub files_of : Job → List (List ℕ)
-files_of (Encode _ _ jobs files) = files
-files_of (Show _ _ _ _ _ _ jobs files) = files
-files_of (Made number jobs) = []
+files_of (Encode _ _ _ fs) = fs
+files_of (Show _ _ _ _ _ _ _ fs) = fs
+files_of (Made _ _) = []
 
 abbrev pub jobs_of : Job → ℕ
-jobs_of (Encode _ _ jobs files) = jobs
-jobs_of (Show _ _ _ _ _ _ jobs files) = jobs
-jobs_of (Made number jobs) = jobs
+jobs_of (Encode _ _ n _) = n
+jobs_of (Show _ _ _ _ _ _ n _) = n
+jobs_of (Made _ n) = n

@@ -1,6 +1,8 @@
 //! The table of the options.
-ghost use Rattle.std.specs.Prelude.{◌≡◌, map};
-ghost use Rattle.command_line.specs.Options.{rank, spelling, value_place, settings};
+ghost use Rattle.std.specs.Prelude.{◌≡◌};
+ghost use Rattle.command_line.specs.Options.{row};
+
+use crate::values::{are_names, file_name, format, holes, jobs, line, made_number};
 
 /// What an option sets.
 #[derive(Clone, Copy, Debug)]
@@ -43,7 +45,7 @@ pub const SETTINGS: [Setting; 9] = [
 impl Setting {
     /// How the option is spelled.
     pub fn spelling(self) -> &'static str
-        ensures { result.now ≡ spelling self }
+        ensures { result.now ≡ (row self).spelling }
     {
         match self {
             Setting::Out => "--btf_encode_detached=",
@@ -60,7 +62,7 @@ impl Setting {
 
     /// Where its value stands.
     pub fn value_place(self) -> ValuePlace
-        ensures { result ≡ value_place self }
+        ensures { result ≡ (row self).place }
     {
         match self {
             Setting::Out | Setting::Base | Setting::Selfmade | Setting::Jobs => {
@@ -75,8 +77,24 @@ impl Setting {
 
     /// Its place among all settings.
     pub fn rank(self) -> u8
-        ensures { result ≡ rank self }
+        ensures { result ≡ (row self).rank }
     {
         self as u8
+    }
+
+    /// Whether a value is good.
+    pub fn is_good(self, value: &str) -> bool
+        ensures { result ≡ (row self).good value.now }
+    {
+        match self {
+            Setting::Out | Setting::Base => file_name(value).is_some(),
+            Setting::Selfmade => made_number(value).is_some(),
+            Setting::Names => are_names(value),
+            Setting::Holes => holes(value).is_some(),
+            Setting::Line => line(value).is_some(),
+            Setting::Format => format(value).is_some(),
+            Setting::Sizes => true,
+            Setting::Jobs => jobs(value).is_some(),
+        }
     }
 }
