@@ -5,6 +5,8 @@ mod finish;
 pub mod job;
 mod options;
 pub mod scan;
+#[cfg(test)]
+mod tests;
 mod uses;
 mod values;
 
