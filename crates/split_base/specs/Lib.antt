@@ -1,3 +1,5 @@
 pub mod Graphs
 pub mod Table
+pub mod Refusals
+pub mod Merged
 pub mod Laws

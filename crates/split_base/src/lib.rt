@@ -11,8 +11,10 @@ pub mod fault;
 pub mod graph;
 pub mod laws;
 mod shared;
+pub mod table;
 #[cfg(test)]
 mod tests;
 
 pub use fault::TableFault;
 pub use graph::{graph_of, with_base};
+pub use table::build;
