@@ -1,5 +1,5 @@
 -- The table of a partition, place by place.
-use Rattle.std.proofs.Common.{◌≡◌, ◌<◌, ◌≤◌, ◌+◌, ◌-◌, ℕ, suc, zero, Bool, true, false, List, [], ◌∷◌, ◌++◌, Option, None, Some, IsSome, map, take, drop, length, get_or, refl, sym, ◌∙◌, ap, arith, eqb, not, is_some, ◌&&◌, unwrap_or, ⊎_elim, ◌⊎◌, inl, inr, option_and_then}
+use Rattle.std.proofs.Common.{◌≡◌, ◌<◌, ◌≤◌, ◌+◌, ◌-◌, ℕ, suc, zero, Bool, true, false, List, [], ◌∷◌, ◌++◌, Option, None, Some, IsSome, take, drop, length, get_or, refl, sym, ◌∙◌, ap, arith, eqb, not, is_some, ◌&&◌, unwrap_or, ⊎_elim, option_and_then}
 use Rattle.std.specs.List.{cons_option, filter, filter_map, find, position_or_len, range_with_len, slice_get, AllByRecursion}
 use Rattle.std.specs.Option.{option_map}
 use Rattle.std.proofs.lemmas.Bool.{cases_lt, eqb-true}
@@ -12,7 +12,7 @@ use Rattle.c_model.specs.declared.graph.CType.{CType}
 use Rattle.c_model.specs.Graph.{Shape}
 use Rattle.c_model.specs.Forwards.{forward_at}
 use Rattle.split_base.specs.Table.{first_of, own_firsts, is_plain, source_of, place_of, renamed_type, type_of, own_types, table_of, IsTableOf}
-use Rattle.split_base.proofs.Places.{first_of-below, first_of-class, own_place, own_place_is, base_place}
+use Rattle.split_base.proofs.Firsts.{first_of-below, first_of-class, own_place, own_place_is, base_place}
 
 -- the first number below n that passes
 pub found : (f : ℕ → Bool) (n k : ℕ) → find f (range_with_len 0 n) ≡ Some k → (k < n) × (f k ≡ true)
@@ -47,7 +47,7 @@ slice_get-append (x ∷ xs) ys i =
     ap (slice_get (x ∷ (xs ++ ys))) e ∙ slice_get-append xs ys i
 
 -- what holds of the numbers of a range that pass a test holds of each that is kept
-all_kept : (P : ℕ → Type 0) (test : ℕ → Bool) (a n : ℕ) → ((y : ℕ) → a ≤ y → y < a + n → test y ≡ true → P y) → AllByRecursion P (filter test (range_with_len a n))
+pub all_kept : (P : ℕ → Type 0) (test : ℕ → Bool) (a n : ℕ) → ((y : ℕ) → a ≤ y → y < a + n → test y ≡ true → P y) → AllByRecursion P (filter test (range_with_len a n))
 all_kept P test a zero h = tt
 all_kept P test a (suc n) h = by (test a) refl (all_kept P test (a + 1) n (λ y l u e. h y (omega arith) (omega arith) e))
   where

@@ -1,12 +1,8 @@
 -- The table of a partition unfolds as the nodes do.
-use Rattle.std.proofs.Common.{◌≡◌, ◌<◌, ◌≤◌, ◌+◌, ℕ, suc, zero, Bool, true, false, List, [], ◌∷◌, Option, None, Some, map, take, length, get_or, refl, sym, ◌∙◌, ap, arith, eqb, not, is_some, unwrap_or, ⊎_elim, ◌⊎◌, inl, inr}
-use Rattle.std.specs.List.{Contains, find, position_or_len, range_with_len, slice_get, AllByRecursion}
+use Rattle.std.proofs.Common.{◌≡◌, ◌<◌, ◌≤◌, ℕ, suc, zero, true, false, List, [], ◌∷◌, Option, None, Some, map, take, length, get_or, refl, sym, ◌∙◌, ap, arith, eqb, not, is_some, unwrap_or, ⊎_elim, ◌⊎◌, inl, inr}
+use Rattle.std.specs.List.{Contains, find, range_with_len, slice_get, AllByRecursion}
 use Rattle.std.specs.Option.{option_map, option_map_or}
 use Rattle.std.proofs.lemmas.Bool.{eq-eqb, eqb-true, true≢false, and_parts, and_from, cases_lt, lt-ltb}
-use Rattle.std.proofs.lemmas.List.Folds.{find_at}
-use Rattle.std.proofs.lemmas.List.Sums.{fails_before_first, passes_at_first}
-use Rattle.std.proofs.lemmas.List.FromFn.{length-range_with_len, get_or-range_with_len}
-use Rattle.std.proofs.lemmas.Option.{slice_get-get_or, slice_get_within, get_or_from_slice_get}
 use Rattle.c_model.specs.declared.label.Label.{Label}
 use Rattle.c_model.specs.declared.graph.CType.{CType}
 use Rattle.c_model.specs.declared.graph.Ref.{Ref}
@@ -20,7 +16,7 @@ use Rattle.c_model.proofs.Trees.{stand-cases, unfold_with-class}
 use Rattle.c_model.proofs.Licences.{cases_nil, closed_definition, not_both, forward_parts}
 use Rattle.split_base.specs.Table.{first_of, is_plain, source_of, place_of, renamed, renamed_type, IsTableOf}
 use Rattle.split_base.proofs.Tables.{found, not_found, slice_get-take}
-use Rattle.split_base.proofs.Places.{first_of-below, first_of-class, base_place}
+use Rattle.split_base.proofs.Firsts.{first_of-below, first_of-class, base_place}
 
 target_by-renamed : {A : Type 0} (f : ℕ → A) (r : ℕ → ℕ) (ts : List Ref) → map (target_by f) (map (renamed r) ts) ≡ map (target_by (λ x. f (r x))) ts
 target_by-renamed f r [] = refl

@@ -2,4 +2,5 @@ pub mod Graphs
 pub mod Table
 pub mod Refusals
 pub mod Merged
+pub mod Building
 pub mod Laws

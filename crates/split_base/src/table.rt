@@ -8,14 +8,22 @@ ghost use Rattle.btf_strings.specs.Kept.{IsSection};
 ghost use Rattle.btf_strings.specs.Names.{own_section};
 ghost use Rattle.c_model.specs.Graph.{RefersWithin};
 ghost use Rattle.c_model.specs.Kinds.{IsWellFormed};
-ghost use Rattle.split_base.specs.Refusals.{strings_of, table_refusal};
+ghost use Rattle.split_base.specs.Refusals.{strings_of, table_refusal, types_refusal};
 ghost use Rattle.split_base.specs.Table.{own_types, table_of};
 ghost use Rattle.split_base.specs.declared.fault.TableFault.TheVariants.{Memory};
 
 use crate::fault::TableFault;
+use crate::lengths::check_length;
+use crate::names::put_names;
+use crate::places::places_of;
+use crate::sources::sources_of;
+use crate::types::types_of;
 use btf_codec::TableOut;
-use c_model::{Classes, Graph};
+use c_model::{CType, Classes, Graph, Nodes};
 use std::alloc::Global;
+
+/// The last id of a table.
+const LAST_ID: u64 = 0x000f_ffff;
 
 /// The table of a partition of a graph's nodes: the base's types as they are, and then one type for each class
 /// without base nodes, in the order of the classes' first nodes. Such a type has the label of its class's first node
@@ -52,5 +60,47 @@ pub fn build<'a>(
     ensures refusal { IfErr result (λ e. (e ≡ Memory)
         ⊎ (table_refusal (option_copied base_names.entry) graph.now classes.now ≡ Some e)) }
 {
-    Err(TableFault::Memory)
+    let types = table_types(alloc, graph, classes)?;
+    let base = graph.base();
+    let own = &types[base as usize..];
+    let strings = put_names(alloc, base_names, own)?;
+    check_length(own, &strings)?;
+    Ok(TableOut {
+        base,
+        types: Nodes::new(types),
+        strings,
+    })
+}
+
+/// The types of the table of a partition.
+fn table_types<'a>(
+    alloc: Global,
+    graph: &Graph<'a>,
+    classes: &Classes,
+) -> Result<Vec<CType<'a>>, TableFault>
+    requires { length classes.now ≡ length graph.now.nodes }
+    ensures table { IfOk result (λ v. v.items ≡ table_of graph.now classes.now) }
+    ensures few { IfOk result (λ v. length v.items < 2 ^ 20) }
+    ensures accepted { OnOk result (types_refusal (length (table_of graph.now classes.now)) ≡ None) }
+    ensures refusal { IfErr result (λ e. (e ≡ Memory)
+        ⊎ (types_refusal (length (table_of graph.now classes.now)) ≡ Some e)) }
+    // Each reference is to a node of the graph.
+    ensures within { RefersWithin (length graph.now.nodes) graph.now.nodes }
+{
+    let _ = graph.len();
+    let places = places_of(alloc, graph, classes)?;
+    check_count(u64::from(graph.base()) + places.firsts.len() as u64)?;
+    let sources = sources_of(alloc, graph, &places)?;
+    Ok(types_of(alloc, graph, &places.nodes, &sources)?)
+}
+
+/// Whether there are ids for so many types.
+fn check_count(count: u64) -> Result<(), TableFault>
+    ensures accepted { OnOk result ((count < 2 ^ 20) × (types_refusal count ≡ None)) }
+    ensures refusal { IfErr result (λ e. types_refusal count ≡ Some e) }
+{
+    if count > LAST_ID {
+        return Err(TableFault::TooManyTypes(count));
+    }
+    Ok(())
 }

@@ -1,5 +1,4 @@
-use Rattle.std.proofs.Common.{◌≡◌, Some, ap, sym, subst}
-use Rattle.c_model.specs.declared.graph.CType.{CType}
+use Rattle.std.proofs.Common.{Some, ap, sym, subst}
 use Rattle.split_base.specs.Table.{IsTableOf}
 use Rattle.split_base.proofs.Tables.{table_is}
 use Rattle.split_base.proofs.Unfolds.{unfold_with-table}
