@@ -9,6 +9,7 @@ mod enumerations;
 pub mod fault;
 mod functions;
 mod labels;
+pub mod laws;
 mod number;
 mod references;
 mod shared;
