@@ -1,5 +1,7 @@
 //! The graph of the types of all units.
 ghost use Rattle.std.specs.Prelude.{◌≡◌, ◌≤◌, ◌<◌, ◌^◌, length, All, IfOk};
+ghost use Rattle.c_model.specs.Kinds.{IsWellFormed};
+ghost use Rattle.c_model.specs.Forwards.{HasFittingForwards};
 ghost use Rattle.unit_encoder.specs.Sources.{IsReadable, Gives};
 ghost use Rattle.unit_encoder.specs.Graph.{graph_of};
 
@@ -30,6 +32,8 @@ pub fn encode<'a, G: Gate>(
     requires readable { All IsReadable units.now }
     ensures nodes { Gives (λ g. g.nodes) result (graph_of most units.now) }
     ensures base { IfOk result (λ g. g.base ≡ 0) }
+    ensures well { IfOk result (λ g. All IsWellFormed g.nodes) }
+    ensures fitting { IfOk result (λ g. HasFittingForwards g) }
 {
     let _ = jobs;
     let sources = match read_sources(alloc, gate, units) {
