@@ -15,6 +15,7 @@ mod references;
 mod shared;
 pub mod source;
 mod structures;
+mod tags;
 #[cfg(test)]
 mod tests;
 pub mod unit;
