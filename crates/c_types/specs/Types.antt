@@ -1,8 +1,6 @@
 -- The types of a unit (DWARF 5, sections 4 and 5): each entry of a tag of the table is a type, by its own attributes and its direct children.
 use Rattle.std.specs.Prelude.{ℕ, ℤ, pos, negsuc, ◌==◌, ◌||◌, Bool, true, false, List, [], ◌∷◌, ◌++◌, Option, None, Some, Result, Ok, Err, if◌then◌else◌, ⊤, ◌≡◌}
 use Rattle.std.specs.Option.{option_map}
-use Rattle.elf_sections.specs.declared.image.Image.{Image}
-use Rattle.elf_sections.specs.Images.{file_of}
 use Rattle.elf_sections.specs.Sections.{section_bytes}
 use Rattle.elf_sections.specs.declared.fault.Kind.TheVariants.{Abbrev as AbbrevSection}
 use Rattle.dwarf_abbrev.specs.Declarations.{Declaration}
@@ -109,17 +107,17 @@ abbrev pub of_abbrev : AbbrevFault → TypeFault
 of_abbrev AbbrevMemory = Memory
 of_abbrev other = Abbrev other
 
-abbrev pub after_root : Image → Unit → List Declaration → Result RootInfo WalkFault → Result UnitTypes TypeFault
-after_root image unit declarations (Err f) = Err (Walk f)
-after_root image unit declarations (Ok root) = if is_passed_over root.language then Ok no_types else types_in (sections_of image unit root.str_base) (entries_of image unit declarations)
+abbrev pub after_root : List ℕ → Unit → List Declaration → Result RootInfo WalkFault → Result UnitTypes TypeFault
+after_root file unit declarations (Err f) = Err (Walk f)
+after_root file unit declarations (Ok root) = if is_passed_over root.language then Ok no_types else types_in (sections_of file unit root.str_base) (entries_of file unit declarations)
 
-abbrev pub after_table : Image → Unit → Result (List Declaration) AbbrevFault → Result UnitTypes TypeFault
-after_table image unit (Err f) = Err (Abbrev f)
-after_table image unit (Ok declarations) = after_root image unit declarations (root_of (within_of image unit) declarations unit.first)
+abbrev pub after_table : List ℕ → Unit → Result (List Declaration) AbbrevFault → Result UnitTypes TypeFault
+after_table file unit (Err f) = Err (Abbrev f)
+after_table file unit (Ok declarations) = after_root file unit declarations (root_of (within_of file unit) declarations unit.first)
 
--- the types of a unit of an image, or its first refusal
-abbrev pub types_of_unit_of : Image → Unit → Result UnitTypes TypeFault
-types_of_unit_of image unit = after_table image unit (table_at (section_bytes AbbrevSection (file_of image)) unit.abbrev_at)
+-- the types of a unit of a file, or its first refusal
+abbrev pub types_of_unit_of : List ℕ → Unit → Result UnitTypes TypeFault
+types_of_unit_of file unit = after_table file unit (table_at (section_bytes AbbrevSection file) unit.abbrev_at)
 
 -- what a reader answers, unless memory ran out
 abbrev pub Gives : Result UnitTypes TypeFault → Result UnitTypes TypeFault → Type 0

@@ -204,9 +204,9 @@ fn read_unit<'a>(
     unit: &Unit,
     abbrevs: &Abbrevs,
 ) -> Result<UnitTypes<'a>, TypeFault>
-    requires unit { IsUnitOf image.now unit.now }
+    requires unit { IsUnitOf (file_of image.now) unit.now }
     requires small { unit.now.end < unit.now.at + 2 ^ 32 }
-    ensures { Gives result (after_root image.now unit.now abbrevs.now (root_of (within_of image.now unit.now) abbrevs.now unit.now.first)) }
+    ensures { Gives result (after_root (file_of image.now) unit.now abbrevs.now (root_of (within_of (file_of image.now) unit.now) abbrevs.now unit.now.first)) }
 {
     let root = match root(image, unit, abbrevs) {
         Ok(root) => root,
@@ -236,9 +236,9 @@ pub fn types_of_unit<'a>(
     image: &Image<'a>,
     unit: &Unit,
 ) -> Result<UnitTypes<'a>, TypeFault>
-    requires unit { IsUnitOf image.now unit.now }
+    requires unit { IsUnitOf (file_of image.now) unit.now }
     requires small { unit.now.end < unit.now.at + 2 ^ 32 }
-    ensures { Gives result (types_of_unit_of image.now unit.now) }
+    ensures { Gives result (types_of_unit_of (file_of image.now) unit.now) }
 {
     match Abbrevs::read(alloc, abbreviation_bytes(image), unit.abbrev_at) {
         Ok(abbrevs) => read_unit(alloc, image, unit, &abbrevs),

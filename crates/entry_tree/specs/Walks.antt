@@ -5,7 +5,6 @@ use Rattle.dwarf_forms.specs.Values.{Within, within}
 use Rattle.entry_tree.specs.declared.fault.WalkFault.{WalkFault}
 use Rattle.entry_tree.specs.declared.entry.Entry.{Entry}
 use Rattle.entry_tree.specs.declared.walk.Next.{Next}
-use Rattle.elf_sections.specs.declared.image.Image.{Image}
 use Rattle.entry_tree.specs.declared.unit.Unit.{Unit}
 use Rattle.entry_tree.specs.Contexts.{within_of}
 use Rattle.entry_tree.specs.Reads.{values_at}
@@ -27,5 +26,5 @@ Steps old new (Ok None) = (old ≡ record { entries = []; ending = None }) × (n
 Steps old new (Err f) = (old ≡ record { entries = []; ending = Some f }) × (new ≡ old)
 
 -- the entries of a unit, given its abbreviations
-abbrev pub entries_of : Image → Unit → List Declaration → Coming
-entries_of image unit declarations = coming_from (within_of image unit) declarations unit.first unit.first 0
+abbrev pub entries_of : List ℕ → Unit → List Declaration → Coming
+entries_of file unit declarations = coming_from (within_of file unit) declarations unit.first unit.first 0

@@ -2,6 +2,7 @@
 ghost use Rattle.std.specs.Prelude.{◌≡◌};
 ghost use Rattle.dwarf_forms.specs.Values.{IsContext, within};
 ghost use Rattle.dwarf_forms.specs.Meanings.{sections};
+ghost use Rattle.elf_sections.specs.Images.{file_of};
 ghost use Rattle.entry_tree.specs.Contexts.{IsUnitOf, within_of, sections_of};
 
 use crate::headers::bytes_of;
@@ -12,10 +13,10 @@ use elf_sections::{Image, Kind};
 /// What the values of a unit of an image are read in. `str_base` is the offset in `.debug_str_offsets` from which
 /// the unit's indices count.
 pub fn context<'a>(image: &Image<'a>, unit: &Unit, str_base: u64) -> FormCtx<'a>
-    requires { IsUnitOf image.now unit.now }
+    requires { IsUnitOf (file_of image.now) unit.now }
     ensures context { IsContext result }
-    ensures within { within result ≡ within_of image.now unit.now }
-    ensures sections { sections result ≡ sections_of image.now unit.now str_base }
+    ensures within { within result ≡ within_of (file_of image.now) unit.now }
+    ensures sections { sections result ≡ sections_of (file_of image.now) unit.now str_base }
     ensures end { result.end ≡ unit.now.end }
 {
     FormCtx {

@@ -1,6 +1,7 @@
 //! The first entry of a unit.
 ghost use Rattle.std.specs.Prelude.{◌≡◌};
 ghost use Rattle.dwarf_forms.specs.Values.{given as shown};
+ghost use Rattle.elf_sections.specs.Images.{file_of};
 ghost use Rattle.entry_tree.specs.Contexts.{IsUnitOf, within_of};
 ghost use Rattle.std.specs.Option.{option_map};
 ghost use Rattle.entry_tree.specs.Roots.{base_in, language_in, root_of};
@@ -66,8 +67,8 @@ fn read_base(offset_bytes: u32, given: Option<Given<'_>>) -> Result<u64, FormFau
 /// language is no constant, and where the base of string offsets is neither an offset of a section nor a constant.
 #[tactic(auto, unfolding(crate::specs::Roots::root_of))]
 pub fn root(image: &Image<'_>, unit: &Unit, abbrevs: &Abbrevs) -> Result<RootInfo, WalkFault>
-    requires { IsUnitOf image.now unit.now }
-    ensures { result ≡ root_of (within_of image.now unit.now) abbrevs.now unit.now.first }
+    requires { IsUnitOf (file_of image.now) unit.now }
+    ensures { result ≡ root_of (within_of (file_of image.now) unit.now) abbrevs.now unit.now.first }
 {
     let ctx = context(image, unit, 0);
     let entry = first_entry(&ctx, abbrevs, unit.first)?;

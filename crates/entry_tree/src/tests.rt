@@ -1,4 +1,5 @@
 //! Units by hand, damaged ones, a deep one, and one that gcc wrote.
+ghost use Rattle.elf_sections.specs.Images.{file_of as bytes_of};
 ghost use Rattle.entry_tree.specs.Contexts.{IsUnitOf};
 
 use crate::{Unit, UnitFault, Walk, WalkFault, context, root, units};
@@ -194,7 +195,7 @@ fn walked_unit(
     image: &Image<'_>,
     unit: &Unit,
 ) -> Result<Vec<(u64, u32, u64)>, Outcome>
-    requires { IsUnitOf image.now unit.now }
+    requires { IsUnitOf (bytes_of image.now) unit.now }
 {
     let table = image.section(Kind::Abbrev).unwrap_or(&[]);
     let abbrevs = match Abbrevs::read(alloc, table, unit.abbrev_at) {
@@ -367,7 +368,7 @@ fn deep_nesting(rt: HostRuntime) -> Result<(), Fail> {
 
 /// The name of a value, empty where there is none.
 fn name_at<'a>(image: &Image<'a>, unit: &Unit, str_base: u64, given: Option<Given<'a>>) -> &'a [u8]
-    requires { IsUnitOf image.now unit.now }
+    requires { IsUnitOf (bytes_of image.now) unit.now }
 {
     let Some(given) = given else {
         return &[];
@@ -383,7 +384,7 @@ type Named<'a> = (u64, u32, u64, &'a [u8]);
 
 /// The entries of a unit with their names; none where they can't be read.
 fn named<'a>(alloc: Global, image: &Image<'a>, unit: &Unit) -> Result<Vec<Named<'a>>, AllocError>
-    requires { IsUnitOf image.now unit.now }
+    requires { IsUnitOf (bytes_of image.now) unit.now }
 {
     let mut entries = Vec::new(alloc);
     let Ok(abbrevs) = Abbrevs::read(alloc, &REAL_ABBREV, unit.abbrev_at) else {

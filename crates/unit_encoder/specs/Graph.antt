@@ -1,11 +1,10 @@
 -- The graph of all units: a reference becomes the number of the node whose entry begins at the offset in the same file, within its unit or not.
-use Rattle.std.specs.Prelude.{ℕ, ◌+◌, ◌==◌, ◌&&◌, ◌^◌, nat_lt, Bool, true, false, List, [], ◌∷◌, ◌++◌, length, Option, None, Some, Result, Ok, Err, if◌then◌else◌}
+use Rattle.std.specs.Prelude.{ℕ, ◌+◌, ◌==◌, ◌&&◌, ◌^◌, nat_lt, Bool, false, List, [], ◌∷◌, ◌++◌, length, Option, None, Some, Result, Ok, Err, if◌then◌else◌}
 use Rattle.c_model.specs.declared.graph.CType.{CType}
 use Rattle.c_model.specs.declared.graph.Ref.{Ref}
 use Rattle.c_model.specs.declared.graph.Ref.TheVariants.{Void, Node}
 use Rattle.c_types.specs.declared.source.Target.{Target}
 use Rattle.c_types.specs.declared.source.Target.TheVariants as targets
-use Rattle.elf_sections.specs.Images.{file_of}
 use Rattle.elf_sections.specs.Sections.{section_bytes}
 use Rattle.elf_sections.specs.declared.fault.Kind.TheVariants.{Abbrev as AbbrevSection}
 use Rattle.dwarf_abbrev.specs.Declarations.{Declaration}
@@ -18,10 +17,9 @@ use Rattle.c_types.specs.declared.source.UnitTypes.{UnitTypes}
 use Rattle.c_types.specs.declared.fault.TypeFault.{TypeFault}
 use Rattle.unit_encoder.specs.declared.fault.EncodeFault.{EncodeFault}
 use Rattle.unit_encoder.specs.declared.fault.EncodeFault.TheVariants.{NodesTooMany, TypeRefOut}
-use Rattle.unit_encoder.specs.declared.sources.UnitAt.{UnitAt}
 use Rattle.unit_encoder.specs.declared.sources.Source.{Source}
 use Rattle.unit_encoder.specs.declared.links.Out.{Out}
-use Rattle.unit_encoder.specs.Sources.{gathered}
+use Rattle.unit_encoder.specs.Sources.{FileUnit, gathered}
 
 -- a file and an offset in its .debug_info
 abbrev pub place_eq : ℕ × ℕ → ℕ × ℕ → Bool
@@ -81,37 +79,37 @@ abbrev pub tag_in : ℕ → List Given → Option ℕ
 tag_in to [] = None
 tag_in to (e ∷ es) = if e.at == to then Some e.tag else tag_in to es
 
-abbrev pub entries_by : UnitAt → Result (List Declaration) AbbrevFault → List Given
+abbrev pub entries_by : FileUnit → Result (List Declaration) AbbrevFault → List Given
 entries_by u (Err f) = []
-entries_by u (Ok declarations) = (entries_of u.image u.unit declarations).entries
+entries_by u (Ok declarations) = (entries_of u.bytes u.unit declarations).entries
 
-abbrev pub entries_in : UnitAt → List Given
-entries_in u = entries_by u (table_at (section_bytes AbbrevSection (file_of u.image)) u.unit.abbrev_at)
+abbrev pub entries_in : FileUnit → List Given
+entries_in u = entries_by u (table_at (section_bytes AbbrevSection u.bytes) u.unit.abbrev_at)
 
 abbrev pub is_read : Result UnitTypes TypeFault → Bool
 is_read (Ok t) = t.read
 is_read (Err f) = false
 
-abbrev pub tag_at : ℕ → ℕ → UnitAt → Option ℕ
-tag_at file to u = if u.file == file && is_read (types_of_unit_of u.image u.unit) then tag_in to (entries_in u) else None
+abbrev pub tag_at : ℕ → ℕ → FileUnit → Option ℕ
+tag_at file to u = if u.file == file && is_read (types_of_unit_of u.bytes u.unit) then tag_in to (entries_in u) else None
 
 abbrev pub or_later : Option ℕ → ℕ → ℕ
 or_later (Some tag) later = tag
 or_later None later = later
 
-unfoldable pub tag_of : ℕ → ℕ → List UnitAt → ℕ
+unfoldable pub tag_of : ℕ → ℕ → List FileUnit → ℕ
 tag_of file to [] = 0
 tag_of file to (u ∷ us) = or_later (tag_at file to u) (tag_of file to us)
 
 -- the steps: all units, their number, and the references
-abbrev pub told_out : List UnitAt → Result (List CType) Out → Result (List CType) EncodeFault
+abbrev pub told_out : List FileUnit → Result (List CType) Out → Result (List CType) EncodeFault
 told_out units (Ok nodes) = Ok nodes
 told_out units (Err o) = Err (TypeRefOut o.file o.from o.to (tag_of o.file o.to units))
 
-abbrev pub linked : ℕ → List UnitAt → Result (List Source) EncodeFault → Result (List CType) EncodeFault
+abbrev pub linked : ℕ → List FileUnit → Result (List Source) EncodeFault → Result (List CType) EncodeFault
 linked most units (Err f) = Err f
 linked most units (Ok all) = if nat_lt most (length all) then Err (NodesTooMany (length all)) else told_out units (nodes_from all [] all)
 
 -- the nodes of the graph of some units, or the first refusal
-abbrev pub graph_of : ℕ → List UnitAt → Result (List CType) EncodeFault
+abbrev pub graph_of : ℕ → List FileUnit → Result (List CType) EncodeFault
 graph_of most units = linked most units (gathered 0 [] units)

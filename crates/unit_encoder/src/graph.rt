@@ -16,6 +16,7 @@ use world_io::Gate;
 /// The graph of the types of some units: the types of each unit that is read, in the order of the units and then
 /// of their entries, each unit with an array followed by the type of the indices. A reference becomes the number
 /// of the node whose entry begins at the offset in the same file. The gate is told of each unit before it is read.
+/// Each node is well formed; one that declares a tag refers to nothing, and those of one tag have one label.
 ///
 /// The first of these refuses: `Unit`, the first unit that is refused; `NodesTooMany` where there are more than
 /// `most` nodes; `TypeRefOut`, the first reference, in the order of the nodes and then of their targets, that names

@@ -1,5 +1,6 @@
 //! The nodes of all units, before they are linked.
 ghost use Rattle.std.specs.Prelude.{◌≡◌, ◌<◌, ◌^◌, ◌++◌, [], length, OnOk, Some, All};
+ghost use Rattle.c_types.specs.Types.{types_of_unit_of, Gives as TypesGive};
 ghost use Rattle.unit_encoder.specs.Sources.{made_sources, index_sources, sources_of, fault_in, gathered, IsReadable, Gives};
 
 use crate::fault::EncodeFault;
@@ -9,10 +10,11 @@ use dw_base::Name;
 use elf_sections::Image;
 use entry_tree::Unit;
 use std::alloc::{AllocError, Global};
+use std::marker::Model;
 use world_io::Gate;
 
-/// A unit of a file.
-#[derive(Clone, Copy, Debug)]
+/// A unit of a file. Contracts see it as the number of the file, its bytes and the unit.
+#[derive(Debug, Drop)]
 pub struct UnitAt<'a> {
     /// The number of the file, counted from 0.
     pub file: u32,
@@ -20,6 +22,15 @@ pub struct UnitAt<'a> {
     pub image: Image<'a>,
     /// The unit.
     pub unit: Unit,
+}
+
+impl<'a> Model for UnitAt<'a> {
+    ghost use Rattle.elf_sections.specs.Images.{file_of};
+    ghost use Rattle.unit_encoder.specs.Sources.{FileUnit};
+
+    ghost Value = { FileUnit };
+
+    ghost view = { λ u. record { file = u.file; bytes = file_of u.image; unit = u.unit } };
 }
 
 /// A node that isn't linked yet.
@@ -125,6 +136,21 @@ fn fault_of(file: u32, unit: u32, fault: TypeFault) -> EncodeFault
     }
 }
 
+/// The types of a unit of a file.
+pub(crate) fn types_at<'a>(alloc: Global, at: &UnitAt<'a>) -> Result<UnitTypes<'a>, TypeFault>
+    requires { IsReadable at.now }
+    ensures { TypesGive result (types_of_unit_of at.now.bytes at.now.unit) }
+{
+    types_of_unit(alloc, &at.image, &at.unit)
+}
+
+/// The number of the file that a unit is of.
+fn file_of(at: &UnitAt<'_>) -> u32
+    ensures { result ≡ at.now.file }
+{
+    at.file
+}
+
 /// The nodes of all units. The gate is told of each unit before it is read.
 pub(crate) fn read_sources<'a, G: Gate>(
     alloc: Global,
@@ -140,9 +166,10 @@ pub(crate) fn read_sources<'a, G: Gate>(
         let at = &units[i];
         let unit = i as u32;
         gate.enter(unit);
-        match types_of_unit(alloc, &at.image, &at.unit) {
-            Ok(found) => push_unit(alloc, &mut sources, at.file, found)?,
-            Err(fault) => return Err(fault_of(at.file, unit, fault)),
+        let file = file_of(at);
+        match types_at(alloc, at) {
+            Ok(found) => push_unit(alloc, &mut sources, file, found)?,
+            Err(fault) => return Err(fault_of(file, unit, fault)),
         }
     }
     Ok(sources)

@@ -1,5 +1,6 @@
 //! Units in bytes, and their graph.
 ghost use Rattle.std.specs.Prelude.{All, IfOk, OnOk};
+ghost use Rattle.elf_sections.specs.Images.{file_of as bytes_of};
 ghost use Rattle.entry_tree.specs.Contexts.{IsUnitOf};
 ghost use Rattle.unit_encoder.specs.Sources.{IsReadable};
 
@@ -106,7 +107,7 @@ fn push_readable<'a>(
     image: Image<'a>,
     unit: Unit,
 ) -> Result<(), AllocError>
-    requires unit { IsUnitOf image unit }
+    requires unit { IsUnitOf (bytes_of image) unit }
     requires readable { All IsReadable all.old.items }
     ensures { OnOk result (All IsReadable all.new.items) }
 {

@@ -1,4 +1,4 @@
-use Rattle.std.proofs.Common.{◌≡◌, [], List, Result, Ok, ap, sym, ◌∙◌}
+use Rattle.std.proofs.Common.{◌≡◌, [], List, Result, Ok, ap, ◌∙◌}
 use Rattle.c_model.specs.declared.graph.Ref.{Ref}
 use Rattle.unit_encoder.specs.declared.links.Out.{Out}
 use Rattle.unit_encoder.specs.Graph.{refs_from}

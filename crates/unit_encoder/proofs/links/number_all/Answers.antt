@@ -1,4 +1,3 @@
-use Rattle.std.proofs.Common.{ℕ, take}
 use Rattle.std.specs.HashMap.{get}
 use Rattle.unit_encoder.specs.Graph.{place_eq}
 use Rattle.unit_encoder.proofs.Linking.{number_step}
