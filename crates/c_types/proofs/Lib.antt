@@ -1,4 +1,5 @@
 pub mod Counting
+pub mod Formed
 pub mod Gathering
 pub mod Lengthening
 pub mod Noting

@@ -4,8 +4,10 @@ pub mod BaseTypes
 pub mod Children
 pub mod Enumerations
 pub mod Faults
+pub mod Formed
 pub mod Functions
 pub mod Labels
+pub mod Laws
 pub mod Lengths
 pub mod Numbers
 pub mod Parts

@@ -9,11 +9,13 @@ mod enumerations;
 pub mod fault;
 mod functions;
 mod labels;
+pub mod laws;
 mod number;
 mod references;
 mod shared;
 pub mod source;
 mod structures;
+mod tags;
 #[cfg(test)]
 mod tests;
 pub mod unit;

@@ -19,14 +19,16 @@ use crate::functions::function;
 use crate::references::{reference, typedef};
 use crate::source::{SourceType, SourceTypes, UnitTypes};
 use crate::structures::structure;
+use crate::tags::{
+    ARRAY_TYPE, ATOMIC_TYPE, BASE_TYPE, CONST_TYPE, ENUMERATION_TYPE, POINTER_TYPE, RESTRICT_TYPE,
+    STRUCTURE_TYPE, SUBROUTINE_TYPE, TYPEDEF, UNION_TYPE, UNSPECIFIED_TYPE, VOLATILE_TYPE,
+};
 use dw_base::Name;
 use dwarf_abbrev::{AbbrevFault, Abbrevs};
 use dwarf_forms::FormCtx;
 use elf_sections::{Image, Kind};
 use entry_tree::{Entry, Unit, Walk, context, root};
 use std::alloc::{AllocError, Global};
-
-const ARRAY: u64 = 0x01;
 
 /// The type of an entry whose row needs no children, where it has one.
 fn read_plain_type<'a>(
@@ -41,14 +43,14 @@ fn read_plain_type<'a>(
 {
     let none = Name::new(&[]);
     match entry.tag {
-        0x0f => Ok(Some(reference(alloc, ctx, entry, 2, none, least)?)),
-        0x16 => Ok(Some(typedef(alloc, ctx, entry, least)?)),
-        0x24 => Ok(Some(base_type(alloc, ctx, entry, least))),
-        0x26 => Ok(Some(reference(alloc, ctx, entry, 10, none, least)?)),
-        0x35 => Ok(Some(reference(alloc, ctx, entry, 9, none, least)?)),
-        0x37 => Ok(Some(reference(alloc, ctx, entry, 11, none, least)?)),
-        0x3b => Ok(Some(unspecified_type(alloc, ctx, entry, least))),
-        0x47 => {
+        POINTER_TYPE => Ok(Some(reference(alloc, ctx, entry, 2, none, least)?)),
+        TYPEDEF => Ok(Some(typedef(alloc, ctx, entry, least)?)),
+        BASE_TYPE => Ok(Some(base_type(alloc, ctx, entry, least))),
+        CONST_TYPE => Ok(Some(reference(alloc, ctx, entry, 10, none, least)?)),
+        VOLATILE_TYPE => Ok(Some(reference(alloc, ctx, entry, 9, none, least)?)),
+        RESTRICT_TYPE => Ok(Some(reference(alloc, ctx, entry, 11, none, least)?)),
+        UNSPECIFIED_TYPE => Ok(Some(unspecified_type(alloc, ctx, entry, least))),
+        ATOMIC_TYPE => {
             let atomic = Name::new(&[95, 65, 116, 111, 109, 105, 99]);
             Ok(Some(reference(alloc, ctx, entry, 8, atomic, least)?))
         }
@@ -69,11 +71,11 @@ fn read_type<'a>(
     ensures noted { OnOk result (least.new ≡ noted least.old (refused_in (row_of (sections ctx.now) (given_entry entry.now) walk.entry.entries))) }
 {
     match entry.tag {
-        0x01 => Ok(Some(array(alloc, ctx, entry, walk, least)?)),
-        0x04 => Ok(Some(enumeration(alloc, ctx, entry, walk, least)?)),
-        0x13 => Ok(Some(structure(alloc, ctx, entry, walk, false, least)?)),
-        0x15 => Ok(Some(function(alloc, ctx, entry, walk, least)?)),
-        0x17 => Ok(Some(structure(alloc, ctx, entry, walk, true, least)?)),
+        ARRAY_TYPE => Ok(Some(array(alloc, ctx, entry, walk, least)?)),
+        ENUMERATION_TYPE => Ok(Some(enumeration(alloc, ctx, entry, walk, least)?)),
+        STRUCTURE_TYPE => Ok(Some(structure(alloc, ctx, entry, walk, false, least)?)),
+        SUBROUTINE_TYPE => Ok(Some(function(alloc, ctx, entry, walk, least)?)),
+        UNION_TYPE => Ok(Some(structure(alloc, ctx, entry, walk, true, least)?)),
         _ => read_plain_type(alloc, ctx, entry, least),
     }
 }
@@ -114,7 +116,7 @@ fn take_entry<'a>(
 {
     let one = read_type(alloc, ctx, entry, walk, least)?;
     take_type(&mut found.types, one)?;
-    found.has_array = found.has_array || entry.tag == ARRAY;
+    found.has_array = found.has_array || entry.tag == ARRAY_TYPE;
     Ok(())
 }
 

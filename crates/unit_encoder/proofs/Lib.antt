@@ -1,4 +1,5 @@
 pub mod Finding
+pub mod Formed
 pub mod Linking
 pub mod Units
 pub mod Within

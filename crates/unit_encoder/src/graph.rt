@@ -1,5 +1,7 @@
 //! The graph of the types of all units.
 ghost use Rattle.std.specs.Prelude.{◌≡◌, ◌≤◌, ◌<◌, ◌^◌, length, All, IfOk};
+ghost use Rattle.c_model.specs.Kinds.{IsWellFormed};
+ghost use Rattle.c_model.specs.Forwards.{HasFittingForwards};
 ghost use Rattle.unit_encoder.specs.Sources.{IsReadable, Gives};
 ghost use Rattle.unit_encoder.specs.Graph.{graph_of};
 
@@ -14,6 +16,7 @@ use world_io::Gate;
 /// The graph of the types of some units: the types of each unit that is read, in the order of the units and then
 /// of their entries, each unit with an array followed by the type of the indices. A reference becomes the number
 /// of the node whose entry begins at the offset in the same file. The gate is told of each unit before it is read.
+/// Each node is well formed; one that declares a tag refers to nothing, and those of one tag have one label.
 ///
 /// The first of these refuses: `Unit`, the first unit that is refused; `NodesTooMany` where there are more than
 /// `most` nodes; `TypeRefOut`, the first reference, in the order of the nodes and then of their targets, that names
@@ -30,6 +33,8 @@ pub fn encode<'a, G: Gate>(
     requires readable { All IsReadable units.now }
     ensures nodes { Gives (λ g. g.nodes) result (graph_of most units.now) }
     ensures base { IfOk result (λ g. g.base ≡ 0) }
+    ensures well { IfOk result (λ g. All IsWellFormed g.nodes) }
+    ensures fitting { IfOk result (λ g. HasFittingForwards g) }
 {
     let _ = jobs;
     let sources = match read_sources(alloc, gate, units) {

@@ -1,0 +1,11 @@
+pub mod Children
+pub mod Clean
+pub mod Enumerations
+pub mod Functions
+pub mod Kinds
+pub mod Names
+pub mod Plain
+pub mod Refused
+pub mod Structures
+pub mod Types
+pub mod Units
