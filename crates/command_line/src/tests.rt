@@ -1,4 +1,4 @@
-use crate::job::{Format, Job, JobFault, Text, Texts, UsageFault};
+use crate::job::{Format, Job, JobFault, Text, Texts};
 use crate::scan::job_of;
 use std::alloc::{AllocError, Global};
 use std::process::Abort;
@@ -141,10 +141,9 @@ const FAULTS_OF_ALL_WORDS: &str = "\
 
 #[test]
 fn no_words(rt: HostRuntime) -> Result<(), Fail> {
-    let fault = UsageFault { word: 0, code: 6 };
     let words = Vec::new(rt.alloc());
     let said = said_of(rt.alloc(), job_of(rt.alloc(), words.as_slice()))?;
-    assert_eq!(rt; said.as_str(), "word 0: usage 6", "{fault}");
+    assert_eq!(rt; said.as_str(), "word 0: usage 6");
     Ok(())
 }
 
