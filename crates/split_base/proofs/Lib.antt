@@ -1,3 +1,11 @@
 pub mod Joining
-pub mod Places
+pub mod Firsts
+pub mod Tables
+pub mod Relations
+pub mod Placing
+pub mod Noting
+pub mod Naming
+pub mod Words
+pub mod Making
+pub mod Owning
 pub mod Unfolds

@@ -1,12 +1,8 @@
 -- The table of a partition unfolds as the nodes do.
-use Rattle.std.proofs.Common.{◌≡◌, ◌<◌, ◌≤◌, ◌+◌, ℕ, suc, zero, Bool, true, false, List, [], ◌∷◌, Option, None, Some, map, take, length, get_or, refl, sym, ◌∙◌, ap, arith, eqb, not, is_some, unwrap_or, ⊎_elim, ◌⊎◌, inl, inr}
-use Rattle.std.specs.List.{Contains, find, position_or_len, range_with_len, slice_get, AllByRecursion}
+use Rattle.std.proofs.Common.{◌≡◌, ◌<◌, ◌≤◌, ℕ, suc, zero, true, false, List, [], ◌∷◌, Option, None, Some, map, take, length, get_or, refl, sym, ◌∙◌, ap, arith, eqb, not, is_some, unwrap_or, ⊎_elim, ◌⊎◌, inl, inr}
+use Rattle.std.specs.List.{Contains, find, range_with_len, slice_get, AllByRecursion}
 use Rattle.std.specs.Option.{option_map, option_map_or}
 use Rattle.std.proofs.lemmas.Bool.{eq-eqb, eqb-true, true≢false, and_parts, and_from, cases_lt, lt-ltb}
-use Rattle.std.proofs.lemmas.List.Folds.{find_at}
-use Rattle.std.proofs.lemmas.List.Sums.{fails_before_first, passes_at_first}
-use Rattle.std.proofs.lemmas.List.FromFn.{length-range_with_len, get_or-range_with_len}
-use Rattle.std.proofs.lemmas.Option.{slice_get-get_or, slice_get_within, get_or_from_slice_get}
 use Rattle.c_model.specs.declared.label.Label.{Label}
 use Rattle.c_model.specs.declared.graph.CType.{CType}
 use Rattle.c_model.specs.declared.graph.Ref.{Ref}
@@ -19,27 +15,8 @@ use Rattle.c_model.proofs.Targets.{target_by-same, targets_at-below}
 use Rattle.c_model.proofs.Trees.{stand-cases, unfold_with-class}
 use Rattle.c_model.proofs.Licences.{cases_nil, closed_definition, not_both, forward_parts}
 use Rattle.split_base.specs.Table.{first_of, is_plain, source_of, place_of, renamed, renamed_type, IsTableOf}
-use Rattle.split_base.proofs.Places.{first_of-below, first_of-class, base_place}
-
--- the first number below n that passes
-found : (f : ℕ → Bool) (n k : ℕ) → find f (range_with_len 0 n) ≡ Some k → (k < n) × (f k ≡ true)
-found f n k e =
-    let i : ℕ = position_or_len f (range_with_len 0 n) in
-    let at : slice_get (range_with_len 0 n) i ≡ Some k = sym (find_at f (range_with_len 0 n)) ∙ e in
-    let lt : i < n = omega (arith, slice_get_within (range_with_len 0 n) i k at, length-range_with_len 0 n) in
-    let is : get_or (range_with_len 0 n) i 0 ≡ k = get_or_from_slice_get (range_with_len 0 n) i k 0 at in
-    let same : get_or (range_with_len 0 n) i 0 ≡ 0 + i = get_or-range_with_len 0 n i 0 lt in
-    (omega (arith, is, same), ap f (sym is) ∙ passes_at_first f (range_with_len 0 n) 0 (slice_get_within (range_with_len 0 n) i k at))
-
-not_found : (f : ℕ → Bool) (n : ℕ) → find f (range_with_len 0 n) ≡ None → (k : ℕ) → k < n → f k ≡ false
-not_found f n e k h =
-    let i : ℕ = position_or_len f (range_with_len 0 n) in
-    let same : get_or (range_with_len 0 n) k 0 ≡ 0 + k = get_or-range_with_len 0 n k 0 h in
-    let past : n ≤ i = ⊎_elim (λ lt. absurd (some_none (sym (slice_get-get_or (range_with_len 0 n) i 0 (omega (arith, length-range_with_len 0 n))) ∙ (sym (find_at f (range_with_len 0 n)) ∙ e)))) (λ le. le) (cases_lt i n) in
-    ap f (omega (arith, same)) ∙ fails_before_first f (range_with_len 0 n) k 0 (omega (arith))
-  where
-    some_none : {X : Type 0} {x : X} → Some x ≡ None → ⊥
-    some_none e = cc
+use Rattle.split_base.proofs.Tables.{found, not_found, slice_get-take}
+use Rattle.split_base.proofs.Firsts.{first_of-below, first_of-class, base_place}
 
 target_by-renamed : {A : Type 0} (f : ℕ → A) (r : ℕ → ℕ) (ts : List Ref) → map (target_by f) (map (renamed r) ts) ≡ map (target_by (λ x. f (r x))) ts
 target_by-renamed f r [] = refl
@@ -53,12 +30,6 @@ label_of_renamed place (Some t) = refl
 targets_of_renamed : (place : ℕ → ℕ) (o : Option CType) → option_map_or (λ (c : CType). c.targets) (option_map (renamed_type place) o) [] ≡ map (renamed place) (option_map_or (λ (c : CType). c.targets) o [])
 targets_of_renamed place None = refl
 targets_of_renamed place (Some t) = refl
-
-slice_get-take : {X : Type 0} (n k : ℕ) (xs : List X) → k < n → slice_get (take n xs) k ≡ slice_get xs k
-slice_get-take zero k xs h = absurd (omega arith)
-slice_get-take (suc n) k [] h = refl
-slice_get-take (suc n) zero (x ∷ xs) h = refl
-slice_get-take (suc n) (suc k) (x ∷ xs) h = slice_get-take n k xs (omega arith)
 
 -- no definition is a forward
 no_forward : (g : Shape) (d : ℕ) (tag : Tag) → definition_at g.nodes d ≡ Some tag → not (is_some (forward_at g d)) ≡ true

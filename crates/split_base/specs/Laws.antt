@@ -4,7 +4,9 @@ use Rattle.c_model.specs.Graph.{Shape, IsSound}
 use Rattle.c_model.specs.Forwards.{IsIndexOf, HasFittingForwards, AgreesWith}
 use Rattle.c_model.specs.Unfolding.{unfold_with, unfold_id}
 use Rattle.c_model.specs.declared.graph.CType.{CType}
-use Rattle.split_base.specs.Table.{id_of, IsTableOf}
+use Rattle.c_model.specs.Laws.{AreOneRelation}
+use Rattle.split_base.specs.Table.{id_of, table_of}
+use Rattle.split_base.specs.Merged.{IsMerged}
 
 -- two nodes share an id exactly where the partition relates them
 abbrev pub IdsShareClasses : Type 0
@@ -18,5 +20,16 @@ IdsShareClasses =
 abbrev pub TableUnfoldsAsNodes : Type 0
 TableUnfoldsAsNodes =
     (g : Shape) (index : List (List ℕ)) (p : List ℕ) (types : List CType)
-    → IsSound g.base g.nodes → IsIndexOf g index → HasFittingForwards g → AgreesWith g index p → IsTableOf g p types
+    → IsSound g.base g.nodes → IsIndexOf g index → HasFittingForwards g → AgreesWith g index p → types ≡ table_of g p
     → (n x : ℕ) → x < length g.nodes → unfold_id types n (id_of g p x) ≡ Some (unfold_with g.nodes index p n x)
+
+-- partitions that relate the same pairs have one table
+abbrev pub TableOfRelation : Type 0
+TableOfRelation =
+    (g : Shape) (p q : List ℕ) → IsSound g.base g.nodes → length p ≡ length g.nodes → length q ≡ length g.nodes
+    → AreOneRelation (length g.nodes) p q → table_of g p ≡ table_of g q
+
+-- a graph is merged to one table at most
+abbrev pub MergedToOneTable : Type 0
+MergedToOneTable =
+    (g : Shape) (types others : List CType) → IsSound g.base g.nodes → IsMerged g types → IsMerged g others → types ≡ others

@@ -1,3 +1,6 @@
 pub mod Graphs
 pub mod Table
+pub mod Refusals
+pub mod Merged
+pub mod Building
 pub mod Laws

@@ -2,8 +2,8 @@
 --
 -- A partition is a list of class numbers, one for each node. Base nodes come first in a graph, so a class that has
 -- base nodes has a base node as its first.
-use Rattle.std.specs.Prelude.{ℕ, suc, ◌≡◌, ◌<◌, ◌≤◌, ◌+◌, ◌-◌, nat_lt, ◌==◌, ◌&&◌, Bool, not, is_some, List, length, map, take, slice_get, slice_index, find, unwrap_or, if◌then◌else◌}
-use Rattle.std.specs.List.{filter, position_or_len, range_with_len}
+use Rattle.std.specs.Prelude.{ℕ, suc, ◌≡◌, ◌<◌, ◌≤◌, ◌+◌, ◌-◌, ◌++◌, nat_lt, ◌==◌, ◌&&◌, Bool, not, is_some, List, length, map, take, Option, slice_get, slice_index, find, unwrap_or, if◌then◌else◌}
+use Rattle.std.specs.List.{filter, filter_map, position_or_len, range_with_len}
 use Rattle.std.specs.Option.{option_map}
 use Rattle.c_model.specs.Graph.{Shape}
 use Rattle.c_model.specs.Forwards.{forward_at}
@@ -48,11 +48,22 @@ renamed place (Node x) = Node (place x)
 abbrev pub renamed_type : (ℕ → ℕ) → CType → CType
 renamed_type place t = record { label = t.label; targets = map (renamed place) t.targets }
 
--- the types are the table of a partition: the base's as they are, and then one for each own class
+-- the type of the class of a node
+abbrev pub type_of : Shape → List ℕ → ℕ → Option CType
+type_of g p x = option_map (renamed_type (place_of g p)) (slice_get g.nodes (source_of g p x))
+
+-- the types of the own classes, in the order of their first nodes
+unfoldable pub own_types : Shape → List ℕ → List CType
+own_types g p = filter_map (type_of g p) (own_firsts g p)
+
+-- the table of a partition: the base's types as they are, and then those of the own classes
+abbrev pub table_of : Shape → List ℕ → List CType
+table_of g p = take g.base g.nodes ++ own_types g p
+
+-- the types are the table of a partition, place by place
 pub record IsTableOf (g : Shape) (p : List ℕ) (types : List CType) : Type 0 where
   pub base : take g.base types ≡ take g.base g.nodes
   pub sized : length types ≡ g.base + length (own_firsts g p)
   pub own :
       (x : ℕ) → x < length g.nodes → g.base ≤ first_of p x
-      → slice_get types (place_of g p x)
-      ≡ option_map (renamed_type (place_of g p)) (slice_get g.nodes (source_of g p x))
+      → slice_get types (place_of g p x) ≡ type_of g p x

@@ -1,5 +1,5 @@
 //! Second copies of types.
-ghost use Rattle.std.specs.Prelude.{◌≡◌, IfOk};
+ghost use Rattle.std.specs.Prelude.{◌≡◌, ◌<◌, ◌+◌, ◌^◌, length, IfOk};
 
 use c_model::{CType, Label, Part, Parts, Ref, Refs};
 use dw_base::Name;
@@ -30,19 +30,42 @@ fn copy_of_targets(alloc: Global, targets: &[Ref]) -> Result<Refs, AllocError>
     Ok(Refs::new(copy))
 }
 
+/// A second copy of a label. The names are borrowed.
+pub fn copy_of_label<'a>(alloc: Global, label: &Label<'a>) -> Result<Label<'a>, AllocError>
+    ensures { IfOk result (λ copy. copy ≡ label.now) }
+{
+    Ok(Label {
+        kind: label.kind,
+        name: Name::new(label.name.bytes()),
+        flag: label.flag,
+        size: label.size,
+        extra: label.extra,
+        parts: copy_of_parts(alloc, label.parts.items())?,
+    })
+}
+
 /// A second copy of a type.
-pub fn copy_of<'a>(alloc: Global, t: &CType<'a>) -> Result<CType<'a>, AllocError>
+fn copy_of<'a>(alloc: Global, t: &CType<'a>) -> Result<CType<'a>, AllocError>
     ensures { IfOk result (λ copy. copy ≡ t.now) }
 {
     Ok(CType {
-        label: Label {
-            kind: t.label.kind,
-            name: Name::new(t.label.name.bytes()),
-            flag: t.label.flag,
-            size: t.label.size,
-            extra: t.label.extra,
-            parts: copy_of_parts(alloc, t.label.parts.items())?,
-        },
+        label: copy_of_label(alloc, &t.label)?,
         targets: copy_of_targets(alloc, t.targets.items())?,
     })
+}
+
+/// Second copies of types, in memory that has room for so many more.
+pub fn copy_of_types<'a>(
+    alloc: Global,
+    types: &[CType<'a>],
+    more: usize,
+) -> Result<Vec<CType<'a>>, AllocError>
+    requires { length types.now + more < 2 ^ 33 }
+    ensures { IfOk result (λ copies. copies.items ≡ types.now) }
+{
+    let mut copies = Vec::with_capacity(alloc, types.len() + more)?;
+    for t in types {
+        copies.push(copy_of(alloc, t)?)?;
+    }
+    Ok(copies)
 }

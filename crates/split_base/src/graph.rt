@@ -4,7 +4,7 @@ ghost use Rattle.c_model.specs.Graph.{IsBelow, RefersWithin};
 ghost use Rattle.split_base.specs.Graphs.{joined, moved, moved_type};
 ghost use Rattle.split_base.specs.declared.fault.TableFault.TheVariants.{NodesTooMany, Memory};
 
-use crate::copy::copy_of;
+use crate::copy::copy_of_types;
 use crate::fault::TableFault;
 use btf_codec::Table;
 use c_model::{CType, Graph, Nodes, Ref, Refs};
@@ -20,24 +20,8 @@ pub fn graph_of<'a>(alloc: Global, table: &Table<'a>) -> Result<Graph<'a>, Alloc
     ensures nodes { IfOk result (λ graph. graph.nodes ≡ table.now.types) }
 {
     let types = table.types.items();
-    let nodes = copies_of(alloc, types, 0)?;
+    let nodes = copy_of_types(alloc, types, 0)?;
     Ok(Graph::new(types.len() as u32, Nodes::new(nodes)))
-}
-
-/// Second copies of types, in memory that has room for so many more.
-fn copies_of<'a>(
-    alloc: Global,
-    types: &[CType<'a>],
-    more: usize,
-) -> Result<Vec<CType<'a>>, AllocError>
-    requires { length types.now + more < 2 ^ 33 }
-    ensures { IfOk result (λ copies. copies.items ≡ types.now) }
-{
-    let mut copies = Vec::with_capacity(alloc, types.len() + more)?;
-    for t in types {
-        copies.push(copy_of(alloc, t)?)?;
-    }
-    Ok(copies)
 }
 
 /// The graph of a base and of the types of files: the base's types come first, as base nodes, and the references of
@@ -67,7 +51,7 @@ pub fn with_base<'a>(
         return Err(TableFault::NodesTooMany(count));
     }
     let own = graph.into_nodes().into_items();
-    let copies = copies_of(alloc, types, own.len())?;
+    let copies = copy_of_types(alloc, types, own.len())?;
     Ok(Graph::new(base, Nodes::new(followed_by(copies, base, own)?)))
 }
 

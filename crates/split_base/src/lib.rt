@@ -10,9 +10,16 @@ mod copy;
 pub mod fault;
 pub mod graph;
 pub mod laws;
+mod lengths;
+mod names;
+mod places;
 mod shared;
+mod sources;
+pub mod table;
 #[cfg(test)]
 mod tests;
+mod types;
 
 pub use fault::TableFault;
 pub use graph::{graph_of, with_base};
+pub use table::build;

@@ -1,5 +1,5 @@
 use Rattle.std.proofs.Common.{suc, arith, ap}
-use Rattle.split_base.proofs.Places.{place_of-apart, place_of-same}
+use Rattle.split_base.proofs.Firsts.{place_of-apart, place_of-same}
 use Rattle.split_base.proofs.laws.ids_share_classes.Goals as goal
 
 pub returns : goal.returns
