@@ -1,5 +1,5 @@
 -- Numbers as `parse` reads them.
-use Rattle.std.proofs.Common.{◌≡◌, ℕ, ◌^◌, ◌<◌, ◌≤◌, List, length, Bool, true, false, Some, None, Result, Ok, Err, refl, ap, arith, rules, leb, ⊎_elim}
+use Rattle.std.proofs.Common.{◌≡◌, ℕ, ◌^◌, ◌<◌, ◌≤◌, List, length, Bool, true, false, Some, None, Result, Err, refl, arith, rules, leb, ⊎_elim}
 use Rattle.std.specs.Prelude.{if◌then◌else◌, ◌&&◌}
 use Rattle.std.proofs.lemmas.Bool.{cases_lt}
 use Rattle.std.proofs.lemmas.Bool.Decides.{nat_tests}
@@ -21,18 +21,6 @@ has_digit v h = grind (arith, nat_tests)
 none_of : (b : Bool) (n : ℕ) → None ≡ (if (true && b) && false then Some n else None)
 none_of true n = refl
 none_of false n = refl
-
--- what is read of decimal digits between two bounds
-pub number_read :
-    (E : Type 0) (low high n : ℕ) (v : List ℕ) (r : Result ℕ E) → is_decimal v ≡ true → ParsesUnsigned 64 10 v r → r ≡ Ok n
-    → low ≤ n → n ≤ high → Some n ≡ number low high v
-number_read E low high n v r h p e l m =
-    let read : OkIff {E = E} (Ok n) ((0 < length v) × (digits_value 10 v < 2 ^ 64)) (digits_value 10 v) =
-    rw e at (parse_digits own 64 v r p (all_digits v h)) in
-    let same : n ≡ digits_value 10 v = read.1 in
-    let low_is : leb low (digits_value 10 v) ≡ true = grind (arith, nat_tests) in
-    let high_is : leb (digits_value 10 v) high ≡ true = grind (arith, nat_tests) in
-    rw (h, low_is, high_is) (ap Some same)
 
 -- what is not read lies past 64 bits
 pub number_not_read :

@@ -32,3 +32,7 @@ settings = Out ∷ Base ∷ Selfmade ∷ Names ∷ Holes ∷ Line ∷ Format ∷
 
 abbrev pub is_same : Setting → Setting → Bool
 is_same s t = (row s).rank == (row t).rank
+
+-- the options that only jobs that show have
+abbrev pub showing : List Setting
+showing = Names ∷ Sizes ∷ Holes ∷ Line ∷ Format ∷ []

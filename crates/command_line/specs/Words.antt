@@ -15,7 +15,7 @@ use Rattle.command_line.specs.declared.options.Setting.TheVariants.{Out, Base, S
 use Rattle.command_line.specs.declared.options.ValuePlace.{ValuePlace}
 use Rattle.command_line.specs.declared.options.ValuePlace.TheVariants.{NextWord, SameWord}
 use Rattle.command_line.specs.Values.{made_number, holes, line, jobs, file_name, names, format}
-use Rattle.command_line.specs.Options.{row, settings, is_same}
+use Rattle.command_line.specs.Options.{row, settings, showing, is_same}
 
 -- the role of a word: an option of the table, with its value if it is there; another word that begins with `-`;
 -- the value of the option before it; the first `--`; a file
@@ -135,8 +135,8 @@ is_btf Dwarf = false
 -- options that don't go together
 abbrev pub are_apart : List (Setting × List ℕ) → Bool
 are_apart us =
-    (is_used us Out && list_any (is_used us) (Names ∷ Sizes ∷ Holes ∷ Line ∷ Shape ∷ Selfmade ∷ []))
-    || (is_used us Selfmade && list_any (is_used us) (Names ∷ Sizes ∷ Holes ∷ Line ∷ Shape ∷ Base ∷ []))
+    (is_used us Out && (list_any (is_used us) showing || is_used us Selfmade))
+    || (is_used us Selfmade && (list_any (is_used us) showing || is_used us Base))
     || (is_used us Base && not (is_used us Out) && not (is_btf (format_of us)))
 
 -- what is wrong with all words together, by the options and the number of files

@@ -7,7 +7,7 @@ ghost use Rattle.command_line.specs.Values.{made_number, holes, line, file_name,
 ghost use Rattle.command_line.specs.Words.{Gives, read, is_used, is_btf, format_of, are_apart, whole_fault, jobs_wanted, job_with, job_unless, usage, files_of, jobs_of};
 
 use crate::job::{Format, Job, JobFault, Text, Texts, UsageFault};
-use crate::options::Setting;
+use crate::options::{SHOWING, Setting};
 use crate::uses::{Use, is_used, value_of};
 use crate::values::{are_names, format, holes, jobs, line, made_number};
 use std::alloc::{AllocError, Global};
@@ -53,29 +53,12 @@ fn are_apart(uses: &[Use<'_>]) -> bool
     ensures { result ≡ are_apart uses.now }
 {
     let out = is_used(uses, Setting::Out);
-    out && any_used(
-        uses,
-        &[
-            Setting::Names,
-            Setting::Sizes,
-            Setting::Holes,
-            Setting::Line,
-            Setting::Format,
-            Setting::Selfmade,
-        ],
-    ) || is_used(uses, Setting::Selfmade)
-        && any_used(
-            uses,
-            &[
-                Setting::Names,
-                Setting::Sizes,
-                Setting::Holes,
-                Setting::Line,
-                Setting::Format,
-                Setting::Base,
-            ],
-        )
-        || is_used(uses, Setting::Base) && !out && !is_btf(format_of(uses))
+    let selfmade = is_used(uses, Setting::Selfmade);
+    let base = is_used(uses, Setting::Base);
+    let shows = any_used(uses, &SHOWING);
+    out && (shows || selfmade)
+        || selfmade && (shows || base)
+        || base && !out && !is_btf(format_of(uses))
 }
 
 /// Whether one of some options is used.

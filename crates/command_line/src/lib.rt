@@ -1,10 +1,29 @@
 //! The words of the command line: the job that they give, or what is wrong with them.
+//!
+//! | Option | What it does | Its value |
+//! |---|---|---|
+//! | `--btf_encode_detached=OUT` | stores the types of the files as BTF in OUT | not empty |
+//! | `--btf_base=BASE` | goes on from the table in BASE; while encoding, or with `-F btf` | not empty |
+//! | `--selfmade=N` | makes an input of this number and encodes it, without files | any number of 64 bits |
+//! | `-F FORMAT` | says what the files hold | `dwarf` (default) or `btf` |
+//! | `-C NAMES` | shows only types of these names | names between commas, none empty |
+//! | `-s` | prints only sizes, one line for each type | none |
+//! | `-H N` | shows only types with at least N byte holes | 0 (default, shows all) to 4294967295 |
+//! | `-c N` | the size of a cache line in bytes | 1 to 4294967295, by default 64 |
+//! | `-jN` | the number of workers | 1 to 256, by default 1 |
+//! | `--` | makes each later word a file | none |
+//!
+//! Without `--btf_encode_detached=` and `--selfmade=` the layouts of the types are shown; then no other job's options
+//! may be there. Numbers are 1 to 20 decimal digits. A word that doesn't begin with `-` is a file, and so is the word `-`;
+//! options and files may be mixed. Each option may stand once. At least one file is needed, and with `-F btf` exactly one.
 #![tactic(auto)]
 
 mod finish;
 pub mod job;
 mod options;
 pub mod scan;
+#[cfg(test)]
+mod tests;
 mod uses;
 mod values;
 

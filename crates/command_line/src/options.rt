@@ -7,14 +7,23 @@ use crate::values::{are_names, file_name, format, holes, jobs, line, made_number
 /// What an option sets.
 #[derive(Clone, Copy, Debug)]
 pub enum Setting {
+    /// The file that the BTF is stored in.
     Out,
+    /// The table that the written or read one goes on from.
     Base,
+    /// The number of an input that is made.
     Selfmade,
+    /// The names of the types that are shown.
     Names,
+    /// The least number of holes of what is shown.
     Holes,
+    /// The size of a cache line.
     Line,
+    /// What the files hold.
     Format,
+    /// That only sizes are printed.
     Sizes,
+    /// The number of workers.
     Jobs,
 }
 
@@ -40,6 +49,15 @@ pub const SETTINGS: [Setting; 9] = [
     Setting::Format,
     Setting::Sizes,
     Setting::Jobs,
+];
+
+/// The options that only jobs that show have.
+pub const SHOWING: [Setting; 5] = [
+    Setting::Names,
+    Setting::Sizes,
+    Setting::Holes,
+    Setting::Line,
+    Setting::Format,
 ];
 
 impl Setting {

@@ -26,9 +26,13 @@ fn number(value: &str, low: u64, high: u64) -> Option<u64>
     if !is_decimal(value) {
         return None;
     }
-    match value.parse::<u64>() {
-        Ok(number) if low <= number && number <= high => Some(number),
-        _ => None,
+    let Ok(number) = value.parse::<u64>() else {
+        return None;
+    };
+    if low <= number && number <= high {
+        Some(number)
+    } else {
+        None
     }
 }
 

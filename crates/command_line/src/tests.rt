@@ -1,0 +1,276 @@
+use crate::job::{Format, Job, JobFault, Text, Texts};
+use crate::scan::job_of;
+use std::alloc::{AllocError, Global};
+use std::process::Abort;
+use std::test::Fail;
+
+// In each line words, one space between two, and behind the arrow what they say: an empty word is nothing between
+// two spaces.
+const JOBS: &str = "\
+a -> show dwarf base=- C=- H0 c64 j1: <a>
+--btf_encode_detached=o a -> encode o base=- j1: <a>
+--btf_encode_detached=o --btf_base=B a -> encode o base=B j1: <a>
+--btf_base=B -j3 --btf_encode_detached=o a b -> encode o base=B j3: <a> <b>
+a --btf_encode_detached=o b -> encode o base=- j1: <a> <b>
+-F dwarf a b -> show dwarf base=- C=- H0 c64 j1: <a> <b>
+-F btf a -> show btf base=- C=- H0 c64 j1: <a>
+-F btf --btf_base=B a -> show btf base=B C=- H0 c64 j1: <a>
+--btf_base=B -F btf a -> show btf base=B C=- H0 c64 j1: <a>
+-C p,q -s -H 2 -c 128 -j4 -F btf --btf_base=B a -> show btf base=B C=p,q s H2 c128 j4: <a>
+-C p,p a -> show dwarf base=- C=p,p H0 c64 j1: <a>
+-C -- a -> show dwarf base=- C=-- H0 c64 j1: <a>
+-C -C a -> show dwarf base=- C=-C H0 c64 j1: <a>
+-C -s a -> show dwarf base=- C=-s H0 c64 j1: <a>
+a a -> show dwarf base=- C=- H0 c64 j1: <a> <a>
+- -> show dwarf base=- C=- H0 c64 j1: <->
+ -> show dwarf base=- C=- H0 c64 j1: <>
+-- a -> show dwarf base=- C=- H0 c64 j1: <a>
+-- -s -x -> show dwarf base=- C=- H0 c64 j1: <-s> <-x>
+-- -- -> show dwarf base=- C=- H0 c64 j1: <-->
+a -- -j0 -- -> show dwarf base=- C=- H0 c64 j1: <a> <-j0> <-->
+--selfmade=0 -> selfmade 0 j1
+--selfmade=1049602 -j8 -> selfmade 1049602 j8
+--selfmade=18446744073709551615 -> selfmade 18446744073709551615 j1
+--selfmade=00000000000000000007 -> selfmade 7 j1
+-- a -j0 -> show dwarf base=- C=- H0 c64 j1: <a> <-j0>
+-H 0 a -> show dwarf base=- C=- H0 c64 j1: <a>
+-H 4294967295 a -> show dwarf base=- C=- H4294967295 c64 j1: <a>
+-c 1 a -> show dwarf base=- C=- H0 c1 j1: <a>
+-c 4294967295 a -> show dwarf base=- C=- H0 c4294967295 j1: <a>
+-j1 a -> show dwarf base=- C=- H0 c64 j1: <a>
+-j256 a -> show dwarf base=- C=- H0 c64 j256: <a>
+--selfmade=1 -- -> selfmade 1 j1
+é -C ß,漢 -> show dwarf base=- C=ß,漢 H0 c64 j1: <é>
+";
+
+const FAULTS_OF_A_WORD: &str = "\
+-x a -> word 0: usage 1
+-j0 a -> word 0: usage 3
+-s -s a -> word 1: usage 4
+-C -> word 0: usage 2
+--selfmade=18446744073709551616 -> word 0: usage 3
+--selfmade=000000000000000000007 -> word 0: usage 3
+--selfmade= -> word 0: usage 3
+--selfmade=+1 -> word 0: usage 3
+--selfmade=-1 -> word 0: usage 3
+--selfmade=1x -> word 0: usage 3
+--selfmade=1 --selfmade=1 -> word 1: usage 4
+--btf_encode_detached= a -> word 0: usage 3
+--btf_base= a -> word 0: usage 3
+--btf_encode_detached a -> word 0: usage 1
+--btf_base a -> word 0: usage 1
+--selfmade 1 -> word 0: usage 1
+--help -> word 0: usage 1
+--version -> word 0: usage 1
+-Cp a -> word 0: usage 1
+-ss a -> word 0: usage 1
+-H 4294967296 a -> word 0: usage 3
+-H  a -> word 0: usage 3
+-H -1 a -> word 0: usage 3
+-H +1 a -> word 0: usage 3
+-H 000000000000000000001 a -> word 0: usage 3
+-c 0 a -> word 0: usage 3
+-c 4294967296 a -> word 0: usage 3
+-j257 a -> word 0: usage 3
+-j a -> word 0: usage 3
+-j 4 a -> word 0: usage 3
+-j+4 a -> word 0: usage 3
+-jobs a -> word 0: usage 3
+-F c a -> word 0: usage 3
+-F DWARF a -> word 0: usage 3
+-F  a -> word 0: usage 3
+-C a,,b f -> word 0: usage 3
+-C  f -> word 0: usage 3
+-C , f -> word 0: usage 3
+-C a, f -> word 0: usage 3
+-C ,a f -> word 0: usage 3
+a -C -> word 1: usage 2
+a -H -> word 1: usage 2
+a -c -> word 1: usage 2
+a -F -> word 1: usage 2
+--btf_encode_detached=o --btf_encode_detached=o a -> word 1: usage 4
+--btf_base=B --btf_base=C a -> word 1: usage 4
+-C p -C q a -> word 2: usage 4
+-C p a -C -> word 3: usage 4
+-H 1 -H 1 a -> word 2: usage 4
+-c 8 -c 8 a -> word 2: usage 4
+-F btf -F btf a -> word 2: usage 4
+-j2 -j2 a -> word 1: usage 4
+-j2 -j0 a -> word 1: usage 4
+-x -j0 -> word 0: usage 1
+-j0 -x -> word 0: usage 3
+a -j0 -x -> word 1: usage 3
+-s -s -x -> word 1: usage 4
+-C , -x -> word 0: usage 3
+-H x -C -> word 0: usage 3
+-x -C -> word 0: usage 1
+--funcs a -> word 0: usage 1
+--btf_encode_detached=o --funcs --funcs a -> word 1: usage 1
+-é a -> word 0: usage 1
+-H ١ a -> word 0: usage 3
+-j４ a -> word 0: usage 3
+";
+
+const FAULTS_OF_ALL_WORDS: &str = "\
+-s --btf_encode_detached=o a -> word 3: usage 5
+-- -> word 1: usage 6
+--btf_encode_detached=o -C p a -> word 4: usage 5
+--btf_encode_detached=o -s a -> word 3: usage 5
+--btf_encode_detached=o -H 1 a -> word 4: usage 5
+--btf_encode_detached=o -c 8 a -> word 4: usage 5
+--btf_encode_detached=o -F dwarf a -> word 4: usage 5
+--btf_encode_detached=o -F btf a -> word 4: usage 5
+--btf_encode_detached=o --selfmade=1 -> word 2: usage 5
+--selfmade=1 -C p -> word 3: usage 5
+--selfmade=1 -s -> word 2: usage 5
+--selfmade=1 -H 0 -> word 3: usage 5
+--selfmade=1 -c 64 -> word 3: usage 5
+--selfmade=1 -F dwarf -> word 3: usage 5
+--selfmade=1 --btf_base=B -> word 2: usage 5
+--btf_base=B a -> word 2: usage 5
+--btf_base=B -F dwarf a -> word 4: usage 5
+--btf_base=B -> word 1: usage 5
+-s -> word 1: usage 6
+--btf_encode_detached=o -> word 1: usage 6
+-F btf -> word 2: usage 6
+--selfmade=1 a -> word 2: usage 7
+-F btf a b -> word 4: usage 7
+-F btf a -- b -> word 5: usage 7
+--selfmade=1 -s a -> word 3: usage 5
+";
+
+#[test]
+fn no_words(rt: HostRuntime) -> Result<(), Fail> {
+    let words = Vec::new(rt.alloc());
+    let said = said_of(rt.alloc(), job_of(rt.alloc(), words.as_slice()))?;
+    assert_eq!(rt; said.as_str(), "word 0: usage 6");
+    Ok(())
+}
+
+#[test]
+fn words_with_a_job(rt: HostRuntime) -> Result<(), Fail> {
+    check(&rt, rt.alloc(), JOBS)?;
+    Ok(())
+}
+
+#[test]
+fn words_with_a_fault_of_one(rt: HostRuntime) -> Result<(), Fail> {
+    check(&rt, rt.alloc(), FAULTS_OF_A_WORD)?;
+    Ok(())
+}
+
+#[test]
+fn words_with_a_fault_of_all(rt: HostRuntime) -> Result<(), Fail> {
+    check(&rt, rt.alloc(), FAULTS_OF_ALL_WORDS)?;
+    Ok(())
+}
+
+/// Reads the words of each line, and compares what they say with what stands behind the arrow.
+fn check(rt: &impl Abort, alloc: Global, table: &str) -> Result<(), AllocError> {
+    for line in table.lines() {
+        check_line(rt, alloc, line)?;
+    }
+    Ok(())
+}
+
+fn check_line(rt: &impl Abort, alloc: Global, line: &str) -> Result<(), AllocError> {
+    if let Some((words, wanted)) = line.split_once(" -> ") {
+        let words = words_of(alloc, words)?;
+        let said = said_of(alloc, job_of(alloc, words.as_slice()))?;
+        assert_eq!(rt; said.as_str(), wanted, "{line}");
+    } else {
+        assert!(rt; false, "{line}");
+    }
+    Ok(())
+}
+
+fn words_of(alloc: Global, line: &str) -> Result<Vec<String>, AllocError> {
+    let mut words = Vec::new(alloc);
+    for word in line.split(' ') {
+        words.push(String::from_str(alloc, word)?)?;
+    }
+    Ok(words)
+}
+
+/// What words say, as the tables write it.
+fn said_of(alloc: Global, answer: Result<Job, JobFault>) -> Result<String, AllocError> {
+    match answer {
+        Ok(job) => said_of_job(alloc, &job),
+        Err(fault) => format!(in alloc; "{fault}"),
+    }
+}
+
+fn said_of_job(alloc: Global, job: &Job) -> Result<String, AllocError> {
+    match job {
+        Job::Encode {
+            out,
+            base,
+            jobs,
+            files,
+        } => {
+            let files = list(alloc, files)?;
+            format!(in alloc;
+                "encode {} base={} j{jobs}:{files}",
+                out.as_str(),
+                text_or_dash(base)
+            )
+        }
+        Job::Show {
+            format,
+            base,
+            names,
+            sizes,
+            holes,
+            line,
+            jobs,
+            files,
+        } => {
+            let format = match format {
+                Format::Dwarf => "dwarf",
+                Format::Btf => "btf",
+            };
+            let names = names_or_dash(alloc, names)?;
+            let sizes = if *sizes { " s" } else { "" };
+            let files = list(alloc, files)?;
+            format!(in alloc;
+                "show {format} base={} C={names}{sizes} H{holes} c{line} j{jobs}:{files}",
+                text_or_dash(base)
+            )
+        }
+        Job::Selfmade { number, jobs } => format!(in alloc; "selfmade {number} j{jobs}"),
+    }
+}
+
+fn text_or_dash(text: &Option<Text>) -> &str {
+    match text {
+        Some(text) => text.as_str(),
+        None => "-",
+    }
+}
+
+fn names_or_dash(alloc: Global, names: &Option<Texts>) -> Result<String, AllocError> {
+    let mut text = String::new(alloc);
+    match names {
+        Some(names) => {
+            for name in names.items() {
+                if !text.is_empty() {
+                    text.push_str(",")?;
+                }
+                text.push_str(name.as_str())?;
+            }
+        }
+        None => text.push_str("-")?,
+    }
+    Ok(text)
+}
+
+/// Each of some files between `<` and `>`, behind a space.
+fn list(alloc: Global, files: &Texts) -> Result<String, AllocError> {
+    let mut text = String::new(alloc);
+    for file in files.items() {
+        text.push_str(" <")?;
+        text.push_str(file.as_str())?;
+        text.push_str(">")?;
+    }
+    Ok(text)
+}
