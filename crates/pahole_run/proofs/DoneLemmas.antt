@@ -1,5 +1,5 @@
 -- A job from its steps.
-use Rattle.std.proofs.Common.{◌≡◌, ◌+◌, ◌≤◌, List, ℕ, Ok, Err, Result, ap, ◌∙◌, sym, length, subst, arith, refl, Option, None, Some, IfSome, OnOk}
+use Rattle.std.proofs.Common.{◌≡◌, ◌+◌, ◌≤◌, List, [], ℕ, Ok, Err, Result, ap, ◌∙◌, sym, length, subst, arith, refl, Option, None, Some, IfSome, OnOk, true, false, is_some}
 use Rattle.std.specs.Option.{option_map, option_or, ForSome}
 use Rattle.std.specs.Global.{Vec}
 use Rattle.dw_base.specs.declared.places.Limits.{Limits}
@@ -8,18 +8,22 @@ use Rattle.world_io.specs.Calls.{Rose, Stores, raised, under, IsLeft}
 use Rattle.world_io.specs.declared.files.HeldFile.{HeldFile}
 use Rattle.world_io.specs.declared.fault.OutFault.{OutFault}
 use Rattle.world_io.specs.declared.fault.OutFault.TheVariants.{Failed as OutFailed, Memory as OutMemory}
-use Rattle.pahole_run.specs.declared.job.Job.{Job}
+use Rattle.command_line.specs.declared.job.Job.TheVariants.{Encode}
+use Rattle.pahole_run.specs.Tasks.{Task, task_of}
 use Rattle.pahole_run.specs.declared.refusal.Refusal.{Refusal}
 use Rattle.pahole_run.specs.declared.refusal.Refusal.TheVariants.{Missing, Fault as Numbered}
+use Rattle.pahole_run.specs.declared.refusal.Fault.{Fault}
 use Rattle.pahole_run.specs.declared.refusal.Ended.{Ended}
 use Rattle.pahole_run.specs.declared.refusal.Ended.TheVariants.{Refused, Read, Store, Memory}
-use Rattle.pahole_run.specs.Layers.{of_store}
+use Rattle.pahole_run.specs.Layers.{of_store, of_whole}
 use Rattle.c_model.specs.declared.graph.CType.{CType}
-use Rattle.pahole_run.specs.Merged.{AreMerged, TheTable}
-use Rattle.pahole_run.specs.Btf.{btf_of, IsSpelled}
-use Rattle.pahole_run.specs.Refusals.{load_refusal, contents, nodes_of, first, file_checks, first_refusal, MergeTo}
-use Rattle.pahole_run.specs.Steps.{LoadsAll, OnlyLoads, CalledAtMost, Counted, EndsAt, IsLoadEnd, Cause, Tells, IsOwn, Kept, Unstored, Holds, StoresOut, IsStoreEnd, Makes, Done}
+use Rattle.split_base.specs.Merged.{IsMerged}
+use Rattle.pahole_run.specs.Files.{alone, order_in, graph_in}
+use Rattle.pahole_run.specs.Tables.{btf_of, AreSpelled, TheTable}
+use Rattle.pahole_run.specs.Refusals.{load_refusal, contents, nodes_unless, made_nodes, nodes_of, first, graph_checks, table_checks, early_checks, file_checks, first_refusal, MergeTo}
+use Rattle.pahole_run.specs.Steps.{LoadsAll, OnlyLoads, CalledAtMost, Counted, EndsAt, IsLoadEnd, Cause, Tells, IsOwn, Kept, Unstored, Holds, StoresOut, IsStoreEnd, Knows, Makes, output_of, Done}
 use Rattle.pahole_run.proofs.LoadLemmas.{called_within, called_once, part_told}
+use Rattle.pahole_run.proofs.NoTypes.{no_table, first_more}
 
 -- one store
 
@@ -151,33 +155,109 @@ cause_of_err V W before after (Read i) c = c
 cause_of_err V W before after Store c = c
 cause_of_err V W before after Memory c = c
 
--- a job whose files are not loaded
+-- where an early check refuses, a task has no nodes, and the table of none
+no_nodes :
+    (limits : Limits) (held : List HeldFile) (task : Task) (r : Refusal)
+    → first (early_checks limits held task) ≡ Some r → nodes_of limits held task ≡ []
+no_nodes limits held task r e =
+    ap (λ (o : Option Refusal). nodes_unless o (graph_in limits (contents held task.files))) e
+
+-- the checks of a task in order: those up to the graph come first
+early_first :
+    (limits : Limits) (held : List HeldFile) (task : Task) (types : List CType) (r : Refusal)
+    → first (early_checks limits held task) ≡ Some r → first_refusal limits held task types ≡ Some r
+early_first limits held task types r e = first_more (early_checks limits held task) (table_checks types) r e
+
+-- a load that is refused is the first refusal of a task that is done
+load_first :
+    (limits : Limits) (held : List HeldFile) (task : Task) (r : Refusal)
+    → task.later ≡ None → load_refusal limits held 0 0 task.files ≡ Some r
+    → first (early_checks limits held task) ≡ Some r
+load_first limits held task r now at =
+    ap (λ (o : Option Refusal). option_or o (option_or (load_refusal limits held 0 0 task.files) (first (graph_checks limits (contents held task.files))))) now
+    ∙ ap (λ (o : Option Refusal). option_or o (first (graph_checks limits (contents held task.files)))) at
+
+knows_none :
+    (V W : Type 0) (nodes : List CType) (one : Option Refusal) (P : V → Type 0) (e : Ended)
+    → ((r : Refusal) → one ≡ Some r → nodes ≡ []) → IsLoadEnd {V = V} (Err e) → Tells one P (Err e)
+    → Knows {V = W} (TheTable nodes) (Err e)
+knows_none V W nodes one P (Refused r) none l h = subst TheTable (sym (none r h)) no_table
+knows_none V W nodes one P (Read i) none l h = tt
+knows_none V W nodes one P Store none l h = absurd l
+knows_none V W nodes one P Memory none l h = tt
+
+-- a task whose files are not loaded
 pub done_unloaded :
-    (limits : Limits) (job : Job) (before after : Meaning) (e : Ended)
-    → LoadsAll limits job.files before after (Err e)
-    → Done limits job before after (Err e)
-done_unloaded limits job before after e l =
+    (limits : Limits) (task : Task) (before after : Meaning) (e : Ended)
+    → task.later ≡ None
+    → LoadsAll limits task.files before after (Err e)
+    → Done limits task before after (Err e)
+done_unloaded limits task before after e now l =
     let stored : after.stored ≡ before.stored = ap (λ (w : Meaning). w.stored) l.only.0 in
     record {
       rest = load_rest before after l.only;
       later = (l.only.1, omega (arith, ap (λ (w : Meaning). w.stores) l.only.0));
-      calls = called_within (length job.files) (length job.files + 1) before.calls after.calls (omega arith) l.calls;
+      calls = called_within (length task.files) (length task.files + 1) before.calls after.calls (omega arith) l.calls;
       exact = ends_again (Vec (List ℕ)) (Unit {0}) (λ (k : ℕ). Counted (k + 1) before.calls after.calls) e l.exact;
       cause = cause_of_err (Vec (List ℕ)) (Unit {0}) before after e l.cause;
       others = λ q ne. ap (under q) stored;
       unstored = unstored_same before after e stored;
       told =
           λ held is types m.
-          part_told (Vec (List ℕ)) (Unit {0}) (λ (v : Vec (List ℕ)). v.items ≡ contents held job.files)
-          (λ (u : Unit {0}). Holds job.out (btf_of types) after)
-          (load_refusal limits held 0 0 job.files) (first_refusal limits held job types) e
-          (λ (r : Refusal) (at : load_refusal limits held 0 0 job.files ≡ Some r).
-          ap (λ (q : Option Refusal). option_or q (first (file_checks limits (contents held job.files) types))) at)
+          part_told (Vec (List ℕ)) (Unit {0}) (λ (v : Vec (List ℕ)). v.items ≡ contents held task.files)
+          (λ (u : Unit {0}). Holds task.out (output_of held task types) after)
+          (load_refusal limits held 0 0 task.files) (first_refusal limits held task types) e
+          (λ (r : Refusal) (at : load_refusal limits held 0 0 task.files ≡ Some r).
+          early_first limits held task types r (load_first limits held task r now at))
           (l.told held is);
-      kept = λ held is types m. kept_load (Vec (List ℕ)) job.out (btf_of types) before after e l.loads stored;
-      table = tt;
-      spells = tt;
+      kept = λ held is types m. kept_load (Vec (List ℕ)) task.out (output_of held task types) before after e l.loads stored;
+      table =
+          λ held is.
+          knows_none (Vec (List ℕ)) (Unit {0}) (nodes_of limits held task) (load_refusal limits held 0 0 task.files)
+          (λ (v : Vec (List ℕ)). v.items ≡ contents held task.files) e
+          (λ (r : Refusal) (at : load_refusal limits held 0 0 task.files ≡ Some r).
+          no_nodes limits held task r (load_first limits held task r now at))
+          l.loads (l.told held is);
+      spelled = tt;
     }
+
+-- a job of a kind that is not done yet
+pub done_later :
+    (limits : Limits) (task : Task) (before : Meaning) (f : Fault)
+    → task.later ≡ Some (Numbered f)
+    → Done limits task before before (Err (Refused (Numbered f)))
+done_later limits task before f later =
+    let early : (held : List HeldFile) → first (early_checks limits held task) ≡ Some (Numbered f) =
+    λ held.
+    ap (λ (o : Option Refusal). option_or o (option_or (load_refusal limits held 0 0 task.files) (first (graph_checks limits (contents held task.files))))) later in
+    record {
+      rest = refl;
+      later = (omega arith, omega arith);
+      calls = λ c e. (c, e, omega arith);
+      exact = tt;
+      cause = (refl, refl);
+      others = λ q ne. refl;
+      unstored = refl;
+      told = λ held is types m. early_first limits held task types (Numbered f) (early held);
+      kept = λ held is types m. refl;
+      table = λ held is. subst TheTable (sym (no_nodes limits held task (Numbered f) (early held))) no_table;
+      spelled = tt;
+    }
+
+pub done_over_base :
+    (limits : Limits) (before : Meaning) (out : List ℕ) (base : Option (List ℕ)) (jobs : ℕ) (files : List (List ℕ))
+    → is_some base ≡ true → Done limits (task_of (Encode out base jobs files)) before before (Err (of_whole 200 2))
+done_over_base limits before out None jobs files h = absurd (cc)
+done_over_base limits before out (Some b) jobs files h =
+    done_later limits (task_of (Encode out (Some b) jobs files)) before _ refl
+
+pub done_without :
+    (limits : Limits) (before after : Meaning) (out : List ℕ) (base : Option (List ℕ)) (jobs : ℕ) (files : List (List ℕ))
+    (r : Result (Unit {0}) Ended)
+    → is_some base ≡ false → Done limits (record { later = None; out = out; files = files }) before after r
+    → Done limits (task_of (Encode out base jobs files)) before after r
+done_without limits before after out None jobs files r h d = d
+done_without limits before after out (Some b) jobs files r h d = absurd (cc)
 
 own_cause :
     (V W : Type 0) (before after : Meaning) (e : Ended)
@@ -189,47 +269,84 @@ own_cause V W before after (Read i) o l s = absurd o
 own_cause V W before after Store o l s = absurd o
 own_cause V W before after Memory o l s = (l, s)
 
--- after loading, the job's first refusal is that of the loaded files
+-- after loading, the first refusal is that of the loaded files
 after_load :
-    (limits : Limits) (held : List HeldFile) (job : Job) (files : List (List ℕ)) (types : List CType)
-    → load_refusal limits held 0 0 job.files ≡ None
-    → files ≡ contents held job.files
-    → first_refusal limits held job types ≡ first (file_checks limits files types)
-after_load limits held job files types none is =
-    ap (λ (q : Option Refusal). option_or q (first (file_checks limits (contents held job.files) types))) none
+    (limits : Limits) (held : List HeldFile) (task : Task) (files : List (List ℕ)) (types : List CType)
+    → task.later ≡ None
+    → load_refusal limits held 0 0 task.files ≡ None
+    → files ≡ contents held task.files
+    → first_refusal limits held task types ≡ first (file_checks limits files types)
+after_load limits held task files types now none is =
+    ap (λ (o : Option Refusal). option_or o (option_or (load_refusal limits held 0 0 task.files) (first (file_checks limits (contents held task.files) types)))) now
+    ∙ ap (λ (q : Option Refusal). option_or q (first (file_checks limits (contents held task.files) types))) none
     ∙ ap (λ (fs : List (List ℕ)). first (file_checks limits fs types)) (sym is)
 
--- a job whose table is not made
+-- and so are the nodes
+nodes_after :
+    (limits : Limits) (held : List HeldFile) (task : Task) (files : List (List ℕ))
+    → task.later ≡ None
+    → load_refusal limits held 0 0 task.files ≡ None
+    → files ≡ contents held task.files
+    → made_nodes limits files ≡ nodes_of limits held task
+nodes_after limits held task files now none is =
+    ap (made_nodes limits) is
+    ∙ sym
+    (ap (λ (o : Option Refusal). nodes_unless o (graph_in limits (contents held task.files)))
+    (ap (λ (o : Option Refusal). option_or o (option_or (load_refusal limits held 0 0 task.files) (first (graph_checks limits (contents held task.files))))) now
+    ∙ ap (λ (q : Option Refusal). option_or q (first (graph_checks limits (contents held task.files)))) none))
+
+-- a task's files are merged as the loaded ones are
+merge_again :
+    (limits : Limits) (held : List HeldFile) (task : Task) (files : List (List ℕ)) (types : List CType)
+    → made_nodes limits files ≡ nodes_of limits held task
+    → MergeTo limits held task types → IsMerged (alone (made_nodes limits files)) types
+merge_again limits held task files types same m = subst (λ (n : List CType). IsMerged (alone n) types) (sym same) m
+
+knows_again :
+    (V W P : Type 0) (e : Ended) → IsOwn {V = V} (Err e) → Knows {V = V} P (Err e) → Knows {V = W} P (Err e)
+knows_again V W P (Refused r) o h = h
+knows_again V W P (Read i) o h = tt
+knows_again V W P Store o h = absurd o
+knows_again V W P Memory o h = tt
+
+-- a task whose table is not made
 pub done_unmade :
-    (limits : Limits) (job : Job) (before now : Meaning) (files : Vec (List ℕ)) (e : Ended)
-    → LoadsAll limits job.files before now (Ok files)
+    (limits : Limits) (task : Task) (before now : Meaning) (files : Vec (List ℕ)) (e : Ended)
+    → task.later ≡ None
+    → LoadsAll limits task.files before now (Ok files)
     → Makes limits files.items (Err e)
-    → Done limits job before now (Err e)
-done_unmade limits job before now files e l m =
+    → Done limits task before now (Err e)
+done_unmade limits task before now files e done l m =
     let stored : now.stored ≡ before.stored = ap (λ (w : Meaning). w.stored) l.only.0 in
     record {
       rest = load_rest before now l.only;
       later = (l.only.1, omega (arith, l.cause.1));
-      calls = called_within (length job.files) (length job.files + 1) before.calls now.calls (omega arith) l.calls;
+      calls = called_within (length task.files) (length task.files + 1) before.calls now.calls (omega arith) l.calls;
       exact = ends_own (List ℕ) (Unit {0}) (λ (k : ℕ). Counted (k + 1) before.calls now.calls) e m.own;
       cause = own_cause (List ℕ) (Unit {0}) before now e m.own l.cause.0 l.cause.1;
       others = λ q ne. ap (under q) stored;
       unstored = unstored_same before now e stored;
       told =
           λ held is types of.
-          let loaded : (load_refusal limits held 0 0 job.files ≡ None) × (files.items ≡ contents held job.files) =
+          let loaded : (load_refusal limits held 0 0 task.files ≡ None) × (files.items ≡ contents held task.files) =
           l.told held is in
-          let merged : AreMerged (nodes_of files.items) types =
-          subst (λ (fs : List (List ℕ)). AreMerged (nodes_of fs) types) (sym loaded.1) of in
-          part_told (List ℕ) (Unit {0}) (λ (v : List ℕ). v ≡ btf_of types)
-          (λ (u : Unit {0}). Holds job.out (btf_of types) now)
-          (first (file_checks limits files.items types)) (first_refusal limits held job types) e
+          let merged : IsMerged (alone (made_nodes limits files.items)) types =
+          merge_again limits held task files.items types (nodes_after limits held task files.items done loaded.0 loaded.1) of in
+          part_told (List ℕ) (Unit {0}) (λ (v : List ℕ). v ≡ btf_of (order_in files.items) types)
+          (λ (u : Unit {0}). Holds task.out (output_of held task types) now)
+          (first (file_checks limits files.items types)) (first_refusal limits held task types) e
           (λ (r : Refusal) (at : first (file_checks limits files.items types) ≡ Some r).
-          after_load limits held job files.items types loaded.0 loaded.1 ∙ at)
+          after_load limits held task files.items types done loaded.0 loaded.1 ∙ at)
           (m.told types merged);
-      kept = λ held is types of. kept_own (List ℕ) job.out (btf_of types) before now e m.own stored;
-      table = tt;
-      spells = tt;
+      kept = λ held is types of. kept_own (List ℕ) task.out (output_of held task types) before now e m.own stored;
+      table =
+          λ held is.
+          let loaded : (load_refusal limits held 0 0 task.files ≡ None) × (files.items ≡ contents held task.files) =
+          l.told held is in
+          knows_again (List ℕ) (Unit {0}) (TheTable (nodes_of limits held task)) e m.own
+          (subst (λ (n : List CType). Knows {V = List ℕ} (TheTable n) (Err e))
+          (nodes_after limits held task files.items done loaded.0 loaded.1) m.table);
+      spelled = tt;
     }
 
 stored_calls :
@@ -276,16 +393,36 @@ on_ok : (P : Type 0) (r : Result (Unit {0}) Ended) → P → OnOk r P
 on_ok P (Ok u) p = p
 on_ok P (Err e) p = tt
 
--- a job whose table is made
+knows : (P : Type 0) (r : Result (Unit {0}) Ended) → P → Knows P r
+knows P (Ok u) p = p
+knows P (Err (Refused r)) p = p
+knows P (Err (Read i)) p = tt
+knows P (Err Store) p = p
+knows P (Err Memory) p = tt
+
+-- a task whose table is made
 pub done_stored :
-    (limits : Limits) (job : Job) (before now after : Meaning) (files : Vec (List ℕ)) (bytes : List ℕ)
+    (limits : Limits) (task : Task) (before now after : Meaning) (files : Vec (List ℕ)) (bytes : List ℕ)
     (r : Result (Unit {0}) Ended)
-    → LoadsAll limits job.files before now (Ok files)
+    → task.later ≡ None
+    → LoadsAll limits task.files before now (Ok files)
     → Makes limits files.items (Ok bytes)
-    → StoresOut job.out bytes now after r
-    → Done limits job before after r
-done_stored limits job before now after files bytes r l m s =
+    → StoresOut task.out bytes now after r
+    → Done limits task before after r
+done_stored limits task before now after files bytes r done l m s =
     let stored : now.stored ≡ before.stored = ap (λ (w : Meaning). w.stored) l.only.0 in
+    let made :
+    (held : List HeldFile) (types : List CType) → before.files ≡ Some held → MergeTo limits held task types
+    → (first_refusal limits held task types ≡ None) × (bytes ≡ output_of held task types) =
+    λ held types is of.
+    let loaded : (load_refusal limits held 0 0 task.files ≡ None) × (files.items ≡ contents held task.files) =
+    l.told held is in
+    let told : (first (file_checks limits files.items types) ≡ None) × (bytes ≡ btf_of (order_in files.items) types) =
+    m.told types
+    (merge_again limits held task files.items types (nodes_after limits held task files.items done loaded.0 loaded.1) of) in (
+      after_load limits held task files.items types done loaded.0 loaded.1 ∙ told.0,
+      told.1 ∙ ap (λ (fs : List (List ℕ)). btf_of (order_in fs) types) loaded.1,
+    ) in
     record {
       rest =
           subst
@@ -298,38 +435,38 @@ done_stored limits job before now after files bytes r l m s =
       later =
           (omega (arith, l.only.1, ap (λ (w : Meaning). w.loads) s.rest), omega (arith, s.later, l.cause.1));
       calls =
-          stored_calls (length job.files) (length job.files) before.calls now.calls after.calls (omega arith) l.calls s.calls;
+          stored_calls (length task.files) (length task.files) before.calls now.calls after.calls (omega arith) l.calls s.calls;
       exact = ends_store (λ (k : ℕ). Counted (k + 1) before.calls after.calls) r s.ends;
       cause = store_cause before now after r l.cause.0 l.cause.1 s.ends s.cause;
       others = λ q ne. s.others q ne ∙ ap (under q) stored;
-      unstored = unstored_from job.out bytes before now after r stored s.ends s.kept;
+      unstored = unstored_from task.out bytes before now after r stored s.ends s.kept;
       told =
           λ held is types of.
-          let loaded : (load_refusal limits held 0 0 job.files ≡ None) × (files.items ≡ contents held job.files) =
-          l.told held is in
-          let merged : AreMerged (nodes_of files.items) types =
-          subst (λ (fs : List (List ℕ)). AreMerged (nodes_of fs) types) (sym loaded.1) of in
-          let made : (first (file_checks limits files.items types) ≡ None) × (bytes ≡ btf_of types) = m.told types merged in
-          store_told (first_refusal limits held job types) (λ (u : Unit {0}). Holds job.out (btf_of types) after) r
-          (after_load limits held job files.items types loaded.0 loaded.1 ∙ made.0) s.ends
+          store_told (first_refusal limits held task types) (λ (u : Unit {0}). Holds task.out (output_of held task types) after) r
+          (made held types is of).0 s.ends
           (λ (ok : r ≡ Ok tt).
-          let kept : Kept job.out bytes now after (Ok tt) =
-          subst (λ (v : Result (Unit {0}) Ended). Kept job.out bytes now after v) ok s.kept in
-          subst (λ (b : List ℕ). Holds job.out b after) made.1 kept);
+          let kept : Kept task.out bytes now after (Ok tt) =
+          subst (λ (v : Result (Unit {0}) Ended). Kept task.out bytes now after v) ok s.kept in
+          subst (λ (b : List ℕ). Holds task.out b after) (made held types is of).1 kept);
       kept =
           λ held is types of.
-          let loaded : (load_refusal limits held 0 0 job.files ≡ None) × (files.items ≡ contents held job.files) =
-          l.told held is in
-          let merged : AreMerged (nodes_of files.items) types =
-          subst (λ (fs : List (List ℕ)). AreMerged (nodes_of fs) types) (sym loaded.1) of in
-          subst (λ (b : List ℕ). Kept job.out b before after r) (m.told types merged).1
-          (kept_from job.out bytes before now after r stored s.ends s.kept);
+          subst (λ (b : List ℕ). Kept task.out b before after r) (made held types is of).1
+          (kept_from task.out bytes before now after r stored s.ends s.kept);
       table =
-          on_ok (ForSome before.files (λ (held : List HeldFile). TheTable (nodes_of (contents held job.files)))) r
-          (λ held is. subst (λ (fs : List (List ℕ)). TheTable (nodes_of fs)) (l.told held is).1 m.table);
-      spells =
+          λ held is.
+          let loaded : (load_refusal limits held 0 0 task.files ≡ None) × (files.items ≡ contents held task.files) =
+          l.told held is in
+          knows (TheTable (nodes_of limits held task)) r
+          (subst TheTable (nodes_after limits held task files.items done loaded.0 loaded.1) m.table);
+      spelled =
           on_ok
-          (ForSome before.files (λ (held : List HeldFile). (types : List CType) → MergeTo held job types → IsSpelled types)) r
+          (ForSome before.files
+          (λ (held : List HeldFile).
+          (types : List CType) → MergeTo limits held task types → AreSpelled (order_in (contents held task.files)) types)) r
           (λ held is types of.
-          m.spells types (subst (λ (fs : List (List ℕ)). AreMerged (nodes_of fs) types) (sym (l.told held is).1) of));
+          let loaded : (load_refusal limits held 0 0 task.files ≡ None) × (files.items ≡ contents held task.files) =
+          l.told held is in
+          subst (λ (fs : List (List ℕ)). AreSpelled (order_in fs) types) loaded.1
+          (m.spelled types
+          (merge_again limits held task files.items types (nodes_after limits held task files.items done loaded.0 loaded.1) of)));
     }

@@ -1,11 +1,9 @@
-pub mod Pairs
-pub mod Faults
 pub mod SaidLemmas
 pub mod LoadLemmas
+pub mod TableLaws
+pub mod UnitLemmas
+pub mod NoTypes
+pub mod TableLemmas
 pub mod DoneLemmas
 pub mod RunLemmas
 pub mod PromiseLemmas
-pub mod Ints
-pub mod Classes
-pub mod IntClasses
-pub mod Naming

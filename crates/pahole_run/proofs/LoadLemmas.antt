@@ -4,6 +4,7 @@ use Rattle.std.specs.Option.{IsSomeAnd, ForSome, option_or}
 use Rattle.std.specs.Global.{Vec}
 use Rattle.std.proofs.lemmas.Bool.{le-ltb, lt-ltb}
 use Rattle.std.proofs.lemmas.List.{append-nil, drop_all}
+use Rattle.std.proofs.lemmas.List.Sums.{sum_by_push}
 use Rattle.dw_base.specs.declared.places.Section.TheVariants.{Image}
 use Rattle.std.specs.Option.{option_map}
 use Rattle.dw_base.specs.declared.places.Limits.{Limits}
@@ -18,7 +19,7 @@ use Rattle.pahole_run.specs.declared.refusal.Ended.{Ended}
 use Rattle.pahole_run.specs.declared.refusal.Ended.TheVariants.{Refused, Read, Store, Memory}
 use Rattle.pahole_run.specs.Layers.{of_load, numbered}
 use Rattle.pahole_run.specs.Refusals.{one_load, most_of, load_refusal, contents}
-use Rattle.pahole_run.specs.Steps.{LoadsOne, LoadsAll, OnlyLoads, CalledAtMost, Counted, EndsAt, IsLoadEnd, Cause, Tells}
+use Rattle.pahole_run.specs.Steps.{bytes_in, LoadsOne, LoadsAll, OnlyLoads, CalledAtMost, Counted, EndsAt, IsLoadEnd, Cause, Tells}
 
 only_of :
     (before after : Meaning)
@@ -175,6 +176,7 @@ pub record LoadedSoFar
   pub exact : Counted i before.calls now.calls
   pub used_up : used ≤ limits.all_bytes
   pub count : length v ≡ i
+  pub size : bytes_in v ≡ used
   pub told :
       ForSome before.files
       (λ (held : List HeldFile).
@@ -195,6 +197,7 @@ loaded_none limits names w =
       exact = none_counted w.calls;
       used_up = omega arith;
       count = refl;
+      size = refl;
       told = λ held e. (refl, refl);
     }
 
@@ -235,6 +238,7 @@ loaded_more limits names before now after used i v d bytes lt s l =
       exact = counted_more i before.calls now.calls after.calls s.calls s.exact l.calls l.exact;
       used_up = omega (arith, l.few, s.used_up);
       count = length-append v (bytes ∷ []) ∙ ap (λ (n : ℕ). n + 1) s.count;
+      size = sum_by_push (λ (b : List ℕ). length b) v bytes ∙ ap (λ (n : ℕ). n + length bytes) s.size;
       told =
           λ held e.
           let name : List ℕ = get_or names i d in
@@ -309,6 +313,7 @@ loaded_part limits names before now after used i v d e lt s l =
           cause_from (List ℕ) (Vec (List ℕ)) before now after e s.still (ap (λ (w : Meaning). w.stores) s.only.0)
           (ap (λ (w : Meaning). w.files) s.only.0) l.cause;
       count = tt;
+      size = tt;
       told =
           λ held told.
           let name : List ℕ = get_or names i d in
@@ -339,6 +344,7 @@ loaded_memory limits names before now used i v le s =
       loads = tt;
       cause = (s.still, ap (λ (w : Meaning). w.stores) s.only.0);
       count = tt;
+      size = tt;
       told = λ held e. tt;
     }
 
@@ -357,6 +363,7 @@ loaded_all limits names before now used i v is s =
       loads = tt;
       cause = (s.still, ap (λ (w : Meaning). w.stores) s.only.0);
       count = s.count ∙ is;
+      size = omega (arith, s.size, s.used_up);
       told =
           λ held e.
           let so_far : (v.items ++ contents held (drop i names) ≡ contents held names)

@@ -6,76 +6,107 @@ use Rattle.world_io.specs.Meaning.{Meaning}
 use Rattle.world_io.specs.Calls.{Rose, raised, under, IsLeft}
 use Rattle.world_io.specs.declared.fault.Failed.{Failed}
 use Rattle.world_io.specs.declared.files.HeldFile.{HeldFile}
-use Rattle.pahole_run.specs.declared.job.Job.{Job}
-use Rattle.pahole_run.specs.declared.job.UsageFault.{UsageFault}
+use Rattle.command_line.specs.declared.job.Job.{Job}
+use Rattle.command_line.specs.declared.job.UsageFault.{UsageFault}
 use Rattle.pahole_run.specs.declared.refusal.Fault.{Fault}
+use Rattle.pahole_run.specs.declared.refusal.Refusal.{Refusal}
 use Rattle.pahole_run.specs.declared.refusal.Refusal.TheVariants.{Missing, Fault as Numbered}
 use Rattle.pahole_run.specs.declared.refusal.Ended.{Ended}
 use Rattle.pahole_run.specs.declared.refusal.Ended.TheVariants.{Refused, Read, Store, Memory}
 use Rattle.pahole_run.specs.Line.{usage_line, fault_line, read_line, store_line, memory_line, line_of, status_of}
 use Rattle.c_model.specs.declared.graph.CType.{CType}
-use Rattle.pahole_run.specs.Merged.{TheTable}
-use Rattle.pahole_run.specs.Btf.{btf_of}
+use Rattle.pahole_run.specs.Tasks.{Task, task_of}
+use Rattle.pahole_run.specs.Tables.{TheTable}
 use Rattle.pahole_run.specs.Refusals.{first_refusal, contents, nodes_of, MergeTo}
 use Rattle.pahole_run.specs.Said.{Gained, Says}
-use Rattle.pahole_run.specs.Steps.{Done, Cause, CalledAtMost, Counted, Holds, Unstored}
+use Rattle.pahole_run.specs.Steps.{Done, Cause, CalledAtMost, Counted, Holds, Unstored, Knows, output_of}
 use Rattle.pahole_run.specs.Run.{Outcome, Ran, Runs, status_at, line_at}
 use Rattle.pahole_run.specs.Run.Outcome.{NoJob, NoMemory, Did}
-use Rattle.pahole_run.specs.Promises.{NoFault, Complained, Encodes, Succeeds, Refuses, IsFirstMissing, CannotRead, CannotStore, Fails, IsComplete, RefusesWords, Keeps}
+use Rattle.pahole_run.specs.Promises.{NoFault, Complained, Encodes, Succeeds, Refuses, IsFirst, IsFirstMissing, EachFirst, StoresPart, CannotRead, CannotStore, Fails, IsComplete, RefusesWords, Keeps}
 
 -- the job of the words is one
 of_job :
-    (words : Result Job UsageFault) (j job : Job) (held : List HeldFile) (types : List CType)
-    → words ≡ Ok j → words ≡ Ok job → MergeTo held job types → MergeTo held j types
-of_job words j job held types w v m =
-    let same : job ≡ j = cc in subst (λ (k : Job). MergeTo held k types) same m
+    (limits : Limits) (words : Result Job UsageFault) (j job : Job) (held : List HeldFile) (first : Option Refusal)
+    → words ≡ Ok j → words ≡ Ok job → EachFirst limits held (task_of job) first → EachFirst limits held (task_of j) first
+of_job limits words j job held first w v each =
+    let same : job ≡ j = cc in subst (λ (k : Job). EachFirst limits held (task_of k) first) same each
 
--- an end of a job is complete
+-- what a step that knows its table tells: the first refusal of that table
+first_of :
+    (limits : Limits) (before middle : Meaning) (task : Task) (held : List HeldFile) (r : Refusal) (first : Option Refusal)
+    → Done limits task before middle (Err (Refused r)) → before.files ≡ Some held → EachFirst limits held task first
+    → first ≡ Some r
+first_of limits before middle task held r first d files each =
+    let t : TheTable (nodes_of limits held task) = d.table held files in
+    sym (each t.types t.merged) ∙ d.told held files t.types t.merged
+
+done_first :
+    (limits : Limits) (before middle : Meaning) (task : Task) (held : List HeldFile) (first : Option Refusal)
+    → Done limits task before middle (Ok tt) → before.files ≡ Some held → EachFirst limits held task first
+    → first ≡ None
+done_first limits before middle task held first d files each =
+    let t : TheTable (nodes_of limits held task) = d.table held files in
+    sym (each t.types t.merged) ∙ (d.told held files t.types t.merged).0
+
+-- an end of a task is complete
 complete_end :
-    (limits : Limits) (words : Result Job UsageFault) (before middle : Meaning) (status : ℕ) (j job : Job) (held : List HeldFile) (types : List CType) (e : Ended)
-    → words ≡ Ok j → Done limits j before middle (Err e) → status ≡ status_of e
-    → words ≡ Ok job → before.files ≡ Some held → MergeTo held job types → NoFault before middle
-    → (first_refusal limits held job types ≡ None → (status ≡ 0) ⊎ (status ≡ 4))
-    × ((fault : Fault) → first_refusal limits held job types ≡ Some (Numbered fault) → (status ≡ 1) ⊎ (status ≡ 4))
-complete_end limits words before middle status j job held types (Refused (Missing i)) w d is v files m quiet =
-    let told : first_refusal limits held j types ≡ Some (Missing i) = d.told held files types (of_job words j job held types w v m) in (
-      λ (none : first_refusal limits held job types ≡ None). absurd (cc),
-      λ (fault : Fault) (some : first_refusal limits held job types ≡ Some (Numbered fault)). absurd (cc),
-    )
-complete_end limits words before middle status j job held types (Refused (Numbered f)) w d is v files m quiet =
-    let told : first_refusal limits held j types ≡ Some (Numbered f) = d.told held files types (of_job words j job held types w v m) in (
-      λ (none : first_refusal limits held job types ≡ None). absurd (cc),
-      λ (fault : Fault) (some : first_refusal limits held job types ≡ Some (Numbered fault)). inl is,
-    )
-complete_end limits words before middle status j job held types (Read i) w d is v files m quiet = absurd (omega (arith, d.cause.0, quiet.0))
-complete_end limits words before middle status j job held types Store w d is v files m quiet = absurd (omega (arith, d.cause.1, quiet.1))
-complete_end limits words before middle status j job held types Memory w d is v files m quiet =
-    (λ (none : first_refusal limits held job types ≡ None). inr is, λ (fault : Fault) (some : first_refusal limits held job types ≡ Some (Numbered fault)). inr is)
+    (limits : Limits) (before middle : Meaning) (status : ℕ) (task : Task) (held : List HeldFile) (e : Ended)
+    → Done limits task before middle (Err e) → status ≡ status_of e
+    → before.files ≡ Some held → NoFault before middle
+    → (EachFirst limits held task None → (status ≡ 0) ⊎ (status ≡ 4))
+    × ((fault : Fault) → EachFirst limits held task (Some (Numbered fault)) → (status ≡ 1) ⊎ (status ≡ 4))
+complete_end limits before middle status task held (Refused (Missing i)) d is files quiet = (
+  λ none. let no : None ≡ Some (Missing i) = first_of limits before middle task held (Missing i) None d files none in absurd (cc),
+  λ fault some.
+      let no : Some (Numbered fault) ≡ Some (Missing i) =
+      first_of limits before middle task held (Missing i) (Some (Numbered fault)) d files some in absurd (cc),
+)
+complete_end limits before middle status task held (Refused (Numbered f)) d is files quiet = (
+  λ none. let no : None ≡ Some (Numbered f) = first_of limits before middle task held (Numbered f) None d files none in absurd (cc),
+  λ fault some. inl is,
+)
+complete_end limits before middle status task held (Read i) d is files quiet = absurd (omega (arith, d.cause.0, quiet.0))
+complete_end limits before middle status task held Store d is files quiet = absurd (omega (arith, d.cause.1, quiet.1))
+complete_end limits before middle status task held Memory d is files quiet = (λ none. inr is, λ fault some. inr is)
+
+complete_did :
+    (limits : Limits) (before middle : Meaning) (status : ℕ) (task : Task) (held : List HeldFile)
+    (r : Result (Unit {0}) Ended) (j : Job)
+    → Done limits task before middle r → status ≡ status_at (Did j r)
+    → before.files ≡ Some held → NoFault before middle
+    → (EachFirst limits held task None → (status ≡ 0) ⊎ (status ≡ 4))
+    × ((fault : Fault) → EachFirst limits held task (Some (Numbered fault)) → (status ≡ 1) ⊎ (status ≡ 4))
+complete_did limits before middle status task held (Ok u) j d is files quiet = (
+  λ none. inl is,
+  λ fault some.
+      let no : Some (Numbered fault) ≡ None = done_first limits before middle task held (Some (Numbered fault)) d files some in absurd (cc),
+)
+complete_did limits before middle status task held (Err e) j d is files quiet =
+    complete_end limits before middle status task held e d is files quiet
 
 complete_at :
     (limits : Limits) (words : Result Job UsageFault) (before middle : Meaning) (status : ℕ) (o : Outcome)
     → Ran limits words before middle o → status ≡ status_at o → IsComplete limits words before middle status
-complete_at limits words before middle status (NoJob u) ran is job held types v files m quiet = absurd (cc (ran.0, v))
-complete_at limits words before middle status NoMemory ran is job held types v files m quiet =
-    (λ (none : first_refusal limits held job types ≡ None). inr is, λ (fault : Fault) (some : first_refusal limits held job types ≡ Some (Numbered fault)). inr is)
-complete_at limits words before middle status (Did j (Ok u)) ran is job held types v files m quiet =
-    let told : first_refusal limits held j types ≡ None = (ran.1.told held files types (of_job words j job held types ran.0 v m)).0 in
-    let same : words ≡ Ok j = ran.0 in (
-      λ (none : first_refusal limits held job types ≡ None). inl is,
-      λ (fault : Fault) (some : first_refusal limits held job types ≡ Some (Numbered fault)). absurd (cc),
+complete_at limits words before middle status (NoJob u) ran is job held v files quiet = absurd (cc (ran.0, v))
+complete_at limits words before middle status NoMemory ran is job held v files quiet = (λ none. inr is, λ fault some. inr is)
+complete_at limits words before middle status (Did j r) ran is job held v files quiet =
+    let did :
+    (EachFirst limits held (task_of j) None → (status ≡ 0) ⊎ (status ≡ 4))
+    × ((fault : Fault) → EachFirst limits held (task_of j) (Some (Numbered fault)) → (status ≡ 1) ⊎ (status ≡ 4)) =
+    complete_did limits before middle status (task_of j) held r j ran.1 is files quiet in (
+      λ none. did.0 (of_job limits words j job held None ran.0 v none),
+      λ fault some. did.1 fault (of_job limits words j job held (Some (Numbered fault)) ran.0 v some),
     )
-complete_at limits words before middle status (Did j (Err e)) ran is job held types v files m quiet =
-    complete_end limits words before middle status j job held types e ran.0 ran.1 is v files m quiet
 
 pub complete_of :
     (limits : Limits) (words : Result Job UsageFault) (before after : Meaning) (status : ℕ)
     → Runs limits words before after status → IsComplete limits words before after status
-complete_of limits words before after status r job held types v files m quiet =
+complete_of limits words before after status r job held v files quiet =
     let loads : after.loads ≡ r.middle.loads = ap (λ (w : Meaning). w.loads) r.said.only.0 in
     let stores : after.stores ≡ r.middle.stores = ap (λ (w : Meaning). w.stores) r.said.only.0 in
     let quiet_then : NoFault before r.middle =
     (subst (λ (n : ℕ). n < raised before.loads) loads quiet.0, subst (λ (n : ℕ). n < raised before.stores) stores quiet.1) in
-    complete_at limits words before r.middle status r.outcome r.ran r.is job held types v files m quiet_then
+    complete_at limits words before r.middle status r.outcome r.ran r.is job held v files quiet_then
 
 on_ok : (P : Type 0) (r : Result (Unit {0}) Failed) → IsOk r → OnOk r P → P
 on_ok P (Ok x) h p = p
@@ -109,17 +140,17 @@ not_zero Memory h = omega arith
 
 -- what is done, of told files
 encodes_of :
-    (limits : Limits) (before middle : Meaning) (j : Job)
-    → Done limits j before middle (Ok tt)
-    → ForSome before.files (λ (held : List HeldFile). Encodes limits held j middle)
-encodes_of limits before middle j d held files =
-    let t : TheTable (nodes_of (contents held j.files)) = d.table held files in
-    let told : (first_refusal limits held j t.types ≡ None) × Holds j.out (btf_of t.types) middle =
-    d.told held files t.types (t.index, t.partition, t.is) in record {
+    (limits : Limits) (before middle : Meaning) (task : Task)
+    → Done limits task before middle (Ok tt)
+    → ForSome before.files (λ (held : List HeldFile). Encodes limits held task middle)
+encodes_of limits before middle task d held files =
+    let t : TheTable (nodes_of limits held task) = d.table held files in
+    let told : (first_refusal limits held task t.types ≡ None) × Holds task.out (output_of held task t.types) middle =
+    d.told held files t.types t.merged in record {
       table = t;
       accepted = told.0;
       stored = told.1;
-      spells = d.spells held files t.types (t.index, t.partition, t.is);
+      spelled = d.spelled held files t.types t.merged;
     }
 
 succeeds_at :
@@ -127,7 +158,7 @@ succeeds_at :
     → Ran limits words before middle o → status ≡ status_at o → status ≡ 0 → Succeeds limits words before middle
 succeeds_at limits words before middle status (NoJob u) ran is zero = absurd (omega arith)
 succeeds_at limits words before middle status NoMemory ran is zero = absurd (omega arith)
-succeeds_at limits words before middle status (Did j (Ok u)) ran is zero = (j, ran.0, encodes_of limits before middle j ran.1, ran.1.others)
+succeeds_at limits words before middle status (Did j (Ok u)) ran is zero = (j, ran.0, encodes_of limits before middle (task_of j) ran.1, ran.1.others)
 succeeds_at limits words before middle status (Did j (Err e)) ran is zero = absurd (not_zero e (sym is ∙ zero))
 
 pub succeeds_of :
@@ -140,31 +171,43 @@ succeeds_of limits words before after status r zero =
       at_middle.0,
       at_middle.1,
       λ held files.
-          let now : Encodes limits held at_middle.0 r.middle = at_middle.2 held files in record {
+          let task : Task = task_of at_middle.0 in
+          let now : Encodes limits held task r.middle = at_middle.2 held files in record {
             table = now.table;
             accepted = now.accepted;
-            spells = now.spells;
+            spelled = now.spelled;
             stored =
                 subst
                 (λ (o : Option (List HeldFile)).
-                IfSome (under at_middle.0.out o) (λ (v : Option (List ℕ)). v ≡ Some (btf_of now.table.types)))
+                IfSome (under task.out o) (λ (v : Option (List ℕ)). v ≡ Some (output_of held task now.table.types)))
                 stored now.stored;
           },
       λ q ne. ap (under q) (sym stored) ∙ at_middle.3 q ne,
     )
 
+-- a refusal is the first of the table that a step knows
+is_first :
+    (limits : Limits) (before middle : Meaning) (task : Task) (held : List HeldFile) (r : Refusal)
+    → Done limits task before middle (Err (Refused r)) → before.files ≡ Some held → IsFirst limits held task r
+is_first limits before middle task held r d files =
+    let t : TheTable (nodes_of limits held task) = d.table held files in record {
+      types = t.types;
+      merged = t.merged;
+      first = d.told held files t.types t.merged;
+    }
+
 refuses_end :
     (limits : Limits) (words : Result Job UsageFault) (before middle after : Meaning) (status : ℕ) (j : Job) (e : Ended)
     (heard : Result (Unit {0}) Failed)
-    → words ≡ Ok j → Done limits j before middle (Err e) → Says middle after (line_of j e) heard
+    → words ≡ Ok j → Done limits (task_of j) before middle (Err e) → Says middle after (line_of (task_of j) e) heard
     → status ≡ status_of e → status ≡ 1 → Refuses limits words before after
 refuses_end limits words before middle after status j (Refused (Missing i)) heard w d s is one = absurd (omega arith)
 refuses_end limits words before middle after status j (Refused (Numbered f)) heard w d s is one = (
   j,
   f,
   w,
-  d.told,
-  complained_of (fault_line j.files f) before middle after heard (ap (λ (m : Meaning). m.complained) d.rest)
+  λ held files. is_first limits before middle (task_of j) held (Numbered f) d files,
+  complained_of (fault_line (task_of j).files f) before middle after heard (ap (λ (m : Meaning). m.complained) d.rest)
       (ap (λ (m : Meaning). m.complaints) d.rest) s,
 )
 refuses_end limits words before middle after status j (Read i) heard w d s is one = absurd (omega arith)
@@ -251,7 +294,7 @@ stored_at before middle status j (Err Memory) c is nz ne = c
 
 memory_end :
     (before middle after : Meaning) (status : ℕ) (limits : Limits) (j : Job) (e : Ended) (heard : Result (Unit {0}) Failed)
-    → Done limits j before middle (Err e) → Says middle after (line_of j e) heard → status ≡ status_of e → status ≡ 4
+    → Done limits (task_of j) before middle (Err e) → Says middle after (line_of (task_of j) e) heard → status ≡ status_of e → status ≡ 4
     → Complained memory_line before after
 memory_end before middle after status limits j (Refused (Missing i)) heard d s is four = absurd (omega arith)
 memory_end before middle after status limits j (Refused (Numbered f)) heard d s is four = absurd (omega arith)
@@ -287,7 +330,7 @@ uncomplained limits words before middle (Did j r) ran =
 
 -- what a failed load leaves, and why it failed
 read_end :
-    (limits : Limits) (before middle after : Meaning) (j : Job) (e : Ended) (i : ℕ) (heard : Result (Unit {0}) Failed)
+    (limits : Limits) (before middle after : Meaning) (j : Task) (e : Ended) (i : ℕ) (heard : Result (Unit {0}) Failed)
     → Done limits j before middle (Err e) → Says middle after (read_line j.files i) heard
     → Rose before.loads middle.loads ⊎ IsFirstMissing limits j i before → middle.stored ≡ before.stored
     → Counted (i + 1) before.calls middle.calls → CannotRead limits j before after
@@ -305,7 +348,7 @@ read_end limits before middle after j e i heard d s cause stored counted =
 
 -- what a failed store leaves
 store_end :
-    (limits : Limits) (before middle after : Meaning) (j : Job) (heard : Result (Unit {0}) Failed)
+    (limits : Limits) (before middle after : Meaning) (j : Task) (heard : Result (Unit {0}) Failed)
     → Done limits j before middle (Err Store) → Says middle after (store_line j.out) heard → CannotStore limits j before after
 store_end limits before middle after j heard d s =
     let stored : middle.stored ≡ after.stored = sym (ap (λ (m : Meaning). m.stored) s.only.0) in
@@ -316,29 +359,35 @@ store_end limits before middle after j heard d s =
           (ap (λ (m : Meaning). m.complaints) d.rest) s;
       others = λ q ne. ap (under q) (sym stored) ∙ d.others q ne;
       part =
-          λ held files types m.
-          subst
-          (λ (o : Option (List HeldFile)).
-          IfSome (under j.out before.stored)
-          (λ (old : Option (List ℕ)).
-          IfSome (under j.out o) (λ (now : Option (List ℕ)). IsLeft (btf_of types) old now)))
-          stored (d.kept held files types m);
+          λ held files.
+          let t : TheTable (nodes_of limits held j) = d.table held files in record {
+            types = t.types;
+            merged = t.merged;
+            part =
+                subst
+                (λ (o : Option (List HeldFile)).
+                IfSome (under j.out before.stored)
+                (λ (old : Option (List ℕ)).
+                IfSome (under j.out o) (λ (now : Option (List ℕ)). IsLeft (output_of held j t.types) old now)))
+                stored (d.kept held files t.types t.merged);
+          };
     }
 
 fails_end :
     (limits : Limits) (words : Result Job UsageFault) (before middle after : Meaning) (status : ℕ) (j : Job) (e : Ended)
     (heard : Result (Unit {0}) Failed)
-    → words ≡ Ok j → Done limits j before middle (Err e) → Says middle after (line_of j e) heard
+    → words ≡ Ok j → Done limits (task_of j) before middle (Err e) → Says middle after (line_of (task_of j) e) heard
     → status ≡ status_of e → status ≡ 3 → Fails limits words before after
 fails_end limits words before middle after status j (Refused (Missing i)) heard w d s is three =
     let told : (x : List HeldFile) × (before.files ≡ Some x) = some_is before.files d.cause.2 in
-    let missing : IsFirstMissing limits j i before = (told.0, told.1, λ types m. d.told told.0 told.1 types m) in
-    (j, w, inl (read_end limits before middle after j (Refused (Missing i)) i heard d s (inr missing) d.unstored d.exact))
+    let missing : IsFirstMissing limits (task_of j) i before =
+    (told.0, told.1, is_first limits before middle (task_of j) told.0 (Missing i) d told.1) in
+    (j, w, inl (read_end limits before middle after (task_of j) (Refused (Missing i)) i heard d s (inr missing) d.unstored d.exact))
 fails_end limits words before middle after status j (Refused (Numbered f)) heard w d s is three = absurd (omega arith)
 fails_end limits words before middle after status j (Read i) heard w d s is three =
-    (j, w, inl (read_end limits before middle after j (Read i) i heard d s (inl d.cause.0) d.unstored d.exact))
+    (j, w, inl (read_end limits before middle after (task_of j) (Read i) i heard d s (inl d.cause.0) d.unstored d.exact))
 fails_end limits words before middle after status j Store heard w d s is three =
-    (j, w, inr (store_end limits before middle after j heard d s))
+    (j, w, inr (store_end limits before middle after (task_of j) heard d s))
 fails_end limits words before middle after status j Memory heard w d s is three = absurd (omega arith)
 
 fails_at :
@@ -377,7 +426,7 @@ record KeepsSoFar (words : Result Job UsageFault) (before after : Meaning) (stat
   prints : after.prints ≡ before.prints
   counts : status ≢ 3 → (after.loads ≡ before.loads) × (after.stores ≡ before.stores)
   stored : status ≢ 0 → status ≢ 3 → after.stored ≡ before.stored
-  calls : (job : Job) → words ≡ Ok job → CalledAtMost (length job.files + 1) before.calls after.calls
+  calls : (job : Job) → words ≡ Ok job → CalledAtMost (length (task_of job).files + 1) before.calls after.calls
   no_calls : (u : UsageFault) → words ≡ Err u → after.calls ≡ before.calls
 
 keeps_at :
@@ -410,7 +459,7 @@ keeps_at limits words before middle status (Did j r) ran is =
       calls =
           λ job v.
           let same : j ≡ job = cc (ran.0, v) in
-          subst (λ (k : Job). CalledAtMost (length k.files + 1) before.calls middle.calls) same ran.1.calls;
+          subst (λ (k : Job). CalledAtMost (length (task_of k).files + 1) before.calls middle.calls) same ran.1.calls;
       no_calls = λ v e. absurd (cc (ran.0, e));
     }
 
@@ -428,7 +477,7 @@ keeps_of limits words before after status r =
       stored = λ nz ne. ap (λ (m : Meaning). m.stored) from ∙ k.stored nz ne;
       calls =
           λ job v.
-          subst (λ (o : Option ℕ). CalledAtMost (length job.files + 1) before.calls o)
+          subst (λ (o : Option ℕ). CalledAtMost (length (task_of job).files + 1) before.calls o)
           (sym (ap (λ (m : Meaning). m.calls) from)) (k.calls job v);
       no_calls = λ v e. ap (λ (m : Meaning). m.calls) from ∙ k.no_calls v e;
       silent =

@@ -2,11 +2,11 @@
 use Rattle.std.proofs.Common.{◌≡◌, [], Ok, Err, Result, refl, arith}
 use Rattle.dw_base.specs.declared.places.Limits.{Limits}
 use Rattle.world_io.specs.Meaning.{Meaning}
-use Rattle.pahole_run.specs.declared.job.Job.{Job}
-use Rattle.pahole_run.specs.declared.job.UsageFault.{UsageFault}
-use Rattle.pahole_run.specs.declared.job.JobFault.{JobFault}
-use Rattle.pahole_run.specs.declared.job.JobFault.TheVariants.{Usage, Memory}
-use Rattle.pahole_run.specs.Words.{Scans}
+use Rattle.command_line.specs.declared.job.Job.{Job}
+use Rattle.command_line.specs.declared.job.UsageFault.{UsageFault}
+use Rattle.command_line.specs.declared.job.JobFault.{JobFault}
+use Rattle.command_line.specs.declared.job.JobFault.TheVariants.{Usage, Memory}
+use Rattle.command_line.specs.Words.{Gives}
 use Rattle.pahole_run.specs.Said.{Says}
 use Rattle.pahole_run.specs.declared.refusal.Refusal.TheVariants.{Missing, Fault as Numbered}
 use Rattle.pahole_run.specs.declared.refusal.Ended.{Ended}
@@ -22,7 +22,7 @@ says_nothing w = said_all w w [] (said_none w [])
 -- words without a job
 pub ran_unworded :
     (limits : Limits) (words : Result Job UsageFault) (before : Meaning) (fault : JobFault)
-    → Scans {A = Job} words (Err fault)
+    → Gives {A = Job} (Err fault) words
     → Ran limits words before before (outcome_of fault)
 ran_unworded limits words before (Usage u) h = (h, refl)
 ran_unworded limits words before Memory h = refl

@@ -3,8 +3,8 @@ use Rattle.std.specs.Prelude.{ℕ, List, [], ◌∷◌, ◌++◌, codes, decimal
 use Rattle.std.specs.Fmt.{signed_decimal}
 use Rattle.dw_base.specs.declared.places.Section.{Section}
 use Rattle.dw_base.specs.declared.places.Section.TheVariants.{Image, Info, Abbrev, Btf}
-use Rattle.pahole_run.specs.declared.job.UsageFault.{UsageFault}
-use Rattle.pahole_run.specs.declared.job.Job.{Job}
+use Rattle.command_line.specs.declared.job.UsageFault.{UsageFault}
+use Rattle.pahole_run.specs.Tasks.{Task}
 use Rattle.pahole_run.specs.declared.refusal.Value.{Value}
 use Rattle.pahole_run.specs.declared.refusal.Value.TheVariants.{Plain, Wide, Signed}
 use Rattle.pahole_run.specs.declared.refusal.Fault.{Fault}
@@ -86,11 +86,11 @@ store_line out = joined (codes "pahole: cannot store " ∷ out ∷ codes "\n" �
 abbrev pub memory_line : List ℕ
 memory_line = codes "pahole: out of memory\n"
 
-abbrev pub line_of : Job → Ended → List ℕ
-line_of job (Refused r) = refusal_line job.files r
-line_of job (Read i) = read_line job.files i
-line_of job Store = store_line job.out
-line_of job Memory = memory_line
+abbrev pub line_of : Task → Ended → List ℕ
+line_of task (Refused r) = refusal_line task.files r
+line_of task (Read i) = read_line task.files i
+line_of task Store = store_line task.out
+line_of task Memory = memory_line
 
 abbrev pub status_of : Ended → ℕ
 status_of (Refused (Missing i)) = 3

@@ -1,22 +1,24 @@
 -- What a run promises, status by status.
-use Rattle.std.specs.Prelude.{ℕ, ◌≡◌, ◌≢◌, ◌+◌, ◌<◌, ◌≤◌, ◌⊎◌, List, length, None, Some, Result, Ok, Err}
+use Rattle.std.specs.Prelude.{ℕ, ◌≡◌, ◌≢◌, ◌+◌, ◌<◌, ◌≤◌, ◌⊎◌, List, length, Option, None, Some, Result, Ok, Err}
 use Rattle.std.specs.Option.{ForSome}
 use Rattle.std.specs.Io.{StartsWith}
 use Rattle.dw_base.specs.declared.places.Limits.{Limits}
 use Rattle.world_io.specs.Meaning.{Meaning}
 use Rattle.world_io.specs.Calls.{Rose, raised, under}
 use Rattle.world_io.specs.declared.files.HeldFile.{HeldFile}
-use Rattle.pahole_run.specs.declared.job.Job.{Job}
-use Rattle.pahole_run.specs.declared.job.UsageFault.{UsageFault}
+use Rattle.command_line.specs.declared.job.Job.{Job}
+use Rattle.command_line.specs.declared.job.UsageFault.{UsageFault}
 use Rattle.pahole_run.specs.declared.refusal.Fault.{Fault}
+use Rattle.pahole_run.specs.declared.refusal.Refusal.{Refusal}
 use Rattle.pahole_run.specs.declared.refusal.Refusal.TheVariants.{Missing, Fault as Numbered}
 use Rattle.pahole_run.specs.Line.{usage_line, fault_line, read_line, store_line, memory_line}
 use Rattle.c_model.specs.declared.graph.CType.{CType}
-use Rattle.pahole_run.specs.Merged.{TheTable}
-use Rattle.pahole_run.specs.Btf.{btf_of, IsSpelled}
+use Rattle.pahole_run.specs.Tasks.{Task, task_of}
+use Rattle.pahole_run.specs.Files.{order_in}
+use Rattle.pahole_run.specs.Tables.{AreSpelled, TheTable}
 use Rattle.pahole_run.specs.Refusals.{first_refusal, contents, nodes_of, MergeTo}
 use Rattle.pahole_run.specs.Said.{Gained}
-use Rattle.pahole_run.specs.Steps.{CalledAtMost, Counted, Holds, Begins}
+use Rattle.pahole_run.specs.Steps.{CalledAtMost, Counted, Holds, Begins, output_of}
 
 -- no load and no store failed
 abbrev pub NoFault : Meaning → Meaning → Type 0
@@ -27,67 +29,78 @@ pub record Complained (line : List ℕ) (before after : Meaning) : Type 0 where
   pub part : (part : List ℕ) × StartsWith line part × Gained before after part
   pub whole : after.complaints < raised before.complaints → Gained before after line
 
--- the told files are accepted, and what is stored is the table of the coarsest agreeing partition of their types
-pub record Encodes (limits : Limits) (held : List HeldFile) (job : Job) (after : Meaning) : Type 0 where
-  pub table : TheTable (nodes_of (contents held job.files))
-  pub accepted : first_refusal limits held job table.types ≡ None
-  pub stored : Holds job.out (btf_of table.types) after
-  pub spells : IsSpelled table.types
+-- the told files of a task are accepted, and what is stored is the table that their types are merged to, and no other
+pub record Encodes (limits : Limits) (held : List HeldFile) (task : Task) (after : Meaning) : Type 0 where
+  pub table : TheTable (nodes_of limits held task)
+  pub accepted : first_refusal limits held task table.types ≡ None
+  pub stored : Holds task.out (output_of held task table.types) after
+  pub spelled : AreSpelled (order_in (contents held task.files)) table.types
 
 -- 0: the job is done, and nothing else is stored
 abbrev pub Succeeds : Limits → Result Job UsageFault → Meaning → Meaning → Type 0
 Succeeds limits words before after =
     (job : Job) × (words ≡ Ok job)
-    × ForSome before.files (λ (held : List HeldFile). Encodes limits held job after)
-    × ((q : List ℕ) → q ≢ job.out → under q after.stored ≡ under q before.stored)
+    × ForSome before.files (λ (held : List HeldFile). Encodes limits held (task_of job) after)
+    × ((q : List ℕ) → q ≢ (task_of job).out → under q after.stored ≡ under q before.stored)
 
--- the first refusal of the told files is that a file of the job is not there
-abbrev pub IsFirstMissing : Limits → Job → ℕ → Meaning → Type 0
-IsFirstMissing limits job file before =
-    (held : List HeldFile) × (before.files ≡ Some held)
-    × ((types : List CType) → MergeTo held job types → first_refusal limits held job types ≡ Some (Missing file))
+-- the first refusal of the told files of a task: their types are merged to a table, and this is the first check of
+-- it and all before it that fails
+pub record IsFirst (limits : Limits) (held : List HeldFile) (task : Task) (refusal : Refusal) : Type 0 where
+  pub types : List CType
+  pub merged : MergeTo limits held task types
+  pub first : first_refusal limits held task types ≡ Some refusal
+
+-- the first refusal of the told files is that a file of the task is not there
+abbrev pub IsFirstMissing : Limits → Task → ℕ → Meaning → Type 0
+IsFirstMissing limits task file before =
+    (held : List HeldFile) × (before.files ≡ Some held) × IsFirst limits held task (Missing file)
 
 -- a file cannot be read: a load failed, or the told files do not have it; nothing is stored, and this file's load
 -- was the last call
-pub record CannotRead (limits : Limits) (job : Job) (before after : Meaning) : Type 0 where
+pub record CannotRead (limits : Limits) (task : Task) (before after : Meaning) : Type 0 where
   pub file : ℕ
-  pub cause : Rose before.loads after.loads ⊎ IsFirstMissing limits job file before
-  pub complained : Complained (read_line job.files file) before after
+  pub cause : Rose before.loads after.loads ⊎ IsFirstMissing limits task file before
+  pub complained : Complained (read_line task.files file) before after
   pub stored : after.stored ≡ before.stored
   pub calls : Counted (file + 1) before.calls after.calls
 
--- the output cannot be stored: the store failed, and of the bytes of the table a beginning is stored, if any; and
--- nothing else is
-pub record CannotStore (limits : Limits) (job : Job) (before after : Meaning) : Type 0 where
+-- a table is made of the told files of a task, and of its bytes a beginning is stored, if any
+pub record StoresPart (limits : Limits) (held : List HeldFile) (task : Task) (before after : Meaning) : Type 0 where
+  pub types : List CType
+  pub merged : MergeTo limits held task types
+  pub part : Begins task.out (output_of held task types) before after
+
+-- the output cannot be stored: the store failed, and nothing but a beginning of the bytes is stored
+pub record CannotStore (limits : Limits) (task : Task) (before after : Meaning) : Type 0 where
   pub cause : Rose before.stores after.stores
-  pub complained : Complained (store_line job.out) before after
-  pub others : (q : List ℕ) → q ≢ job.out → under q after.stored ≡ under q before.stored
-  pub part :
-      ForSome before.files
-      (λ (held : List HeldFile).
-      (types : List CType) → MergeTo held job types → Begins job.out (btf_of types) before after)
+  pub complained : Complained (store_line task.out) before after
+  pub others : (q : List ℕ) → q ≢ task.out → under q after.stored ≡ under q before.stored
+  pub part : ForSome before.files (λ (held : List HeldFile). StoresPart limits held task before after)
 
 -- 3: a file cannot be read, or the output cannot be stored
 abbrev pub Fails : Limits → Result Job UsageFault → Meaning → Meaning → Type 0
 Fails limits words before after =
-    (job : Job) × (words ≡ Ok job) × (CannotRead limits job before after ⊎ CannotStore limits job before after)
+    (job : Job) × (words ≡ Ok job)
+    × (CannotRead limits (task_of job) before after ⊎ CannotStore limits (task_of job) before after)
 
 -- 1: the first refusal has a number, and its line is complained
 abbrev pub Refuses : Limits → Result Job UsageFault → Meaning → Meaning → Type 0
 Refuses limits words before after =
     (job : Job) × (fault : Fault) × (words ≡ Ok job)
-    × ForSome before.files
-    (λ (held : List HeldFile).
-    (types : List CType) → MergeTo held job types → first_refusal limits held job types ≡ Some (Numbered fault))
-    × Complained (fault_line job.files fault) before after
+    × ForSome before.files (λ (held : List HeldFile). IsFirst limits held (task_of job) (Numbered fault))
+    × Complained (fault_line (task_of job).files fault) before after
+
+-- whatever table the told files of a task are merged to, this is its first refusal, or there is none
+abbrev pub EachFirst : Limits → List HeldFile → Task → Option Refusal → Type 0
+EachFirst limits held task refusal =
+    (types : List CType) → MergeTo limits held task types → first_refusal limits held task types ≡ refusal
 
 -- the job's end where nothing fails: by its first refusal, or want of memory
 abbrev pub IsComplete : Limits → Result Job UsageFault → Meaning → Meaning → ℕ → Type 0
 IsComplete limits words before after status =
-    (job : Job) (held : List HeldFile) (types : List CType)
-    → words ≡ Ok job → before.files ≡ Some held → MergeTo held job types → NoFault before after
-    → (first_refusal limits held job types ≡ None → (status ≡ 0) ⊎ (status ≡ 4))
-    × ((fault : Fault) → first_refusal limits held job types ≡ Some (Numbered fault) → (status ≡ 1) ⊎ (status ≡ 4))
+    (job : Job) (held : List HeldFile) → words ≡ Ok job → before.files ≡ Some held → NoFault before after
+    → (EachFirst limits held (task_of job) None → (status ≡ 0) ⊎ (status ≡ 4))
+    × ((fault : Fault) → EachFirst limits held (task_of job) (Some (Numbered fault)) → (status ≡ 1) ⊎ (status ≡ 4))
 
 -- 2: the words give no job, and the line says why; where they give none, it is 2 or want of memory
 pub record RefusesWords (words : Result Job UsageFault) (before after : Meaning) (status : ℕ) : Type 0 where
@@ -103,7 +116,7 @@ pub record Keeps (words : Result Job UsageFault) (before after : Meaning) (statu
   pub prints : after.prints ≡ before.prints
   pub counts : status ≢ 3 → (after.loads ≡ before.loads) × (after.stores ≡ before.stores)
   pub stored : status ≢ 0 → status ≢ 3 → after.stored ≡ before.stored
-  pub calls : (job : Job) → words ≡ Ok job → CalledAtMost (length job.files + 1) before.calls after.calls
+  pub calls : (job : Job) → words ≡ Ok job → CalledAtMost (length (task_of job).files + 1) before.calls after.calls
   pub no_calls : (u : UsageFault) → words ≡ Err u → after.calls ≡ before.calls
   pub silent : status ≡ 0 → (after.complained ≡ before.complained) × (after.complaints ≡ before.complaints)
   pub memory : status ≡ 4 → Complained memory_line before after

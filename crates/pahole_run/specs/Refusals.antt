@@ -1,20 +1,21 @@
--- The first refusal of the files of a job.
-use Rattle.std.specs.Prelude.{ℕ, ◌+◌, ◌-◌, List, [], ◌∷◌, length, map, min, nat_lt, if◌then◌else◌, Option, None, Some, unwrap_or}
-use Rattle.std.specs.List.{flat_map}
+-- The first refusal of a job: one list of checks, in the order of the steps.
+use Rattle.std.specs.Prelude.{ℕ, ◌+◌, ◌-◌, List, [], ◌∷◌, ◌++◌, length, map, min, nat_lt, if◌then◌else◌, Option, None, Some, Result, unwrap_or}
 use Rattle.std.specs.Option.{option_or}
 use Rattle.std.specs.Result.{result_err, result_unwrap_or}
 use Rattle.dw_base.specs.declared.places.Limits.{Limits}
 use Rattle.dw_base.specs.declared.places.Section.TheVariants.{Image}
+use Rattle.elf_sections.specs.Checks.{refusal_of}
 use Rattle.world_io.specs.Meaning.{file_of}
 use Rattle.world_io.specs.declared.files.HeldFile.{HeldFile}
 use Rattle.c_model.specs.declared.graph.CType.{CType}
-use Rattle.pahole_run.specs.Plain.{types_of_file}
-use Rattle.pahole_run.specs.Merged.{AreMerged}
-use Rattle.pahole_run.specs.Btf.{nodes_refusal, types_refusal, names_refusal, length_refusal}
-use Rattle.pahole_run.specs.declared.job.Job.{Job}
+use Rattle.split_base.specs.Refusals.{types_refusal, names_refusal, length_refusal}
+use Rattle.split_base.specs.Merged.{IsMerged}
+use Rattle.unit_encoder.specs.declared.fault.EncodeFault.{EncodeFault}
 use Rattle.pahole_run.specs.declared.refusal.Refusal.{Refusal}
 use Rattle.pahole_run.specs.declared.refusal.Refusal.TheVariants.{Missing}
-use Rattle.pahole_run.specs.Layers.{numbered, of_plain, of_table, seen_as}
+use Rattle.pahole_run.specs.Tasks.{Task}
+use Rattle.pahole_run.specs.Files.{is_like, headers_of, graph_in, alone}
+use Rattle.pahole_run.specs.Layers.{numbered, refusal_in, mixed, of_elf, of_units, of_encode, of_table, seen_as}
 
 -- the first that is there
 abbrev pub first : List (Option Refusal) → Option Refusal
@@ -34,7 +35,7 @@ contents held names = map (λ (n : List ℕ). unwrap_or (file_of n held) []) nam
 abbrev pub most_of : Limits → ℕ → ℕ
 most_of limits used = min limits.file_bytes (limits.all_bytes - used)
 
--- one file is there, and not too large
+-- one file is there, and not too large (110)
 abbrev pub one_load : Limits → ℕ → ℕ → Option (List ℕ) → Option Refusal
 one_load limits used i None = Some (Missing i)
 one_load limits used i (Some bs) =
@@ -48,39 +49,68 @@ load_refusal limits held used i (n ∷ ns) =
     (one_load limits used i (file_of n held))
     (load_refusal limits held (used + length (unwrap_or (file_of n held) [])) (i + 1) ns)
 
--- the types of a file; none where it is refused
-abbrev pub types_in : List ℕ → List CType
-types_in bytes = result_unwrap_or (types_of_file bytes) []
+-- 10 to 15: a file is an ELF file with debugging information
+abbrev pub image_check : ℕ → List ℕ → Option Refusal
+image_check i bytes = seen_as (of_elf i) (refusal_of bytes)
 
--- the types of all files in order
-abbrev pub nodes_of : List (List ℕ) → List CType
-nodes_of files = flat_map types_in files
+-- 16: a file is of the class and the byte order of the first
+abbrev pub mixed_with : List ℕ → ℕ → List ℕ → Option Refusal
+mixed_with x i bytes = if is_like x bytes then None else refusal_in (mixed i)
 
--- a file that is not read
-abbrev pub file_check : ℕ → List ℕ → Option Refusal
-file_check i bytes = seen_as (of_plain i) (result_err (types_of_file bytes))
+abbrev pub mixed_check : List (List ℕ) → Option Refusal
+mixed_check [] = None
+mixed_check (x ∷ xs) = first_file (mixed_with x) 0 (x ∷ xs)
 
--- the table
+-- 20 to 23: the headers of a file's units are read
+abbrev pub units_check : ℕ → List ℕ → Option Refusal
+units_check i bytes = seen_as (of_units i) (result_err (headers_of bytes))
+
+-- the refusals of units, 111 and 80: all units have a graph
+abbrev pub graph_check : Limits → List (List ℕ) → Option Refusal
+graph_check limits files = seen_as of_encode (result_err (graph_in limits files))
+
+-- the checks of loaded files up to their graph
+abbrev pub graph_checks : Limits → List (List ℕ) → List (Option Refusal)
+graph_checks limits files =
+    first_file image_check 0 files ∷ mixed_check files ∷ first_file units_check 0 files ∷ graph_check limits files ∷ []
+
+-- 100, 101 and 102: the types make a table
 abbrev pub table_checks : List CType → List (Option Refusal)
 table_checks types =
-    seen_as of_table (types_refusal types)
-    ∷ seen_as of_table (names_refusal types)
-    ∷ seen_as of_table (length_refusal types)
+    seen_as of_table (types_refusal (length types))
+    ∷ seen_as of_table (names_refusal None types)
+    ∷ seen_as of_table (length_refusal None types)
     ∷ []
 
--- the checks of loaded files, in the order of the steps, where they are merged to these types
+-- the checks of loaded files that are merged to these types
 abbrev pub file_checks : Limits → List (List ℕ) → List CType → List (Option Refusal)
-file_checks limits files types =
-    first_file file_check 0 files ∷ seen_as of_table (nodes_refusal limits (nodes_of files)) ∷ table_checks types
+file_checks limits files types = graph_checks limits files ++ table_checks types
 
--- the checks of a job, in the order of its steps
-abbrev pub checks : Limits → List HeldFile → List (List ℕ) → List CType → List (Option Refusal)
-checks limits held names types = load_refusal limits held 0 0 names ∷ file_checks limits (contents held names) types
+-- the checks of a task up to the graph: what is not done yet, then the loads, then the files
+abbrev pub early_checks : Limits → List HeldFile → Task → List (Option Refusal)
+early_checks limits held task =
+    task.later ∷ load_refusal limits held 0 0 task.files ∷ graph_checks limits (contents held task.files)
 
--- the first refusal of a job whose files are merged to these types
-abbrev pub first_refusal : Limits → List HeldFile → Job → List CType → Option Refusal
-first_refusal limits held job types = first (checks limits held job.files types)
+-- all checks of a task whose files are merged to these types
+abbrev pub checks : Limits → List HeldFile → Task → List CType → List (Option Refusal)
+checks limits held task types = early_checks limits held task ++ table_checks types
 
--- the files of a job are merged to these types
-abbrev pub MergeTo : List HeldFile → Job → List CType → Type 0
-MergeTo held job types = AreMerged (nodes_of (contents held job.files)) types
+abbrev pub first_refusal : Limits → List HeldFile → Task → List CType → Option Refusal
+first_refusal limits held task types = first (checks limits held task types)
+
+-- the nodes of a graph that is made, none where a check before it refuses
+abbrev pub nodes_unless : Option Refusal → Result (List CType) EncodeFault → List CType
+nodes_unless None read = result_unwrap_or read []
+nodes_unless (Some r) read = []
+
+-- the nodes of the graph of loaded files, and of a task; none where a check up to the graph refuses
+abbrev pub made_nodes : Limits → List (List ℕ) → List CType
+made_nodes limits files = nodes_unless (first (graph_checks limits files)) (graph_in limits files)
+
+abbrev pub nodes_of : Limits → List HeldFile → Task → List CType
+nodes_of limits held task =
+    nodes_unless (first (early_checks limits held task)) (graph_in limits (contents held task.files))
+
+-- the files of a task are merged to these types
+abbrev pub MergeTo : Limits → List HeldFile → Task → List CType → Type 0
+MergeTo limits held task types = IsMerged (alone (nodes_of limits held task)) types

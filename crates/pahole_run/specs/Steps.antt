@@ -1,24 +1,30 @@
--- What the steps of a job say.
-use Rattle.std.specs.Prelude.{ℕ, ◌-◌, ◌^◌, ◌≡◌, ◌≢◌, ◌⊎◌, IfSome, IfOk, OnOk, true, false, ◌+◌, ◌≤◌, ◌<◌, List, length, Option, None, Some, Result, Ok, Err, IsSome}
+-- What the steps of a task say.
+use Rattle.std.specs.Prelude.{ℕ, ◌-◌, ◌^◌, ◌≡◌, ◌≢◌, ◌⊎◌, IfSome, IfOk, OnOk, true, false, ◌+◌, ◌≤◌, ◌<◌, ◌*◌, List, length, drop, All, sum_by, Option, None, Some, Result, Ok, Err, IsSome}
+use Rattle.std.specs.List.{flat_map}
 use Rattle.std.specs.Option.{ForSome}
 use Rattle.std.specs.Global.{Vec}
 use Rattle.dw_base.specs.declared.places.Limits.{Limits}
 use Rattle.world_io.specs.Meaning.{Meaning, file_of}
 use Rattle.world_io.specs.Calls.{Rose, under, IsLeft}
 use Rattle.world_io.specs.declared.files.HeldFile.{HeldFile}
-use Rattle.pahole_run.specs.declared.job.Job.{Job}
 use Rattle.pahole_run.specs.declared.refusal.Refusal.{Refusal}
 use Rattle.pahole_run.specs.declared.refusal.Refusal.TheVariants.{Missing, Fault as Numbered}
 use Rattle.pahole_run.specs.declared.refusal.Ended.{Ended}
 use Rattle.pahole_run.specs.declared.refusal.Ended.TheVariants.{Refused, Read, Store, Memory}
+use Rattle.btf_strings.specs.Names.{own_section}
+use Rattle.btf_codec.specs.Fields.{fields_of}
+use Rattle.btf_codec.specs.Spelling.{HasOffsets}
+use Rattle.btf_codec.specs.declared.table.TableOut.{TableOut}
+use Rattle.c_model.specs.Graph.{Shape, RefersWithin}
+use Rattle.c_model.specs.Forwards.{IsForwardIndex, IsCoarsestWith}
+use Rattle.c_model.specs.Kinds.{IsWellFormed}
 use Rattle.c_model.specs.declared.graph.CType.{CType}
-use Rattle.btf_strings.specs.Names.{Names, next_offset, with_name}
-use Rattle.btf_strings.specs.declared.fault.StringsFault.TheVariants.{Full}
-use Rattle.btf_codec.specs.Spelling.{HasOffset}
-use Rattle.pahole_run.specs.Layers.{of_strings}
-use Rattle.pahole_run.specs.Merged.{AreMerged, TheTable}
-use Rattle.pahole_run.specs.Btf.{btf_of, IsSpelled, is_far}
-use Rattle.pahole_run.specs.Refusals.{one_load, most_of, load_refusal, contents, nodes_of, first, table_checks, file_checks, first_refusal, MergeTo}
+use Rattle.split_base.specs.Merged.{IsMerged}
+use Rattle.split_base.specs.Refusals.{strings_of}
+use Rattle.pahole_run.specs.Tasks.{Task}
+use Rattle.pahole_run.specs.Files.{order_in, alone}
+use Rattle.pahole_run.specs.Tables.{btf_of, AreSpelled, TheTable}
+use Rattle.pahole_run.specs.Refusals.{one_load, most_of, load_refusal, contents, made_nodes, nodes_of, first, file_checks, first_refusal, MergeTo}
 
 -- a step against its check, by how it ends: `P` holds of its value, the refusal is the check's
 abbrev pub Tells : {V : Type 0} → Option Refusal → (V → Type 0) → Result V Ended → Type 0
@@ -98,6 +104,10 @@ pub record LoadsOne
       (λ (held : List HeldFile).
       Tells (one_load limits used i (file_of name held)) (λ (v : List ℕ). file_of name held ≡ Some v) result)
 
+-- how many bytes files have together
+abbrev pub bytes_in : List (List ℕ) → ℕ
+bytes_in files = sum_by (λ (bytes : List ℕ). length bytes) files
+
 -- the files are loaded in order
 pub record LoadsAll
     (limits : Limits) (names : List (List ℕ)) (before after : Meaning) (result : Result (Vec (List ℕ)) Ended)
@@ -108,6 +118,7 @@ pub record LoadsAll
   pub loads : IsLoadEnd result
   pub cause : Cause before after result
   pub count : IfOk result (λ (v : Vec (List ℕ)). length v.items ≡ length names)
+  pub size : IfOk result (λ (v : Vec (List ℕ)). bytes_in v.items ≤ limits.all_bytes)
   pub told :
       ForSome before.files
       (λ (held : List HeldFile).
@@ -157,57 +168,79 @@ pub record StoresOut (out bytes : List ℕ) (before after : Meaning) (result : R
   pub kept : Kept out bytes before after result
   pub ends : IsStoreEnd result
 
--- one name is put into strings, or has no room
-abbrev pub PutsName : Names → List ℕ → Names → Result (Unit {0}) Ended → Type 0
-PutsName old name new (Ok u) = (new ≡ with_name old name) × HasOffset new name × (is_far old name ≡ false)
-PutsName old name new (Err e) =
-    (e ≡ Memory) ⊎ ((is_far old name ≡ true) × (e ≡ of_strings (Full (next_offset old))))
+-- a step that ends with a value, with a refusal or at the store knows the table
+abbrev pub Knows : {V : Type 0} → Type 0 → Result V Ended → Type 0
+Knows P (Ok v) = P
+Knows P (Err (Refused r)) = P
+Knows P (Err (Read i)) = Unit {0}
+Knows P (Err Store) = P
+Knows P (Err Memory) = Unit {0}
 
--- a table is spelled, or refused
-pub record Spelt (types : List CType) (result : Result (List ℕ) Ended) : Type 0 where
-  pub told : Tells (first (table_checks types)) (λ (v : List ℕ). v ≡ btf_of types) result
-  pub spells : OnOk result (IsSpelled types)
+-- the classes are those of the coarsest agreeing partition, under the index of the graph's forwards
+pub record IsPartedBy (g : Shape) (p : List ℕ) : Type 0 where
+  pub index : List (List ℕ)
+  pub forwards : IsForwardIndex g index
+  pub coarsest : IsCoarsestWith g index p
+
+-- a table without a base that can be written
+pub record IsWritable (t : TableOut) : Type 0 where
+  pub base : t.base ≡ 0
+  pub strings : t.strings ≡ strings_of None t.types
+  pub few : length t.types < 2 ^ 32
+  pub offsets : All (HasOffsets t.strings) t.types
+  pub within : RefersWithin (length t.types) t.types
+  pub length : 4 * length (flat_map fields_of t.types) + length (own_section t.strings) < 2 ^ 32
+  pub formed : All IsWellFormed t.types
+
+-- what is told of loaded files and the table that they are merged to
+pub record MakesTable (limits : Limits) (files : List (List ℕ)) (result : Result TableOut Ended) : Type 0 where
+  pub told :
+      (types : List CType) → IsMerged (alone (made_nodes limits files)) types
+      → Tells (first (file_checks limits files types)) (λ (t : TableOut). t.types ≡ types) result
+  pub table : Knows (TheTable (made_nodes limits files)) result
   pub own : IsOwn result
 
--- what making tells of loaded files and the types that they are merged to
-pub record MakesMerged (limits : Limits) (files : List (List ℕ)) (types : List CType) (result : Result (List ℕ) Ended) : Type 0 where
-  pub told : Tells (first (file_checks limits files types)) (λ (v : List ℕ). v ≡ btf_of types) result
-  pub spells : OnOk result (IsSpelled types)
-  pub own : IsOwn result
-
--- what making tells of loaded files
+-- what is told of loaded files and the bytes of their table
 pub record Makes (limits : Limits) (files : List (List ℕ)) (result : Result (List ℕ) Ended) : Type 0 where
   pub told :
-      (types : List CType) → AreMerged (nodes_of files) types
-      → Tells (first (file_checks limits files types)) (λ (v : List ℕ). v ≡ btf_of types) result
-  pub table : OnOk result (TheTable (nodes_of files))
-  pub spells : OnOk result ((types : List CType) → AreMerged (nodes_of files) types → IsSpelled types)
+      (types : List CType) → IsMerged (alone (made_nodes limits files)) types
+      → Tells (first (file_checks limits files types)) (λ (v : List ℕ). v ≡ btf_of (order_in files) types) result
+  pub table : Knows (TheTable (made_nodes limits files)) result
+  pub spelled :
+      OnOk result
+      ((types : List CType) → IsMerged (alone (made_nodes limits files)) types → AreSpelled (order_in files) types)
   pub own : IsOwn result
 
--- a job from its files to what is stored
+-- the bytes of the table of a task's files
+abbrev pub output_of : List HeldFile → Task → List CType → List ℕ
+output_of held task types = btf_of (order_in (contents held task.files)) types
+
+-- a task, from its files to what is stored
 pub record Done
-    (limits : Limits) (job : Job) (before after : Meaning) (result : Result (Unit {0}) Ended)
+    (limits : Limits) (task : Task) (before after : Meaning) (result : Result (Unit {0}) Ended)
     : Type 0 where
   pub rest :
       after
       ≡ record before { stored = after.stored; calls = after.calls; loads = after.loads; stores = after.stores }
   pub later : (before.loads ≤ after.loads) × (before.stores ≤ after.stores)
-  pub calls : CalledAtMost (length job.files + 1) before.calls after.calls
+  pub calls : CalledAtMost (length task.files + 1) before.calls after.calls
   pub exact : EndsAt (λ (k : ℕ). Counted (k + 1) before.calls after.calls) result
   pub cause : Cause before after result
-  pub others : (q : List ℕ) → q ≢ job.out → under q after.stored ≡ under q before.stored
+  pub others : (q : List ℕ) → q ≢ task.out → under q after.stored ≡ under q before.stored
   pub unstored : Unstored before after result
   pub told :
       ForSome before.files
       (λ (held : List HeldFile).
-      (types : List CType) → MergeTo held job types
-      → Tells (first_refusal limits held job types) (λ (u : Unit {0}). Holds job.out (btf_of types) after) result)
+      (types : List CType) → MergeTo limits held task types
+      → Tells (first_refusal limits held task types) (λ (u : Unit {0}). Holds task.out (output_of held task types) after) result)
   pub kept :
       ForSome before.files
       (λ (held : List HeldFile).
-      (types : List CType) → MergeTo held job types → Kept job.out (btf_of types) before after result)
-  pub table :
-      OnOk result (ForSome before.files (λ (held : List HeldFile). TheTable (nodes_of (contents held job.files))))
-  pub spells :
+      (types : List CType) → MergeTo limits held task types
+      → Kept task.out (output_of held task types) before after result)
+  pub table : ForSome before.files (λ (held : List HeldFile). Knows (TheTable (nodes_of limits held task)) result)
+  pub spelled :
       OnOk result
-      (ForSome before.files (λ (held : List HeldFile). (types : List CType) → MergeTo held job types → IsSpelled types))
+      (ForSome before.files
+      (λ (held : List HeldFile).
+      (types : List CType) → MergeTo limits held task types → AreSpelled (order_in (contents held task.files)) types))

@@ -2,8 +2,9 @@
 ghost use Rattle.std.specs.Prelude.{◌≡◌};
 ghost use Rattle.world_io.specs.Calls.{Complains};
 
-use crate::job::{Job, Text, UsageFault};
 use crate::refusal::{Ended, Fault, Refusal, Value};
+use crate::tasks::{files_of, out_of};
+use command_line::{Job, Text, UsageFault};
 use dw_base::Section;
 use itoa::Buffer;
 use world_io::{Failed, World};
@@ -18,6 +19,7 @@ pub enum Piece<'a> {
 
 ghost use Rattle.pahole_run.specs.Said.{Says};
 ghost use Rattle.pahole_run.specs.Line.{text_of, texts, value_text, section_text, name_at, usage_line, line_of, fault_line, memory_line, read_line, refusal_line, store_line};
+ghost use Rattle.pahole_run.specs.Tasks.{task_of};
 
 fn say_piece<W: World>(world: &mut W, piece: &Piece<'_>) -> Result<(), Failed>
     ensures { Complains (W.meaning world.old) (W.meaning world.new) (text_of piece.now) result }
@@ -156,12 +158,12 @@ fn say_refusal<W: World>(world: &mut W, names: &[Text], refusal: &Refusal) -> Re
 
 /// Complains why a job ended.
 pub fn say_end<W: World>(world: &mut W, job: &Job, ended: &Ended) -> Result<(), Failed>
-    ensures { Says (W.meaning world.old) (W.meaning world.new) (line_of job.now ended.now) result }
+    ensures { Says (W.meaning world.old) (W.meaning world.new) (line_of (task_of job.now) ended.now) result }
 {
     match ended {
-        Ended::Refused(refusal) => say_refusal(world, job.files.items(), refusal),
-        Ended::Read(file) => say_read(world, job.files.items(), *file),
-        Ended::Store => say_store(world, job.out.as_str()),
+        Ended::Refused(refusal) => say_refusal(world, files_of(job), refusal),
+        Ended::Read(file) => say_read(world, files_of(job), *file),
+        Ended::Store => say_store(world, out_of(job)),
         Ended::Memory => say_memory(world),
     }
 }

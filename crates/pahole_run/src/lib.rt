@@ -1,25 +1,21 @@
 //! The program as one call: from its words to the file that it stores.
 //!
-//! So far it reads plain files: ELF files whose one unit holds base types alone.
+//! So far it encodes files without a base.
 #![tactic(auto)]
 
-mod bytes;
 pub mod complaint;
-mod entries;
-mod fault;
-pub mod job;
-pub mod laws;
-mod merge;
-mod plain;
+mod faults;
+mod images;
+mod merging;
 pub mod refusal;
-pub mod scan;
 mod steps;
 mod table;
+mod tasks;
 #[cfg(test)]
 mod tests;
 pub mod top;
+mod units;
 
-pub use job::{Job, JobFault, Text, Texts, UsageFault};
+pub use command_line::{Format, Job, JobFault, Text, Texts, UsageFault, job_of};
 pub use refusal::{Ended, Fault, Kept, Refusal, Value};
-pub use scan::job_of;
 pub use top::run;

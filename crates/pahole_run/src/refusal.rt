@@ -1,10 +1,8 @@
 //! How a run ends where it does not succeed.
-ghost use Rattle.std.specs.Prelude.{◌≡◌, None};
-ghost use Rattle.pahole_run.specs.Layers.{numbered, of_plain, of_table, of_whole};
+ghost use Rattle.std.specs.Prelude.{◌≡◌, None, Some};
+ghost use Rattle.pahole_run.specs.Layers.{numbered, bare, keeping, keeping_two, of_whole};
 ghost use Rattle.pahole_run.specs.declared.refusal.Ended.TheVariants.{Refused};
 
-use crate::fault::TableFault;
-use crate::plain::PlainFault;
 use dw_base::{Place, Section};
 
 /// A value that a fault keeps.
@@ -51,45 +49,68 @@ pub enum Ended {
     Memory,
 }
 
-/// The fault of a whole file or table, at its beginning.
-pub fn ended_at(file: Option<u32>, section: Section, number: u32, first: Option<Value>) -> Ended
-    ensures { result ≡ Refused (numbered file section 0 number first None) }
+fn ended_by(file: Option<u32>, place: Place, number: u32, kept: Kept) -> Ended
+    ensures { result ≡ Refused (numbered file place.section place.at number kept.first kept.second) }
 {
     Ended::Refused(Refusal::Fault(Fault {
         file,
-        place: Place { section, at: 0 },
+        place,
         number,
-        kept: Kept {
-            first,
-            second: None,
-        },
+        kept,
     }))
 }
 
-pub fn ended_of_plain(file: u32, fault: PlainFault) -> Ended
-    ensures { result ≡ of_plain file fault }
+/// A fault of a file that keeps nothing.
+pub fn ended_at(file: u32, section: Section, at: u64, number: u32) -> Ended
+    ensures { result ≡ bare file section at number }
 {
-    match fault {
-        PlainFault::NotElf => ended_at(Some(file), Section::Image, 10, None),
-        PlainFault::NotYet => ended_at(Some(file), Section::Image, 200, Some(Value::Plain(0))),
-        PlainFault::Memory => Ended::Memory,
-    }
+    let kept = Kept {
+        first: None,
+        second: None,
+    };
+    ended_by(Some(file), Place { section, at }, number, kept)
 }
 
-pub fn ended_of_table(fault: TableFault) -> Ended
-    ensures { result ≡ of_table fault }
+/// A fault of a file that keeps one value.
+pub fn ended_keeping(file: u32, section: Section, at: u64, number: u32, first: Value) -> Ended
+    ensures { result ≡ keeping file section at number first }
 {
-    match fault {
-        TableFault::NodesTooMany(count) => ended_of_whole(111, count),
-        TableFault::TooManyTypes(count) => ended_of_whole(100, count),
-        TableFault::NamesTooLong(offset) => ended_of_whole(101, offset),
-        TableFault::TableTooLong(bytes) => ended_of_whole(102, bytes),
-        TableFault::Memory => Ended::Memory,
-    }
+    let kept = Kept {
+        first: Some(first),
+        second: None,
+    };
+    ended_by(Some(file), Place { section, at }, number, kept)
 }
 
-fn ended_of_whole(number: u32, kept: u64) -> Ended
+/// A fault of a file that keeps two values.
+pub fn ended_keeping_two(
+    file: u32,
+    section: Section,
+    at: u64,
+    number: u32,
+    first: Value,
+    second: Value,
+) -> Ended
+    ensures { result ≡ keeping_two file section at number first second }
+{
+    let kept = Kept {
+        first: Some(first),
+        second: Some(second),
+    };
+    ended_by(Some(file), Place { section, at }, number, kept)
+}
+
+/// A fault of the table, which is no file's.
+pub fn ended_of_whole(number: u32, kept: u64) -> Ended
     ensures { result ≡ of_whole number kept }
 {
-    ended_at(None, Section::Table, number, Some(Value::Plain(kept)))
+    let place = Place {
+        section: Section::Table,
+        at: 0,
+    };
+    let kept = Kept {
+        first: Some(Value::Plain(kept)),
+        second: None,
+    };
+    ended_by(None, place, number, kept)
 }

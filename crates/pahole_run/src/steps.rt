@@ -1,21 +1,17 @@
-//! The steps of a job.
-ghost use Rattle.std.specs.Prelude.{◌≡◌, ◌+◌, ◌<◌, ◌≤◌, ◌^◌, [], ⊤, None, length};
-ghost use Rattle.pahole_run.specs.Layers.{of_load, of_store, of_table, seen_as};
-ghost use Rattle.pahole_run.specs.Merging.{merged};
-ghost use Rattle.pahole_run.specs.Btf.{nodes_refusal, btf_of};
-ghost use Rattle.pahole_run.specs.Refusals.{most_of, first, first_file, file_check, table_checks, file_checks, nodes_of};
-ghost use Rattle.pahole_run.specs.Steps.{LoadsOne, LoadsAll, Tells, IsOwn, Makes, MakesMerged, StoresOut, Done};
+//! The steps of a task, from its files to what is stored.
+ghost use Rattle.std.specs.Prelude.{◌≡◌, ◌+◌, ◌<◌, ◌≤◌, ◌^◌, None, length};
+ghost use Rattle.command_line.specs.Words.{files_of, jobs_of};
+ghost use Rattle.pahole_run.specs.Refusals.{most_of};
+ghost use Rattle.pahole_run.specs.Steps.{LoadsOne, LoadsAll, StoresOut, Done};
+ghost use Rattle.pahole_run.specs.Tasks.{task_of, printing_kind};
 
-use crate::fault::TableFault;
-use crate::job::{Job, Text};
-use crate::merge::merged;
-use crate::plain::types_of_file;
-use crate::refusal::{Ended, Refusal, ended_at, ended_of_plain, ended_of_table};
-use crate::table::spell;
-use c_model::CType;
-use dw_base::{Bytes, Limits, Section};
+use crate::faults::{ended_of_load, ended_of_store};
+use crate::refusal::{Ended, ended_of_whole};
+use crate::table::make;
+use command_line::{Job, Text};
+use dw_base::{Bytes, Limits};
 use std::alloc::Global;
-use world_io::{Gate, LoadFault, OutFault, World};
+use world_io::{Gate, World};
 
 /// Loads one file, of what is left of all bytes.
 fn load_one<W: World>(
@@ -44,17 +40,6 @@ fn most_for(limits: Limits, used: u64) -> u64
     limits.file_bytes.min(limits.all_bytes.saturating_sub(used))
 }
 
-fn ended_of_load(file: u32, fault: LoadFault) -> Ended
-    ensures { result ≡ of_load file fault }
-{
-    match fault {
-        LoadFault::Failed => Ended::Read(file),
-        LoadFault::Missing => Ended::Refused(Refusal::Missing(file)),
-        LoadFault::TooLarge => ended_at(Some(file), Section::Image, 110, None),
-        LoadFault::Memory => Ended::Memory,
-    }
-}
-
 /// Loads the files in order.
 fn load_all<W: World>(
     alloc: Global,
@@ -78,78 +63,6 @@ fn load_all<W: World>(
     Ok(files)
 }
 
-/// Reads the types of each file.
-fn read_files<'a, G: Gate>(
-    alloc: Global,
-    gate: &G,
-    files: &'a [Bytes],
-) -> Result<Vec<CType<'a>>, Ended>
-    requires { length files.now < 2 ^ 32 }
-    ensures told { Tells (first_file file_check 0 files.now) (λ v. v.items ≡ nodes_of files.now) result }
-    ensures own { IsOwn result }
-{
-    let mut all = Vec::new(alloc);
-    for i in 0..files.len() {
-        gate.enter(i as u32);
-        match types_of_file(alloc, files[i].items()) {
-            Ok(nodes) => {
-                let mut nodes = nodes.into_items();
-                if all.append(&mut nodes).is_err() {
-                    return Err(Ended::Memory);
-                }
-            }
-            Err(fault) => return Err(ended_of_plain(i as u32, fault)),
-        }
-    }
-    Ok(all)
-}
-
-/// Counts the nodes.
-fn check_nodes(limits: Limits, nodes: &[CType<'_>]) -> Result<(), Ended>
-    ensures told { Tells (seen_as of_table (nodes_refusal limits nodes.now)) (λ _. ⊤) result }
-    ensures own { IsOwn result }
-{
-    if nodes.len() > limits.nodes as usize {
-        return Err(ended_of_table(TableFault::NodesTooMany(nodes.len() as u64)));
-    }
-    Ok(())
-}
-
-/// Merges the nodes.
-fn merge<'a>(alloc: Global, nodes: Vec<CType<'a>>) -> Result<Vec<CType<'a>>, Ended>
-    ensures told { Tells None (λ v. v.items ≡ merged [] nodes.entry.items) result }
-    ensures own { IsOwn result }
-{
-    match merged(alloc, nodes) {
-        Ok(types) => Ok(types),
-        Err(_) => Err(Ended::Memory),
-    }
-}
-
-/// The steps between loading and storing.
-fn make<G: Gate>(alloc: Global, gate: &G, limits: Limits, files: &[Bytes]) -> Result<Bytes, Ended>
-    requires { length files.now < 2 ^ 32 }
-    ensures { MakesMerged limits files.now (merged [] (nodes_of files.now)) result }
-{
-    let nodes = read_files(alloc, gate, files)?;
-    check_nodes(limits, &nodes)?;
-    let types = merge(alloc, nodes)?;
-    spell(alloc, types)
-}
-
-/// The same, for the types that the files are merged to.
-fn make_table<G: Gate>(
-    alloc: Global,
-    gate: &G,
-    limits: Limits,
-    files: &[Bytes],
-) -> Result<Bytes, Ended>
-    requires { length files.now < 2 ^ 32 }
-    ensures { Makes limits files.now result }
-{
-    make(alloc, gate, limits, files)
-}
-
 /// Stores the bytes.
 fn store_out<W: World>(world: &mut W, out: &str, bytes: &[u8]) -> Result<(), Ended>
     ensures { StoresOut out.now bytes.now (W.meaning world.old) (W.meaning world.new) result }
@@ -160,16 +73,27 @@ fn store_out<W: World>(world: &mut W, out: &str, bytes: &[u8]) -> Result<(), End
     }
 }
 
-fn ended_of_store(fault: OutFault) -> Ended
-    ensures { result ≡ of_store fault }
+/// Encodes files without a base.
+fn encode_files<W: World, G: Gate>(
+    alloc: Global,
+    world: &mut W,
+    gate: &G,
+    jobs: u32,
+    limits: Limits,
+    out: &str,
+    names: &[Text],
+) -> Result<(), Ended>
+    requires bytes { (limits.file_bytes < 2 ^ 32) × (limits.all_bytes < 2 ^ 32) }
+    requires few { length names.now < 2 ^ 32 }
+    requires jobs { 1 ≤ jobs }
+    ensures { Done limits (record { later = None; out = out.now; files = names.now }) (W.meaning world.old) (W.meaning world.new) result }
 {
-    match fault {
-        OutFault::Failed => Ended::Store,
-        OutFault::Memory => Ended::Memory,
-    }
+    let files = load_all(alloc, world, limits, names)?;
+    let table = make(alloc, gate, jobs, limits, files.as_slice())?;
+    store_out(world, out, table.items())
 }
 
-/// A job, from its files to what is stored.
+/// Does a job. Only encoding without a base is done so far; other jobs are refused before anything is loaded.
 pub fn do_job<W: World, G: Gate>(
     alloc: Global,
     world: &mut W,
@@ -178,10 +102,41 @@ pub fn do_job<W: World, G: Gate>(
     job: &Job,
 ) -> Result<(), Ended>
     requires bytes { (limits.file_bytes < 2 ^ 32) × (limits.all_bytes < 2 ^ 32) }
-    requires few { length job.now.files < 2 ^ 32 }
-    ensures { Done limits job.now (W.meaning world.old) (W.meaning world.new) result }
+    requires few { length (files_of job.now) < 2 ^ 32 }
+    requires jobs { 1 ≤ jobs_of job.now }
+    ensures { Done limits (task_of job.now) (W.meaning world.old) (W.meaning world.new) result }
 {
-    let files = load_all(alloc, world, limits, job.files.items())?;
-    let table = make_table(alloc, gate, limits, files.as_slice())?;
-    store_out(world, job.out.as_str(), table.items())
+    match job {
+        Job::Encode {
+            out,
+            base,
+            jobs,
+            files,
+        } => {
+            if base.is_some() {
+                return Err(ended_of_whole(200, 2));
+            }
+            encode_files(
+                alloc,
+                world,
+                gate,
+                *jobs,
+                limits,
+                out.as_str(),
+                files.items(),
+            )
+        }
+        Job::Show { base, .. } => Err(ended_of_whole(200, printing_kind(base))),
+        Job::Selfmade { .. } => Err(ended_of_whole(200, 3)),
+    }
+}
+
+/// What is missing for a job that prints: a base, or printing.
+fn printing_kind(base: &Option<Text>) -> u64
+    ensures { result ≡ printing_kind base.now }
+{
+    match base {
+        None => 1,
+        Some(_) => 2,
+    }
 }

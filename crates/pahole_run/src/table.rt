@@ -1,124 +1,87 @@
-//! The table that is stored, and why there is none.
-ghost use Rattle.std.specs.Prelude.{◌≡◌, ◌+◌, ◌*◌, ◌<◌, ⊤, None, All, length, IfOk};
-ghost use Rattle.btf_codec.specs.Spelling.{HasOffsets};
-ghost use Rattle.pahole_run.specs.Layers.{of_strings, of_table, seen_as};
-ghost use Rattle.pahole_run.specs.Merging.{AreInts};
-ghost use Rattle.pahole_run.specs.Btf.{types_refusal, names_refusal, length_refusal, total_length, strings_of, btf_of, IsSpelled};
+//! The table that the graph is merged to, and its bytes.
+ghost use Rattle.std.specs.Prelude.{◌≡◌, ◌<◌, ◌≤◌, ◌^◌, length, All, IfOk, OnOk, None};
+ghost use Rattle.c_model.specs.Kinds.{IsWellFormed};
+ghost use Rattle.split_base.specs.Table.{table_of};
+ghost use Rattle.pahole_run.specs.Tables.{btf_of, AreSpelled};
 ghost use Rattle.pahole_run.specs.Refusals.{first, table_checks};
-ghost use Rattle.pahole_run.specs.Steps.{Tells, IsOwn, PutsName, Spelt};
+ghost use Rattle.pahole_run.specs.Steps.{Tells, IsOwn, IsWritable, MakesTable, Makes, bytes_in};
 
-use crate::fault::TableFault;
-use crate::refusal::{Ended, ended_of_table};
+use crate::faults::ended_of_table;
+use crate::images::order_in;
+use crate::merging::{make_graph, merge_graph};
+use crate::refusal::Ended;
 use btf_codec::{TableOut, write};
-use btf_strings::{Strings, StringsFault};
-use c_model::{CType, Nodes};
-use dw_base::{Bytes, Name, Order};
+use c_model::{Classes, Graph};
+use dw_base::{Bytes, Limits, Order};
+use split_base::build;
 use std::alloc::Global;
+use world_io::Gate;
 
-/// The last id of a table.
-const LAST_ID: usize = 0x000f_ffff;
-
-/// The bytes of the table of some integers.
-pub fn spell<'a>(alloc: Global, types: Vec<CType<'a>>) -> Result<Bytes, Ended>
-    requires { AreInts types.items }
-    ensures { Spelt types.entry.items result }
-{
-    check_types(&types)?;
-    let strings = put_names(alloc, &types)?;
-    check_length(&types, &strings)?;
-    write_table(alloc, types, strings)
-}
-
-/// Counts the types.
-fn check_types(types: &[CType<'_>]) -> Result<(), Ended>
-    ensures told { Tells (seen_as of_table (types_refusal types.now)) (λ _. ⊤) result }
-    ensures own { IsOwn result }
-{
-    if types.len() > LAST_ID {
-        return Err(ended_of_table(TableFault::TooManyTypes(types.len() as u64)));
-    }
-    Ok(())
-}
-
-/// The strings of the types' names.
-fn put_names<'a>(alloc: Global, types: &[CType<'a>]) -> Result<Strings<'a>, Ended>
-    requires { AreInts types.now }
-    ensures told { Tells (seen_as of_table (names_refusal types.now)) (λ s. s ≡ strings_of types.now) result }
-    ensures offsets { IfOk result (λ s. All (HasOffsets s) types.now) }
-    ensures own { IsOwn result }
-{
-    let Ok(mut strings) = Strings::new(alloc, None) else {
-        return Err(Ended::Memory);
-    };
-    for i in 0..types.len() {
-        put_name(&mut strings, Name::new(types[i].label.name.bytes()))?;
-    }
-    Ok(strings)
-}
-
-/// Puts one name.
-fn put_name<'a>(strings: &mut Strings<'a>, name: Name<'a>) -> Result<(), Ended>
-    ensures { PutsName strings.old name.entry strings.new result }
-{
-    match strings.put(name) {
-        Ok(_) => Ok(()),
-        Err(fault) => Err(ended_of_strings(fault)),
-    }
-}
-
-fn ended_of_strings(fault: StringsFault) -> Ended
-    ensures { result ≡ of_strings fault }
-{
-    match fault {
-        StringsFault::Full(offset) => ended_of_table(TableFault::NamesTooLong(offset)),
-        StringsFault::Memory => Ended::Memory,
-    }
-}
-
-/// Counts the bytes: 16 for each integer, and the strings.
-fn check_length(types: &[CType<'_>], strings: &Strings<'_>) -> Result<(), Ended>
-    requires ints { AreInts types.now }
-    requires few { length types.now < 1048576 }
-    requires strings { strings.now ≡ strings_of types.now }
-    ensures told { Tells (seen_as of_table (length_refusal types.now)) (λ _. ⊤) result }
-    ensures own { IsOwn result }
-{
-    let bytes = length_of(types, strings);
-    if bytes > u64::from(u32::MAX) {
-        return Err(ended_of_table(TableFault::TableTooLong(bytes)));
-    }
-    Ok(())
-}
-
-fn length_of(types: &[CType<'_>], strings: &Strings<'_>) -> u64
-    requires ints { AreInts types.now }
-    requires few { length types.now < 1048576 }
-    requires strings { strings.now ≡ strings_of types.now }
-    ensures { result ≡ total_length types.now }
-{
-    16 * types.len() as u64 + strings.bytes().len() as u64
-}
-
-/// Writes the table.
-fn write_table<'a>(
+/// The steps from loaded files to the bytes of their table. The graph and its classes are gone when the table is
+/// written.
+pub fn make<G: Gate>(
     alloc: Global,
-    types: Vec<CType<'a>>,
-    strings: Strings<'a>,
+    gate: &G,
+    jobs: u32,
+    limits: Limits,
+    files: &[Bytes],
 ) -> Result<Bytes, Ended>
-    requires ints { AreInts types.items }
-    requires few { length types.items < 1048576 }
-    requires strings { strings ≡ strings_of types.items }
-    requires offsets { All (HasOffsets strings) types.items }
-    requires length { total_length types.items < 4294967296 }
-    ensures told { Tells None (λ v. (v ≡ btf_of types.entry.items) × IsSpelled types.entry.items) result }
+    requires jobs { 1 ≤ jobs }
+    requires few { length files.now < 2 ^ 32 }
+    requires size { bytes_in files.now < 2 ^ 32 }
+    ensures { Makes limits files.now result }
+{
+    let table = make_table(alloc, gate, jobs, limits, files)?;
+    write_table(alloc, &table, order_in(files))
+}
+
+/// The table that loaded files are merged to.
+fn make_table<'a, G: Gate>(
+    alloc: Global,
+    gate: &G,
+    jobs: u32,
+    limits: Limits,
+    files: &'a [Bytes],
+) -> Result<TableOut<'a>, Ended>
+    requires jobs { 1 ≤ jobs }
+    requires few { length files.now < 2 ^ 32 }
+    requires size { bytes_in files.now < 2 ^ 32 }
+    ensures made { MakesTable limits files.now result }
+    ensures writable { IfOk result IsWritable }
+{
+    let graph = make_graph(alloc, gate, jobs, limits, files)?;
+    let classes = merge_graph(alloc, &graph)?;
+    build_table(alloc, &graph, &classes)
+}
+
+/// The table of a partition.
+fn build_table<'a>(
+    alloc: Global,
+    graph: &Graph<'a>,
+    classes: &Classes,
+) -> Result<TableOut<'a>, Ended>
+    requires base { graph.now.base ≡ 0 }
+    requires covers { length classes.now ≡ length graph.now.nodes }
+    requires well { All IsWellFormed graph.now.nodes }
+    ensures told { Tells (first (table_checks (table_of graph.now classes.now)))
+        (λ t. t.types ≡ table_of graph.now classes.now) result }
+    ensures writable { IfOk result IsWritable }
     ensures own { IsOwn result }
 {
-    let table = TableOut {
-        base: 0,
-        types: Nodes::new(types),
-        strings,
-    };
-    match write(alloc, &table, Order::Little) {
+    match build(alloc, graph, classes, None) {
+        Ok(table) => Ok(table),
+        Err(fault) => Err(ended_of_table(fault)),
+    }
+}
+
+/// The bytes of a table.
+fn write_table(alloc: Global, table: &TableOut<'_>, order: Order) -> Result<Bytes, Ended>
+    requires { IsWritable table.now }
+    ensures told { Tells None (λ v. v ≡ btf_of order table.now.types) result }
+    ensures spelled { OnOk result (AreSpelled order table.now.types) }
+    ensures own { IsOwn result }
+{
+    match write(alloc, table, order) {
         Ok(bytes) => Ok(bytes),
         Err(_) => Err(Ended::Memory),
     }

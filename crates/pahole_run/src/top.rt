@@ -1,25 +1,25 @@
 //! A run.
-ghost use Rattle.std.specs.Prelude.{◌≡◌, ◌<◌, ◌^◌, length, map, string_bytes, Ok};
-ghost use Rattle.pahole_run.specs.Words.{job_of_words};
+ghost use Rattle.std.specs.Prelude.{◌≡◌, ◌<◌, ◌≤◌, ◌^◌, length, map, string_bytes, Ok};
+ghost use Rattle.command_line.specs.Words.{job_of_words, files_of, jobs_of};
 ghost use Rattle.pahole_run.specs.Promises.{Succeeds, Refuses, Fails, RefusesWords, Keeps, IsComplete};
 ghost use Rattle.pahole_run.specs.Run.{Runs, Unworded};
 
 use crate::complaint::{say_end, say_memory, say_usage};
-use crate::job::{Job, JobFault};
-use crate::scan::job_of;
 use crate::steps::do_job;
+use command_line::{Job, JobFault, job_of};
 use dw_base::Limits;
 use std::alloc::Global;
 use std::thread::Threads;
 use world_io::{Gate, World};
 
 /// Does all that the program does: it reads the job of the words after the program's name, loads the files, merges
-/// their types, and stores the table as BTF. It answers the exit status: 0 where the job is done, 1 where the files
-/// are refused, 2 where the words give no job, 3 where a file cannot be read or the output cannot be stored, and 4 for
-/// want of memory. On all but 0 it complains one line, in pieces and without memory; a complaint that fails ends the
-/// line and changes nothing else. All memory is taken before the store.
+/// the types of all their units, and stores the table as BTF. It answers the exit status: 0 where the job is done, 1
+/// where the files are refused, 2 where the words give no job, 3 where a file cannot be read or the output cannot be
+/// stored, and 4 for want of memory. On all but 0 it complains one line, in pieces and without memory; a complaint that
+/// fails ends the line and changes nothing else. All memory is taken before the store.
 ///
-/// `rt` is for workers, which there are none of yet. `gate` is entered before each file's unit is read.
+/// So far only encoding without a base is done: other jobs are refused by 200, before anything is loaded. `rt` is for
+/// workers, which there are none of yet. `gate` is entered before each unit is read.
 pub fn run<R: Threads + Sync, W: World, G: Gate>(
     rt: &R,
     alloc: Global,
@@ -29,7 +29,7 @@ pub fn run<R: Threads + Sync, W: World, G: Gate>(
     words: &[String],
 ) -> u8
     requires { (limits.file_bytes < 2 ^ 32) × (limits.all_bytes < 2 ^ 32) }
-    // 0: what is stored spells the table of the coarsest agreeing partition of the files' types.
+    // 0: what is stored spells the table of the coarsest agreeing partition of the types of all units.
     ensures done { result ≡ 0 → Succeeds limits (job_of_words (map string_bytes words.now)) (W.meaning world.old) (W.meaning world.new) }
     // 1: the first refusal of the files has a number.
     ensures refused { result ≡ 1 → Refuses limits (job_of_words (map string_bytes words.now)) (W.meaning world.old) (W.meaning world.new) }
@@ -88,7 +88,8 @@ fn run_job<W: World, G: Gate>(
     job: &Job,
 ) -> u8
     requires bytes { (limits.file_bytes < 2 ^ 32) × (limits.all_bytes < 2 ^ 32) }
-    requires few { length job.now.files < 2 ^ 32 }
+    requires few { length (files_of job.now) < 2 ^ 32 }
+    requires jobs { 1 ≤ jobs_of job.now }
     ensures { Runs limits (Ok job.now) (W.meaning world.old) (W.meaning world.new) result }
 {
     match do_job(alloc, world, gate, limits, job) {

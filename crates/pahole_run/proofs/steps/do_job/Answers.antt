@@ -1,22 +1,16 @@
-use Rattle.std.proofs.Common.{◌≡◌, Err, rules}
-use Rattle.pahole_run.proofs.DoneLemmas.{done_unloaded, done_unmade, done_stored}
+use Rattle.std.proofs.Common.{◌≡◌, refl, sym, ◌∙◌}
+use Rattle.pahole_run.proofs.DoneLemmas.{done_later, done_over_base}
 use Rattle.pahole_run.proofs.steps.do_job.Goals as goal
 
-pub returns-in_err-files : goal.returns-in_err-files
-returns-in_err-files g c =
-    let gone : c.from_residual.result ≡ Err c.in_err-files.field-0.0 = search rules in
-    rw gone
-    (done_unloaded c.args.limits c.args.job.now _ _ c.in_err-files.field-0.0 (rw c.items.ensures at c.in_err-files.ensures))
+pub returns-then-is_some : goal.returns-then-is_some
+returns-then-is_some g c =
+    rw (c.in-Encode.is, c.ended_of_whole.ensures)
+    (done_over_base c.args.limits _ _ c.in-Encode.base 0 _ (sym c.is_some.ensures ∙ c.if-is_some.true))
 
-pub returns-in_err-table : goal.returns-in_err-table
-returns-in_err-table g c =
-    let gone : c.from_residual-in_err-table.result ≡ Err c.in_err-table.field-0.0 = search rules in
-    rw gone
-    (done_unmade c.args.limits c.args.job.now _ _ c.in_ok-files.files c.in_err-table.field-0.0
-    (rw c.items.ensures at c.in_ok-files.ensures) (rw c.as_slice.ensures.value at c.in_err-table.ensures))
+pub returns-in-Show : goal.returns-in-Show
+returns-in-Show g c =
+    rw (c.in-Show.is, c.ended_of_whole-in-Show.ensures, c.printing_kind.ensures) (done_later c.args.limits _ _ _ refl)
 
-pub returns : goal.returns
-returns g c =
-    done_stored c.args.limits c.args.job.now _ _ _ c.in_ok-files.files c.in_ok-table.table c.store_out.result
-    (rw c.items.ensures at c.in_ok-files.ensures) (rw c.as_slice.ensures.value at c.in_ok-table.ensures)
-    (rw (c.as_str.ensures, c.items-2.ensures) at c.store_out.ensures)
+pub returns-in-Selfmade : goal.returns-in-Selfmade
+returns-in-Selfmade g c =
+    rw (c.in-Selfmade.is, c.ended_of_whole-in-Selfmade.ensures) (done_later c.args.limits _ _ _ refl)
