@@ -5,18 +5,11 @@ use dw_base::{Bytes, Limits, SHIPPED};
 use std::alloc::{AllocError, Global};
 use world_io::{Files, HeldFile, HostWorld, Stop, Stops, World};
 
-/// The files that a case may have.
-const NAMES: [&str; 2] = ["a", "b"];
-
 /// The most bytes that a file of a case has.
 const MOST: u64 = 1 << 24;
 
 /// The bytes of a file; none where it can't be read.
-pub fn bytes_of<W: World>(
-    alloc: Global,
-    host: &mut W,
-    path: &str,
-) -> Option<Vec<u8>> {
+pub fn bytes_of<W: World>(alloc: Global, host: &mut W, path: &str) -> Option<Vec<u8>> {
     let mut bytes = Vec::new(alloc);
     match host.load(path, MOST, &mut bytes) {
         Ok(()) => Some(bytes),
@@ -33,7 +26,11 @@ fn text_of<W: World>(alloc: Global, host: &mut W, path: &str) -> String {
 }
 
 /// The lines of a file.
-pub fn lines_of<W: World>(alloc: Global, host: &mut W, path: &str) -> Result<Vec<String>, AllocError> {
+pub fn lines_of<W: World>(
+    alloc: Global,
+    host: &mut W,
+    path: &str,
+) -> Result<Vec<String>, AllocError> {
     let text = text_of(alloc, host, path);
     let mut lines = Vec::new(alloc);
     for line in text.lines() {
@@ -51,7 +48,12 @@ fn path_of(alloc: Global, case: &str, file: &str) -> Result<String, AllocError> 
 }
 
 /// The bytes that a file of a case gives in hex; none where it is not there.
-fn hex_in<W: World>(alloc: Global, host: &mut W, case: &str, file: &str) -> Result<Option<Vec<u8>>, AllocError> {
+fn hex_in<W: World>(
+    alloc: Global,
+    host: &mut W,
+    case: &str,
+    file: &str,
+) -> Result<Option<Vec<u8>>, AllocError> {
     let path = path_of(alloc, case, file)?;
     match bytes_of(alloc, host, path.as_str()) {
         Some(text) => Ok(Some(unhex(alloc, text.as_slice())?)),
@@ -62,7 +64,11 @@ fn hex_in<W: World>(alloc: Global, host: &mut W, case: &str, file: &str) -> Resu
 /// The number after a word and a space at the beginning of a line, where the line begins so.
 fn number_after(line: &str, word: &str) -> Option<u64> {
     let (first, rest) = line.split_once(' ')?;
-    if first == word { rest.parse().ok() } else { None }
+    if first == word {
+        rest.parse().ok()
+    } else {
+        None
+    }
 }
 
 /// The last number that a line gives for a word, or another.
