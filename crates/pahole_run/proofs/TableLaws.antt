@@ -1,5 +1,5 @@
 -- What the table of a graph says of its nodes, and that there is one at most.
-use Rattle.std.proofs.Common.{◌≡◌, ℕ, suc, List, Some, arith, ap, sym, subst}
+use Rattle.std.proofs.Common.{◌≡◌, suc, List, Some, arith, ap, sym, subst}
 use Rattle.c_model.specs.Graph.{Shape, IsSound}
 use Rattle.c_model.specs.Forwards.{HasFittingForwards}
 use Rattle.c_model.specs.declared.graph.CType.{CType}

@@ -1,5 +1,5 @@
 -- The steps of the table.
-use Rattle.std.proofs.Common.{◌≡◌, ◌⊎◌, ◌<◌, ℕ, List, [], Bool, true, false, All, Option, None, Some, Result, Ok, Err, OnOk, inl, inr, refl, sym, ap, ◌∙◌, subst, length, drop, if◌then◌else◌}
+use Rattle.std.proofs.Common.{◌≡◌, ◌⊎◌, ℕ, List, [], Bool, true, false, All, Option, None, Some, Result, Ok, Err, OnOk, inl, inr, refl, sym, ap, ◌∙◌, subst, length, drop, if◌then◌else◌}
 use Rattle.std.specs.Option.{option_or, option_map}
 use Rattle.dw_base.specs.declared.numbers.Order.{Order}
 use Rattle.dw_base.specs.declared.places.Limits.{Limits}
@@ -22,7 +22,7 @@ use Rattle.pahole_run.specs.declared.refusal.Ended.{Ended}
 use Rattle.pahole_run.specs.declared.refusal.Ended.TheVariants.{Refused, Read, Store, Memory}
 use Rattle.pahole_run.specs.Layers.{of_table, seen_as}
 use Rattle.pahole_run.specs.Files.{alone, graph_in, order_in}
-use Rattle.pahole_run.specs.Tables.{names_of, btf_of, AreSpelled, Represents, TheTable}
+use Rattle.pahole_run.specs.Tables.{names_of, btf_of, AreSpelled, TheTable}
 use Rattle.pahole_run.specs.Refusals.{first, graph_checks, table_checks, file_checks, nodes_unless, made_nodes}
 use Rattle.pahole_run.specs.Steps.{Tells, IsOwn, Knows, IsPartedBy, IsWritable, MakesTable, Makes}
 use Rattle.pahole_run.proofs.LoadLemmas.{part_told}

@@ -1,5 +1,5 @@
 -- What the steps of a task say.
-use Rattle.std.specs.Prelude.{ℕ, ◌-◌, ◌^◌, ◌≡◌, ◌≢◌, ◌⊎◌, IfSome, IfOk, OnOk, true, false, ◌+◌, ◌≤◌, ◌<◌, ◌*◌, List, length, drop, All, sum_by, Option, None, Some, Result, Ok, Err, IsSome}
+use Rattle.std.specs.Prelude.{ℕ, ◌-◌, ◌^◌, ◌≡◌, ◌≢◌, IfSome, IfOk, OnOk, ◌+◌, ◌≤◌, ◌<◌, ◌*◌, List, length, All, sum_by, Option, None, Some, Result, Ok, Err, IsSome}
 use Rattle.std.specs.List.{flat_map}
 use Rattle.std.specs.Option.{ForSome}
 use Rattle.std.specs.Global.{Vec}
