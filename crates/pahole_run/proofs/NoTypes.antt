@@ -61,6 +61,6 @@ no_table =
     record {
       types = [];
       merged = none_merged;
-      represents = record { shares = λ x y h. absurd (omega arith); unfolds = λ n x h. absurd (omega arith) };
+      represents = record { shares = λ x y h. absurd (omega arith); unfolds = λ n x h. absurd (omega arith); keeps = record { beside = λ x d h. absurd (omega arith) } };
       only = λ others m. one_table (alone []) none_sound others [] m none_merged;
     }
