@@ -1,10 +1,8 @@
 -- The table of no nodes, and checks in order.
-use Rattle.std.proofs.Common.{◌≡◌, ◌<◌, ◌++◌, ℕ, List, [], ◌∷◌, Option, None, Some, refl, arith, ap, ◌∙◌, sym, length, rules}
-use Rattle.std.specs.Option.{option_or}
-use Rattle.c_model.specs.Graph.{Shape, IsSound}
+use Rattle.std.proofs.Common.{◌≡◌, ◌++◌, List, [], ◌∷◌, Option, None, Some, refl, arith, rules}
+use Rattle.c_model.specs.Graph.{IsSound}
 use Rattle.c_model.specs.Forwards.{IsForwardIndex, IsCoarsestWith}
-use Rattle.c_model.specs.declared.graph.CType.{CType}
-use Rattle.split_base.specs.Table.{own_types, table_of}
+use Rattle.split_base.specs.Table.{own_types}
 use Rattle.split_base.specs.Merged.{IsMerged}
 use Rattle.pahole_run.specs.declared.refusal.Refusal.{Refusal}
 use Rattle.pahole_run.specs.Files.{alone}
@@ -63,6 +61,6 @@ no_table =
     record {
       types = [];
       merged = none_merged;
-      represents = record { shares = λ x y h. absurd (omega arith); unfolds = λ n x h. absurd (omega arith) };
+      represents = record { shares = λ x y h. absurd (omega arith); unfolds = λ n x h. absurd (omega arith); keeps = record { beside = λ x d h. absurd (omega arith) } };
       only = λ others m. one_table (alone []) none_sound others [] m none_merged;
     }

@@ -14,15 +14,14 @@ use Rattle.pahole_run.specs.declared.refusal.Refusal.TheVariants.{Missing, Fault
 use Rattle.pahole_run.specs.declared.refusal.Ended.{Ended}
 use Rattle.pahole_run.specs.declared.refusal.Ended.TheVariants.{Refused, Read, Store, Memory}
 use Rattle.pahole_run.specs.Line.{usage_line, fault_line, read_line, store_line, memory_line, line_of, status_of}
-use Rattle.c_model.specs.declared.graph.CType.{CType}
 use Rattle.pahole_run.specs.Tasks.{Task, task_of}
 use Rattle.pahole_run.specs.Tables.{TheTable}
-use Rattle.pahole_run.specs.Refusals.{first_refusal, contents, nodes_of, MergeTo}
+use Rattle.pahole_run.specs.Refusals.{first_refusal, nodes_of}
 use Rattle.pahole_run.specs.Said.{Gained, Says}
-use Rattle.pahole_run.specs.Steps.{Done, Cause, CalledAtMost, Counted, Holds, Unstored, Knows, output_of}
+use Rattle.pahole_run.specs.Steps.{Done, Cause, CalledAtMost, Counted, Holds, Unstored, output_of}
 use Rattle.pahole_run.specs.Run.{Outcome, Ran, Runs, status_at, line_at}
 use Rattle.pahole_run.specs.Run.Outcome.{NoJob, NoMemory, Did}
-use Rattle.pahole_run.specs.Promises.{NoFault, Complained, Encodes, Succeeds, Refuses, IsFirst, IsFirstMissing, EachFirst, StoresPart, CannotRead, CannotStore, Fails, IsComplete, RefusesWords, Keeps}
+use Rattle.pahole_run.specs.Promises.{NoFault, Complained, Encodes, Succeeds, Refuses, IsFirst, IsFirstMissing, EachFirst, CannotRead, CannotStore, Fails, IsComplete, RefusesWords, Keeps}
 
 -- the job of the words is one
 of_job :

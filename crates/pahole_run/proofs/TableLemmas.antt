@@ -1,5 +1,5 @@
 -- The steps of the table.
-use Rattle.std.proofs.Common.{◌≡◌, ◌⊎◌, ◌<◌, ℕ, List, [], Bool, true, false, All, Option, None, Some, Result, Ok, Err, OnOk, inl, inr, refl, sym, ap, ◌∙◌, subst, length, drop, if◌then◌else◌}
+use Rattle.std.proofs.Common.{◌≡◌, ◌⊎◌, ℕ, List, [], Bool, true, false, All, Option, None, Some, Result, Ok, Err, OnOk, inl, inr, refl, sym, ap, ◌∙◌, subst, length, drop, if◌then◌else◌}
 use Rattle.std.specs.Option.{option_or, option_map}
 use Rattle.dw_base.specs.declared.numbers.Order.{Order}
 use Rattle.dw_base.specs.declared.places.Limits.{Limits}
@@ -9,7 +9,7 @@ use Rattle.btf_codec.specs.Spelling.{spelling_of, base_of}
 use Rattle.btf_codec.specs.declared.table.TableOut.{TableOut}
 use Rattle.c_model.specs.Graph.{Shape, IsSound}
 use Rattle.c_model.specs.Kinds.{IsWellFormed}
-use Rattle.c_model.specs.Forwards.{HasFittingForwards}
+use Rattle.c_model.specs.Forwards.{HasFittingForwards, KeepsForwards}
 use Rattle.c_model.specs.declared.graph.CType.{CType}
 use Rattle.split_base.specs.Table.{own_types, table_of}
 use Rattle.split_base.specs.Merged.{IsMerged}
@@ -22,7 +22,7 @@ use Rattle.pahole_run.specs.declared.refusal.Ended.{Ended}
 use Rattle.pahole_run.specs.declared.refusal.Ended.TheVariants.{Refused, Read, Store, Memory}
 use Rattle.pahole_run.specs.Layers.{of_table, seen_as}
 use Rattle.pahole_run.specs.Files.{alone, graph_in, order_in}
-use Rattle.pahole_run.specs.Tables.{names_of, btf_of, AreSpelled, Represents, TheTable}
+use Rattle.pahole_run.specs.Tables.{names_of, btf_of, AreSpelled, TheTable}
 use Rattle.pahole_run.specs.Refusals.{first, graph_checks, table_checks, file_checks, nodes_unless, made_nodes}
 use Rattle.pahole_run.specs.Steps.{Tells, IsOwn, Knows, IsPartedBy, IsWritable, MakesTable, Makes}
 use Rattle.pahole_run.proofs.LoadLemmas.{part_told}
@@ -186,30 +186,32 @@ knows P (Err (Read i)) p = tt
 knows P (Err Store) p = p
 knows P (Err Memory) p = tt
 
-merged_by :
+abbrev merged_by :
     (nodes : List CType) (p : List ℕ) → IsPartedBy (alone nodes) p → IsMerged (alone nodes) (table_of (alone nodes) p)
 merged_by nodes p parted =
     record { index = parted.index; partition = p; forwards = parted.forwards; coarsest = parted.coarsest; table = refl }
 
 the_table :
     (nodes types : List CType)
-    → IsSound 0 nodes → HasFittingForwards (alone nodes) → IsMerged (alone nodes) types → TheTable nodes
-the_table nodes types sound fitting merged =
+    → IsSound 0 nodes → HasFittingForwards (alone nodes) → (m : IsMerged (alone nodes) types)
+    → KeepsForwards (alone nodes) m.index m.partition → TheTable nodes
+the_table nodes types sound fitting merged keeps =
     record {
       types = types;
       merged = merged;
-      represents = represented nodes types sound fitting merged;
+      represents = represented nodes types sound fitting merged keeps;
       only = λ others m. one_table (alone nodes) sound others types m merged;
     }
 
 table_alone :
     (limits : Limits) (files : List (List ℕ)) (nodes these : List CType) (result : Result TableOut Ended)
     → first (graph_checks limits files) ≡ None → made_nodes limits files ≡ nodes
-    → IsSound 0 nodes → HasFittingForwards (alone nodes) → IsMerged (alone nodes) these
+    → IsSound 0 nodes → HasFittingForwards (alone nodes) → (m : IsMerged (alone nodes) these)
+    → KeepsForwards (alone nodes) m.index m.partition
     → Tells (first (table_checks these)) (λ (t : TableOut). t.types ≡ these) result
     → IsOwn result
     → MakesTable limits files result
-table_alone limits files nodes these result none is sound fitting merged told own =
+table_alone limits files nodes these result none is sound fitting merged keeps told own =
     record {
       told =
           λ types m.
@@ -221,7 +223,7 @@ table_alone limits files nodes these result none is sound fitting merged told ow
           told);
       table =
           knows (TheTable (made_nodes limits files)) result
-          (subst TheTable (sym is) (the_table nodes these sound fitting merged));
+          (subst TheTable (sym is) (the_table nodes these sound fitting merged keeps));
       own = own;
     }
 
@@ -236,9 +238,10 @@ table_made limits files g p result base none is sound fitting parted told own =
     let nodes : made_nodes limits files ≡ g.nodes =
     ap (λ (q : Option Refusal). nodes_unless q (graph_in limits files)) none ∙ ap (nodes_unless None) is in
     let same : g ≡ alone g.nodes = sym (alone_is g base) in
+    let parted_alone : IsPartedBy (alone g.nodes) p = subst (λ (s : Shape). IsPartedBy s p) same parted in
     table_alone limits files g.nodes (table_of (alone g.nodes) p) result none nodes
     (subst (λ (b : ℕ). IsSound b g.nodes) base sound) (subst HasFittingForwards same fitting)
-    (merged_by g.nodes p (subst (λ (s : Shape). IsPartedBy s p) same parted))
+    (merged_by g.nodes p parted_alone) parted_alone.keeps
     (subst
     (λ (s : Shape). Tells (first (table_checks (table_of s p))) (λ (t : TableOut). t.types ≡ table_of s p) result) same told)
     own

@@ -1,6 +1,6 @@
 -- What loaded files hold, step by step. Each file is the list of its bytes. All of these are total: where a file is
 -- refused it has no units, and where the graph is refused it has no nodes.
-use Rattle.std.specs.Prelude.{ℕ, ◌+◌, ◌==◌, ◌&&◌, Bool, true, false, List, [], ◌∷◌, ◌++◌, map, Option, None, Some, Result, if◌then◌else◌}
+use Rattle.std.specs.Prelude.{ℕ, ◌+◌, ◌&&◌, Bool, true, false, List, [], ◌∷◌, ◌++◌, map, Result}
 use Rattle.std.specs.Result.{result_unwrap_or}
 use Rattle.dw_base.specs.declared.numbers.Order.{Order}
 use Rattle.dw_base.specs.declared.numbers.Order.TheVariants.{Little, Big}

@@ -1,5 +1,5 @@
 -- The faults of the layers as ends of a run: the number of each, its place, and the values that it keeps.
-use Rattle.std.specs.Prelude.{ℕ, ℤ, Option, None, Some, option_and_then}
+use Rattle.std.specs.Prelude.{ℕ, Option, None, Some, option_and_then}
 use Rattle.dw_base.specs.declared.places.Section.{Section}
 use Rattle.dw_base.specs.declared.places.Section.TheVariants as sections
 use Rattle.elf_sections.specs.Names.{number_of_kind}

@@ -1,5 +1,5 @@
 -- What the steps of a task say.
-use Rattle.std.specs.Prelude.{ℕ, ◌-◌, ◌^◌, ◌≡◌, ◌≢◌, ◌⊎◌, IfSome, IfOk, OnOk, true, false, ◌+◌, ◌≤◌, ◌<◌, ◌*◌, List, length, drop, All, sum_by, Option, None, Some, Result, Ok, Err, IsSome}
+use Rattle.std.specs.Prelude.{ℕ, ◌-◌, ◌^◌, ◌≡◌, ◌≢◌, IfSome, IfOk, OnOk, ◌+◌, ◌≤◌, ◌<◌, ◌*◌, List, length, All, sum_by, Option, None, Some, Result, Ok, Err, IsSome}
 use Rattle.std.specs.List.{flat_map}
 use Rattle.std.specs.Option.{ForSome}
 use Rattle.std.specs.Global.{Vec}
@@ -16,7 +16,7 @@ use Rattle.btf_codec.specs.Fields.{fields_of}
 use Rattle.btf_codec.specs.Spelling.{HasOffsets}
 use Rattle.btf_codec.specs.declared.table.TableOut.{TableOut}
 use Rattle.c_model.specs.Graph.{Shape, RefersWithin}
-use Rattle.c_model.specs.Forwards.{IsForwardIndex, IsCoarsestWith}
+use Rattle.c_model.specs.Forwards.{IsForwardIndex, IsCoarsestWith, KeepsForwards}
 use Rattle.c_model.specs.Kinds.{IsWellFormed}
 use Rattle.c_model.specs.declared.graph.CType.{CType}
 use Rattle.split_base.specs.Merged.{IsMerged}
@@ -181,6 +181,7 @@ pub record IsPartedBy (g : Shape) (p : List ℕ) : Type 0 where
   pub index : List (List ℕ)
   pub forwards : IsForwardIndex g index
   pub coarsest : IsCoarsestWith g index p
+  pub keeps : KeepsForwards g index p
 
 -- a table without a base that can be written
 pub record IsWritable (t : TableOut) : Type 0 where

@@ -4,6 +4,7 @@ use Rattle.dw_base.specs.declared.numbers.Order.{Order}
 use Rattle.btf_strings.specs.Names.{own_section}
 use Rattle.btf_codec.specs.Spells.{Spells}
 use Rattle.btf_codec.specs.Spelling.{spelling_of}
+use Rattle.c_model.specs.Forwards.{KeepsForwards}
 use Rattle.c_model.specs.Unfolding.{unfold_with, unfold_id}
 use Rattle.c_model.specs.declared.graph.CType.{CType}
 use Rattle.split_base.specs.Table.{id_of}
@@ -27,7 +28,8 @@ pub record AreSpelled (order : Order) (types : List CType) : Type 0 where
       → (others ≡ types) × (names ≡ names_of types)
 
 -- what a table says of the nodes that are merged to it: two of them share an id exactly where the partition relates
--- them, and each of them, unfolded to any depth, is its id's unfolding in the table
+-- them; each of them, unfolded to any depth, is its id's unfolding in the table; and an open forward is with its
+-- definitions exactly where these are of one class
 pub record Represents (nodes types : List CType) (index : List (List ℕ)) (p : List ℕ) : Type 0 where
   pub shares :
       (x y : ℕ) → x < length nodes → y < length nodes
@@ -35,6 +37,7 @@ pub record Represents (nodes types : List CType) (index : List (List ℕ)) (p : 
   pub unfolds :
       (n x : ℕ) → x < length nodes
       → unfold_id types n (id_of (alone nodes) p x) ≡ Some (unfold_with nodes index p n x)
+  pub keeps : KeepsForwards (alone nodes) index p
 
 -- the one table that some nodes are merged to
 pub record TheTable (nodes : List CType) : Type 0 where

@@ -1,6 +1,5 @@
 -- What a job asks for.
 use Rattle.std.specs.Prelude.{ℕ, List, [], Option, None, Some}
-use Rattle.dw_base.specs.declared.places.Section.TheVariants.{Table}
 use Rattle.command_line.specs.declared.job.Job.{Job}
 use Rattle.command_line.specs.declared.job.Job.TheVariants.{Encode, Show, Selfmade}
 use Rattle.pahole_run.specs.declared.refusal.Refusal.{Refusal}

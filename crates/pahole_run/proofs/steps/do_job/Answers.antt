@@ -1,4 +1,4 @@
-use Rattle.std.proofs.Common.{◌≡◌, refl, sym, ◌∙◌}
+use Rattle.std.proofs.Common.{refl, sym, ◌∙◌}
 use Rattle.pahole_run.proofs.DoneLemmas.{done_later, done_over_base}
 use Rattle.pahole_run.proofs.steps.do_job.Goals as goal
 
