@@ -2,8 +2,6 @@
 //! stores with what the case's folder says (`data/README.md`).
 #![tactic(auto)]
 
-ghost use Rattle.std.specs.Prelude.{◌<◌, ◌^◌, ◌×◌};
-
 mod case;
 mod hex;
 mod read;
