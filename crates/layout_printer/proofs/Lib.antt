@@ -1,0 +1,5 @@
+pub mod Scaling
+pub mod Holes
+pub mod Chains
+pub mod Placed
+pub mod Adding
