@@ -6,11 +6,14 @@
 
 pub mod laws;
 mod lookups;
+mod pieces;
 pub mod placing;
 pub mod sizes;
 pub mod slots;
+pub mod texts;
 
 pub use laws::bits_add_up;
 pub use placing::layout;
 pub use sizes::pointer_of;
 pub use slots::{LayoutFault, Slot, Slots, TypeLayout};
+pub use texts::sizes_line;
