@@ -26,7 +26,7 @@ pub is_past-farthest : (ss : List Slot) (b : ℕ) → is_past ss b ≡ leb (fart
 is_past-farthest [] b = sym (le-leb 0 b (omega arith))
 is_past-farthest (s ∷ ss) b = ap (λ t. leb (end_of s) b && t) (is_past-farthest ss b) ∙ leb_max (end_of s) (farthest ss) b
 
-range_push : (n : ℕ) → range_with_len 0 (n + 1) ≡ range_with_len 0 n ++ n ∷ []
+pub range_push : (n : ℕ) → range_with_len 0 (n + 1) ≡ range_with_len 0 n ++ n ∷ []
 range_push n = sym (map-id (range_with_len 0 (n + 1))) ∙ map-range_with_len_more (λ x. x) 0 n n (zero-add n) ∙ ap (λ l. l ++ n ∷ []) (map-id (range_with_len 0 n))
 
 one_more : (f n : ℕ) → n - f + cond (leb f n) 1 0 ≡ suc n - f

@@ -1,7 +1,7 @@
 -- Pieces of text.
 use Rattle.std.specs.Prelude.{ℕ, ◌-◌, List, [], ◌∷◌, ◌++◌, decimal, replicate, length}
 use Rattle.layout_printer.specs.declared.pieces.Piece.{Piece}
-use Rattle.layout_printer.specs.declared.pieces.Piece.TheVariants.{Text, Left, Number, Right}
+use Rattle.layout_printer.specs.declared.pieces.Piece.TheVariants.{Text, Left, Number, Wide, Right}
 
 -- so many spaces
 abbrev pub spaces : ℕ → List ℕ
@@ -19,6 +19,7 @@ abbrev pub text_of : Piece → List ℕ
 text_of (Text bytes) = bytes.now
 text_of (Left bytes width) = left bytes.now width
 text_of (Number n) = decimal n
+text_of (Wide n) = decimal n
 text_of (Right n width) = right n width
 
 abbrev pub texts : List Piece → List ℕ

@@ -4,16 +4,20 @@
 //! the bits behind all members. The text is that of pahole(1), in this project's profile.
 #![tactic(auto)]
 
+mod declaration;
 pub mod laws;
+mod lines;
 mod lookups;
 mod pieces;
 pub mod placing;
+mod shapes;
 pub mod sizes;
 pub mod slots;
+mod summary;
 pub mod texts;
 
 pub use laws::bits_add_up;
 pub use placing::layout;
 pub use sizes::pointer_of;
 pub use slots::{LayoutFault, Slot, Slots, TypeLayout};
-pub use texts::sizes_line;
+pub use texts::{sizes_line, text};

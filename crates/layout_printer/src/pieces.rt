@@ -13,7 +13,9 @@ pub enum Piece<'a> {
     /// These bytes, and spaces up to a width behind them.
     Left(&'a [u8], usize),
     /// A number in decimal.
-    Number(u128),
+    Number(u64),
+    /// A number in decimal that may pass 64 bits.
+    Wide(u128),
     /// A number in decimal, and spaces up to a width before it.
     Right(u64, usize),
 }
@@ -45,11 +47,19 @@ fn put_piece(out: &mut Vec<u8>, piece: &Piece<'_>) -> Result<(), AllocError>
             put_spaces(out, width.saturating_sub(bytes.len()))
         }
         Piece::Number(number) => put_number(out, *number),
+        Piece::Wide(number) => put_wide(out, *number),
         Piece::Right(number, width) => put_right(out, *number, *width),
     }
 }
 
-fn put_number(out: &mut Vec<u8>, number: u128) -> Result<(), AllocError>
+fn put_number(out: &mut Vec<u8>, number: u64) -> Result<(), AllocError>
+    ensures { OnOk result (out.new.items ≡ out.old.items ++ decimal number) }
+{
+    let mut buffer = Buffer::new();
+    out.extend_from_slice(buffer.format(number).as_bytes())
+}
+
+fn put_wide(out: &mut Vec<u8>, number: u128) -> Result<(), AllocError>
     ensures { OnOk result (out.new.items ≡ out.old.items ++ decimal number) }
 {
     let mut buffer = Buffer::new();
