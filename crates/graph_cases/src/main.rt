@@ -99,18 +99,26 @@ fn made_agree<R: Print>(rt: &R, alloc: Global) -> Result<bool, Error> {
     Ok(differ == 0)
 }
 
+/// The word for whether something holds.
+fn said(holds: bool) -> &'static str {
+    if holds { "yes" } else { "no" }
+}
+
 /// The graphs at the limits of size.
 fn limits_hold<R: Print>(rt: &R, alloc: Global) -> Result<bool, Error> {
     let rounds = empty_rounds(alloc)?;
-    println!(rt; "empty graph: {:?} rounds", rounds)?;
+    match rounds {
+        Some(rounds) => println!(rt; "empty graph: {rounds} rounds")?,
+        None => println!(rt; "empty graph: it has classes")?,
+    }
     let ring = ring_has_two_classes(alloc, 1000)?;
     println!(rt;
-        "ring of 1000 pointers among equal structures: two classes {}",
-        ring
+        "ring of 1000 pointers among equal structures, two classes: {}",
+        said(ring)
     )?;
     let ints = ints_of_sizes(alloc, 1 << 20)?;
     let apart = all_differ(alloc, &ints)?;
-    println!(rt; "1048576 sizes of INT: all differ {}", apart)?;
+    println!(rt; "1048576 sizes of INT, all differ: {}", said(apart))?;
     let table = ints_table(alloc, &ints)?;
     println!(rt; "  their table: {:?}", table)?;
     let most = long_name_table(alloc, 16_777_213)?;

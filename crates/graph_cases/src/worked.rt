@@ -1,5 +1,7 @@
 //! Graphs whose coarsest partition is known from C's rules for compatible types, by hand.
-use crate::rows::{ENUM, FWD, Head, INT, PTR, Piece, Row, STRUCT, Table, UNION, bare, parted};
+use crate::rows::{
+    ENUM, FWD, Head, INT, PTR, Piece, Row, STRUCT, TYPEDEF, Table, UNION, bare, parted,
+};
 use c_model::Ref;
 use std::alloc::{AllocError, Global};
 
@@ -111,6 +113,12 @@ const BITS_AT_5: &[Piece] = &[Piece {
     value: 0x300_0005,
 }];
 
+/// Two types `int` of different sizes.
+fn ints_of_two_sizes(alloc: Global) -> Result<Worked, AllocError> {
+    let long: Entry = (bare(INT, b"int", 8), &[]);
+    stated(alloc, "ints of two sizes", 0, &[int(), long], &[0, 1])
+}
+
 /// A pointer to itself in each of two units.
 fn pointers_to_themselves(alloc: Global) -> Result<Worked, AllocError> {
     let entries = [pointer(&[0]), pointer(&[1])];
@@ -195,6 +203,22 @@ fn declared_in_a_base(alloc: Global) -> Result<Worked, AllocError> {
     stated(alloc, "declared in a base", 2, &entries, &[0, 1, 2, 3, 4])
 }
 
+/// A base with a structure of two pointers to itself, two units with the same, and a typedef of it in the first.
+fn list_heads_over_a_base(alloc: Global) -> Result<Worked, AllocError> {
+    let typedef: Entry = (bare(TYPEDEF, b"lh", 0), &[2]);
+    let entries = [
+        structure(b"list_head", 16, NEXT_AND_PREV, &[1, 1]),
+        pointer(&[0]),
+        structure(b"list_head", 16, NEXT_AND_PREV, &[3, 3]),
+        pointer(&[2]),
+        typedef,
+        structure(b"list_head", 16, NEXT_AND_PREV, &[6, 6]),
+        pointer(&[5]),
+    ];
+    let want = [0, 1, 0, 1, 2, 0, 1];
+    stated(alloc, "list heads over a base", 2, &entries, &want)
+}
+
 /// A base with two different structures of a name closes the file's declaration of it.
 fn closed_by_a_base(alloc: Global) -> Result<Worked, AllocError> {
     let entries = [
@@ -240,6 +264,7 @@ fn sorts_of_tags(alloc: Global) -> Result<Worked, AllocError> {
 /// All of them.
 pub fn worked_graphs(alloc: Global) -> Result<Vec<Worked>, AllocError> {
     let mut all = Vec::new(alloc);
+    all.push(ints_of_two_sizes(alloc)?)?;
     all.push(pointers_to_themselves(alloc)?)?;
     all.push(list_heads(alloc)?)?;
     all.push(bit_fields(alloc)?)?;
@@ -247,6 +272,7 @@ pub fn worked_graphs(alloc: Global) -> Result<Vec<Worked>, AllocError> {
     all.push(through_declarations(alloc)?)?;
     all.push(two_definitions(alloc)?)?;
     all.push(declared_in_a_base(alloc)?)?;
+    all.push(list_heads_over_a_base(alloc)?)?;
     all.push(closed_by_a_base(alloc)?)?;
     all.push(open_beside_a_base(alloc)?)?;
     all.push(sorts_of_tags(alloc)?)?;
