@@ -17,7 +17,7 @@ mod words;
 pub mod writer;
 
 pub use fault::BtfFault;
-pub use laws::spelled_once;
+pub use laws::{spelled_once, written_is_read};
 pub use reader::read;
 pub use table::{Table, TableOut};
 pub use writer::write;
