@@ -8,6 +8,8 @@ pub mod laws;
 mod layout;
 mod pieces;
 pub mod reader;
+#[cfg(test)]
+mod reader_tests;
 mod shared;
 mod shown;
 pub mod table;
