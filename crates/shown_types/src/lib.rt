@@ -1,0 +1,12 @@
+//! Which types of a table are shown, and the whole text of them.
+//!
+//! A structure or union is shown by its name, and one without a name by the typedefs of it.
+#![tactic(auto)]
+
+pub mod choosing;
+pub mod fault;
+pub mod listed;
+pub mod showing;
+
+pub use fault::ShowFault;
+pub use showing::{Style, show};
