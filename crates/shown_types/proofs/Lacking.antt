@@ -99,11 +99,11 @@ pub laid_out :
     → (no_size types pointer x ≡ None) × IsShown types pointer x shown
 laid_out types pointer x s shown is l = (
   no_size_at types pointer x s l.t is l.found
-  ∙ ap (λ (o : Option ℕ). option_map (λ (k : ℕ). id_of (target_at l.t.targets k)) o)
-  (find_none (lacks types pointer l.t) 0 (length l.t.label.parts)
-  (λ k le lt.
-  let at : IsSlotAt types pointer l.t shown.slots k = l.slots.each k (omega arith) in
-  lacks_not types pointer l.t k at.slot.bits at.part at.here at.is.bits)),
+      ∙ ap (λ (o : Option ℕ). option_map (λ (k : ℕ). id_of (target_at l.t.targets k)) o)
+      (find_none (lacks types pointer l.t) 0 (length l.t.label.parts)
+      (λ k le lt.
+      let at : IsSlotAt types pointer l.t shown.slots k = l.slots.each k (omega arith) in
+      lacks_not types pointer l.t k at.slot.bits at.part at.here at.is.bits)),
   record { structure = s; is = is; layout = l },
 )
 

@@ -47,9 +47,9 @@ abbrev pub has_holes : Style → ℕ × TypeLayout → Bool
 has_holes style p = nat_le style.holes (layout.byte_holes p.1.slots)
 
 -- the text of a type: its line, or its structure
-abbrev pub piece : List CType → Style → ℕ × TypeLayout → List ℕ
+unfoldable pub piece : List CType → Style → ℕ × TypeLayout → List ℕ
 piece types style p =
-    if style.sizes then layout.sizes_line types (suc p.0) p.1 else layout.text types (suc p.0) p.1 style.line
+    if style.sizes then layout.sizes_line types (suc p.0) p.1 else layout.text_of types (suc p.0) p.1 style.line
 
 -- between two structures is an empty line
 abbrev pub separator : Style → List ℕ

@@ -6,7 +6,10 @@
 pub mod choosing;
 pub mod fault;
 pub mod listed;
+mod shared;
 pub mod showing;
+#[cfg(test)]
+mod tests;
 
 pub use fault::ShowFault;
 pub use showing::{Style, show};

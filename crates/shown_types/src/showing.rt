@@ -1,5 +1,5 @@
 //! The text of the types that are shown.
-ghost use Rattle.std.specs.Prelude.{◌≡◌, ◌-◌, ◌⊎◌, ◌<◌, ◌≤◌, ◌^◌, IsTrue, All, length, IfOk, IfSome};
+ghost use Rattle.std.specs.Prelude.{◌≡◌, ◌-◌, ◌⊎◌, ◌<◌, ◌^◌, IsTrue, All, length, IfOk, IfSome};
 ghost use Rattle.std.specs.Option.{option_copied};
 ghost use Rattle.c_model.specs.Graph.{RefersWithin};
 ghost use Rattle.layout_printer.specs.Text.{byte_holes};
@@ -42,7 +42,7 @@ pub fn show(
     requires within { RefersWithin (length table.now.types) table.now.types }
     requires pointer { (pointer ≡ 4) ⊎ (pointer ≡ 8) }
     requires names { IfSome (option_copied names) (λ ns. length ns < 2 ^ 32) }
-    requires line { 1 ≤ style.line }
+    requires line { 0 < style.line }
     ensures { Shows table.now.types table.now.base pointer (option_copied names.entry) style result }
 {
     let places = choose(alloc, table.types.items(), table.base, names)?;
@@ -60,7 +60,7 @@ fn show_places(
     requires few { length table.now.types < 2 ^ 32 }
     requires within { RefersWithin (length table.now.types) table.now.types }
     requires pointer { (pointer ≡ 4) ⊎ (pointer ≡ 8) }
-    requires line { 1 ≤ style.line }
+    requires line { 0 < style.line }
     requires listed { All (λ x. IsTrue (is_listed table.now.types x)) places.now }
     ensures { ShowsPlaces table.now.types pointer style places.now result }
 {
@@ -118,7 +118,7 @@ fn put_shown(
     shown: &TypeLayout,
     started: bool,
 ) -> Result<bool, AllocError>
-    requires line { 1 ≤ style.line }
+    requires line { 0 < style.line }
     requires few { x < 2 ^ 32 - 1 }
     ensures { IfOk result (λ now. PutsPiece table.now.types style (x, shown.now) started out.old.items out.new.items now) }
 {
@@ -134,6 +134,7 @@ fn put_shown(
 }
 
 /// The text of a type.
+#[tactic(auto, unfolding(crate::specs::Shown::piece))]
 fn piece(
     alloc: Global,
     table: &Table<'_>,
@@ -141,7 +142,7 @@ fn piece(
     x: u32,
     shown: &TypeLayout,
 ) -> Result<Bytes, AllocError>
-    requires line { 1 ≤ style.line }
+    requires line { 0 < style.line }
     requires few { x < 2 ^ 32 - 1 }
     ensures { IfOk result (λ b. b ≡ piece table.now.types style (x, shown.now)) }
 {
