@@ -1,0 +1,4 @@
+pub mod Ranges
+pub mod Lacking
+pub mod Texts
+pub mod Choices

@@ -1,0 +1,110 @@
+-- The whole text of what is shown, and why nothing is. A place is a type's number from 0; its id is one more.
+use Rattle.std.specs.Prelude.{ℕ, suc, ◌≡◌, ◌++◌, ◌==◌, ◌||◌, not, nat_le, is_none, Bool, true, List, [], ◌∷◌, length, map, All, ⊤, slice_get, find, Option, None, Some, Result, Ok, Err, if◌then◌else◌}
+use Rattle.std.specs.Global.{Vec}
+use Rattle.std.specs.List.{filter, flat_map, range_with_len}
+use Rattle.std.specs.Option.{option_and_then, option_map, option_map_or, option_or}
+use Rattle.btf_codec.specs.Fields.{id_of, target_at}
+use Rattle.c_model.specs.declared.label.Part.{Part}
+use Rattle.c_model.specs.declared.graph.CType.{CType}
+use Rattle.layout_printer.specs.Layout.{bits_of, IsLayout}
+use Rattle.layout_printer.specs.Text as layout
+use Rattle.layout_printer.specs.declared.slots.TypeLayout.{TypeLayout}
+use Rattle.shown_types.specs.Listed.{structure_at, chosen, missing}
+use Rattle.shown_types.specs.declared.fault.ShowFault.{ShowFault}
+use Rattle.shown_types.specs.declared.fault.ShowFault.TheVariants.{NoName, NoSize, Memory}
+use Rattle.shown_types.specs.declared.showing.Style.{Style}
+
+-- the offset word of a member
+abbrev pub value_at : List Part → ℕ → ℕ
+value_at parts k = option_map_or (λ (p : Part). p.value) (slice_get parts k) 0
+
+-- a member's type has no size; bit fields need none
+abbrev pub lacks : List CType → ℕ → CType → ℕ → Bool
+lacks types pointer t k = is_none (bits_of types pointer t.label.flag (value_at t.label.parts k) (target_at t.targets k))
+
+-- the id of the type of a structure's first member without a size
+abbrev pub lacking_of : List CType → ℕ → CType → Option ℕ
+lacking_of types pointer t =
+    option_map (λ (k : ℕ). id_of (target_at t.targets k)) (find (lacks types pointer t) (range_with_len 0 (length t.label.parts)))
+
+-- the same of the structure that the type in a place shows
+unfoldable pub no_size : List CType → ℕ → ℕ → Option ℕ
+no_size types pointer x = option_and_then (lacking_of types pointer) (option_and_then (slice_get types) (structure_at types x))
+
+-- and of the first place that has one
+abbrev pub first_no_size : List CType → ℕ → List ℕ → Option ℕ
+first_no_size types pointer [] = None
+first_no_size types pointer (x ∷ xs) = option_or (no_size types pointer x) (first_no_size types pointer xs)
+
+-- the layout of the structure that the type in a place shows
+pub record IsShown (types : List CType) (pointer x : ℕ) (shown : TypeLayout) : Type 0 where
+  pub structure : ℕ
+  pub is : structure_at types x ≡ Some structure
+  pub layout : IsLayout types pointer (suc structure) shown
+
+-- a layout has as many holes of whole bytes as are asked for
+abbrev pub has_holes : Style → ℕ × TypeLayout → Bool
+has_holes style p = nat_le style.holes (layout.byte_holes p.1.slots)
+
+-- the text of a type: its line, or its structure
+unfoldable pub piece : List CType → Style → ℕ × TypeLayout → List ℕ
+piece types style p =
+    if style.sizes then layout.sizes_line types (suc p.0) p.1 else layout.text_of types (suc p.0) p.1 style.line
+
+-- between two structures is an empty line
+abbrev pub separator : Style → List ℕ
+separator style = if style.sizes then [] else 10 ∷ []
+
+abbrev pub joined_by : List ℕ → List (List ℕ) → List ℕ
+joined_by between [] = []
+joined_by between (x ∷ xs) = x ++ flat_map (λ (y : List ℕ). between ++ y) xs
+
+abbrev pub whole : List CType → Style → List (ℕ × TypeLayout) → List ℕ
+whole types style pairs = joined_by (separator style) (map (piece types style) (filter (has_holes style) pairs))
+
+-- the text of some places: each with its layout
+pub record IsText (types : List CType) (pointer : ℕ) (style : Style) (places text : List ℕ) : Type 0 where
+  pub pairs : List (ℕ × TypeLayout)
+  pub places_are : map (λ (p : ℕ × TypeLayout). p.0) pairs ≡ places
+  pub each : All (λ (p : ℕ × TypeLayout). IsShown types pointer p.0 p.1) pairs
+  pub text_is : text ≡ whole types style pairs
+
+-- what is put before and for a type, where it has holes enough; and whether a text has started then
+abbrev pub put_for : List CType → Style → ℕ × TypeLayout → Bool → List ℕ
+put_for types style p started =
+    if has_holes style p then (if started then separator style else []) ++ piece types style p else []
+
+pub record PutsPiece (types : List CType) (style : Style) (p : ℕ × TypeLayout) (started : Bool) (old new : List ℕ) (now : Bool) : Type 0 where
+  pub text_is : new ≡ old ++ put_for types style p started
+  pub started_is : now ≡ (started || has_holes style p)
+
+-- what choosing answers
+abbrev pub Chooses : List CType → ℕ → Option (List (List ℕ)) → Result (Vec ℕ) ShowFault → Type 0
+Chooses types from names (Ok v) = (missing types names ≡ None) × (v.items ≡ chosen types from names)
+Chooses types from names (Err (NoName k)) = missing types names ≡ Some k
+Chooses types from names (Err (NoSize n)) = ⊥
+Chooses types from names (Err Memory) = ⊤
+
+-- what a layout of a place answers
+abbrev pub LaysOut : List CType → ℕ → ℕ → Result TypeLayout ShowFault → Type 0
+LaysOut types pointer x (Ok shown) = (no_size types pointer x ≡ None) × IsShown types pointer x shown
+LaysOut types pointer x (Err (NoName k)) = ⊥
+LaysOut types pointer x (Err (NoSize n)) = no_size types pointer x ≡ Some n
+LaysOut types pointer x (Err Memory) = ⊤
+
+-- what showing some places answers
+abbrev pub ShowsPlaces : List CType → ℕ → Style → List ℕ → Result (List ℕ) ShowFault → Type 0
+ShowsPlaces types pointer style places (Ok text) = (first_no_size types pointer places ≡ None) × IsText types pointer style places text
+ShowsPlaces types pointer style places (Err (NoName k)) = ⊥
+ShowsPlaces types pointer style places (Err (NoSize n)) = first_no_size types pointer places ≡ Some n
+ShowsPlaces types pointer style places (Err Memory) = ⊤
+
+-- what showing answers: the text, or the first name that nothing has, or else the first member without a size
+abbrev pub Shows : List CType → ℕ → ℕ → Option (List (List ℕ)) → Style → Result (List ℕ) ShowFault → Type 0
+Shows types from pointer names style (Ok text) =
+    (missing types names ≡ None) × (first_no_size types pointer (chosen types from names) ≡ None)
+    × IsText types pointer style (chosen types from names) text
+Shows types from pointer names style (Err (NoName k)) = missing types names ≡ Some k
+Shows types from pointer names style (Err (NoSize n)) =
+    (missing types names ≡ None) × (first_no_size types pointer (chosen types from names) ≡ Some n)
+Shows types from pointer names style (Err Memory) = ⊤

@@ -1,0 +1,50 @@
+//! The choice of types by name.
+ghost use Rattle.std.specs.Prelude.{◌≡◌, ◌<◌, ◌≤◌, ◌^◌, length, IfSome, Some};
+ghost use Rattle.std.specs.Option.{option_copied};
+ghost use Rattle.shown_types.specs.Shown.{Chooses};
+
+use crate::fault::ShowFault;
+use crate::listed::{listed, push_named};
+use c_model::CType;
+use command_line::Text;
+use std::alloc::Global;
+
+/// The places of the types that are shown: those of the names, or all from a place on that can be shown.
+pub fn choose(
+    alloc: Global,
+    types: &[CType<'_>],
+    from: u32,
+    names: Option<&[Text]>,
+) -> Result<Vec<u32>, ShowFault>
+    requires types { length types.now < 2 ^ 32 }
+    requires names { IfSome (option_copied names) (λ ns. length ns < 2 ^ 32) }
+    ensures { Chooses types.now from (option_copied names.entry) result }
+{
+    match names {
+        None => Ok(listed(alloc, types, from)?),
+        Some(names) => choose_named(alloc, types, from, names),
+    }
+}
+
+/// Those of the names.
+fn choose_named(
+    alloc: Global,
+    types: &[CType<'_>],
+    from: u32,
+    names: &[Text],
+) -> Result<Vec<u32>, ShowFault>
+    requires types { length types.now < 2 ^ 32 }
+    requires names { length names.now < 2 ^ 32 }
+    ensures { Chooses types.now from (Some names.now) result }
+{
+    let _ = from;
+    let mut all = Vec::new(alloc);
+    for i in 0..names.len() {
+        let before = all.len();
+        push_named(&mut all, types, names[i].as_str().as_bytes())?;
+        if all.len() == before {
+            return Err(ShowFault::NoName(i as u32));
+        }
+    }
+    Ok(all)
+}

@@ -1,0 +1,15 @@
+//! Which types of a table are shown, and the whole text of them.
+//!
+//! A structure or union is shown by its name, and one without a name by the typedefs of it.
+#![tactic(auto)]
+
+pub mod choosing;
+pub mod fault;
+pub mod listed;
+mod shared;
+pub mod showing;
+#[cfg(test)]
+mod tests;
+
+pub use fault::ShowFault;
+pub use showing::{Style, show};

@@ -1,0 +1,125 @@
+//! Which types can be shown.
+ghost use Rattle.std.specs.Prelude.{◌≡◌, ◌++◌, ◌<◌, ◌^◌, length, IfOk, OnOk, [], ◌∷◌, if◌then◌else◌};
+ghost use Rattle.btf_codec.specs.Fields.{target_at};
+ghost use Rattle.std.specs.Str.{bytes_eq};
+ghost use Rattle.shown_types.specs.Listed.{is_structure, is_named, nameless_at, structure_by, structure_at, is_listed, listed, name_at, has_name, places_named};
+
+use c_model::{CType, Ref};
+use std::alloc::{AllocError, Global};
+
+const STRUCT: u8 = 4;
+
+const UNION: u8 = 5;
+
+const TYPEDEF: u8 = 8;
+
+fn is_structure(t: &CType<'_>) -> bool
+    ensures { result ≡ is_structure t.now }
+{
+    t.label.kind == STRUCT || t.label.kind == UNION
+}
+
+fn is_named(t: &CType<'_>) -> bool
+    ensures { result ≡ is_named t.now }
+{
+    !t.label.name.bytes().is_empty()
+}
+
+fn first_target(t: &CType<'_>) -> Ref
+    ensures { result ≡ target_at t.now.targets 0 }
+{
+    match t.targets.items().get(0) {
+        Some(r) => *r,
+        None => Ref::Void,
+    }
+}
+
+/// The place of a structure or union without a name.
+fn nameless_at(types: &[CType<'_>], r: Ref) -> Option<u32>
+    ensures { result ≡ nameless_at types.now r }
+{
+    match r {
+        Ref::Void => None,
+        Ref::Node(y) => match types.get(y as usize) {
+            None => None,
+            Some(t) => {
+                if is_structure(t) && !is_named(t) {
+                    Some(y)
+                } else {
+                    None
+                }
+            }
+        },
+    }
+}
+
+fn structure_by(types: &[CType<'_>], x: u32, t: &CType<'_>) -> Option<u32>
+    ensures { result ≡ structure_by types.now x t.now }
+{
+    if is_structure(t) {
+        return if is_named(t) { Some(x) } else { None };
+    }
+    if t.label.kind == TYPEDEF {
+        return nameless_at(types, first_target(t));
+    }
+    None
+}
+
+/// The place of the structure or union that the type in a place shows: its own, or that of its target.
+pub fn structure_at(types: &[CType<'_>], x: u32) -> Option<u32>
+    ensures { result ≡ structure_at types.now x }
+{
+    match types.get(x as usize) {
+        None => None,
+        Some(t) => structure_by(types, x, t),
+    }
+}
+
+/// Adds a place where a condition holds.
+fn push_if(all: &mut Vec<u32>, holds: bool, x: u32) -> Result<(), AllocError>
+    ensures { OnOk result (all.new.items ≡ all.old.items ++ (if holds then x ∷ [] else [])) }
+{
+    if holds {
+        all.push(x)?;
+    }
+    Ok(())
+}
+
+/// The places of all types from one on that can be shown.
+pub fn listed(alloc: Global, types: &[CType<'_>], from: u32) -> Result<Vec<u32>, AllocError>
+    requires { length types.now < 2 ^ 32 }
+    ensures { IfOk result (λ v. v.items ≡ listed types.now from) }
+{
+    let mut all = Vec::new(alloc);
+    for x in from..types.len() as u32 {
+        push_if(&mut all, structure_at(types, x).is_some(), x)?;
+    }
+    Ok(all)
+}
+
+/// Whether the type in a place can be shown and has a name.
+fn has_name(types: &[CType<'_>], x: u32, name: &[u8]) -> bool
+    ensures { result ≡ has_name types.now name.now x }
+{
+    structure_at(types, x).is_some() && is_named_so(types, x, name)
+}
+
+fn is_named_so(types: &[CType<'_>], x: u32, name: &[u8]) -> bool
+    ensures { result ≡ bytes_eq (name_at types.now x) name.now }
+{
+    match types.get(x as usize) {
+        None => name.is_empty(),
+        Some(t) => t.label.name.bytes() == name,
+    }
+}
+
+/// Adds the places of all types of a name that can be shown.
+pub fn push_named(all: &mut Vec<u32>, types: &[CType<'_>], name: &[u8]) -> Result<(), AllocError>
+    requires { length types.now < 2 ^ 32 }
+    ensures { OnOk result (all.new.items ≡ all.old.items ++ places_named types.now name.now) }
+{
+    for x in 0..types.len() as u32 {
+        push_if(all, has_name(types, x, name), x)?;
+    }
+    Ok(())
+}

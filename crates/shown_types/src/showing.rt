@@ -1,0 +1,153 @@
+//! The text of the types that are shown.
+ghost use Rattle.std.specs.Prelude.{◌≡◌, ◌-◌, ◌⊎◌, ◌<◌, ◌^◌, IsTrue, All, length, IfOk, IfSome};
+ghost use Rattle.std.specs.Option.{option_copied};
+ghost use Rattle.c_model.specs.Graph.{RefersWithin};
+ghost use Rattle.layout_printer.specs.Text.{byte_holes};
+ghost use Rattle.shown_types.specs.Listed.{is_listed};
+ghost use Rattle.shown_types.specs.Shown.{separator, piece, PutsPiece, LaysOut, ShowsPlaces, Shows};
+
+use crate::choosing::choose;
+use crate::fault::ShowFault;
+use crate::listed::structure_at;
+use btf_codec::Table;
+use command_line::Text;
+use dw_base::Bytes;
+use layout_printer::{LayoutFault, Slot, TypeLayout, layout, sizes_line, text};
+use std::alloc::{AllocError, Global};
+
+/// How types are shown.
+#[derive(Clone, Copy, Debug)]
+pub struct Style {
+    /// One line for each type, with its size and its holes, in place of its text.
+    pub sizes: bool,
+    /// Only types with at least so many holes of whole bytes.
+    pub holes: u32,
+    /// The size of a cache line in bytes.
+    pub line: u32,
+}
+
+/// The whole text of the types that are shown: those of each name in order, or all of the table's own that can be
+/// shown. Texts are parted by an empty line, and lines by nothing.
+///
+/// It is refused by `NoName` at the first name that no type has which can be shown; else by `NoSize` at the first
+/// member, in the order of what would be shown, whose type has no size, also where it has too few holes to be shown.
+pub fn show(
+    alloc: Global,
+    table: &Table<'_>,
+    pointer: u32,
+    names: Option<&[Text]>,
+    style: Style,
+) -> Result<Bytes, ShowFault>
+    requires few { length table.now.types < 2 ^ 32 }
+    requires within { RefersWithin (length table.now.types) table.now.types }
+    requires pointer { (pointer ≡ 4) ⊎ (pointer ≡ 8) }
+    requires names { IfSome (option_copied names) (λ ns. length ns < 2 ^ 32) }
+    requires line { 0 < style.line }
+    ensures { Shows table.now.types table.now.base pointer (option_copied names.entry) style result }
+{
+    let places = choose(alloc, table.types.items(), table.base, names)?;
+    show_places(alloc, table, pointer, style, places.as_slice())
+}
+
+/// The text of the types in some places, each of which can be shown.
+fn show_places(
+    alloc: Global,
+    table: &Table<'_>,
+    pointer: u32,
+    style: Style,
+    places: &[u32],
+) -> Result<Bytes, ShowFault>
+    requires few { length table.now.types < 2 ^ 32 }
+    requires within { RefersWithin (length table.now.types) table.now.types }
+    requires pointer { (pointer ≡ 4) ⊎ (pointer ≡ 8) }
+    requires line { 0 < style.line }
+    requires listed { All (λ x. IsTrue (is_listed table.now.types x)) places.now }
+    ensures { ShowsPlaces table.now.types pointer style places.now result }
+{
+    let mut out = Vec::new(alloc);
+    let mut started = false;
+    for i in 0..places.len() {
+        let shown = layout_at(alloc, table, pointer, places[i])?;
+        started = put_shown(alloc, &mut out, table, style, places[i], &shown, started)?;
+    }
+    Ok(Bytes::new(out))
+}
+
+/// The layout of the structure that the type in a place shows.
+fn layout_at(
+    alloc: Global,
+    table: &Table<'_>,
+    pointer: u32,
+    x: u32,
+) -> Result<TypeLayout, ShowFault>
+    requires few { length table.now.types < 2 ^ 32 }
+    requires within { RefersWithin (length table.now.types) table.now.types }
+    requires pointer { (pointer ≡ 4) ⊎ (pointer ≡ 8) }
+    requires listed { IsTrue (is_listed table.now.types x) }
+    ensures { LaysOut table.now.types pointer x result }
+{
+    let structure = structure_at(table.types.items(), x).unwrap();
+    match layout(alloc, table, structure + 1, pointer) {
+        Ok(shown) => Ok(shown),
+        Err(LayoutFault::NoSize(id)) => Err(ShowFault::NoSize(id)),
+        Err(LayoutFault::Memory) => Err(ShowFault::Memory),
+    }
+}
+
+/// How many holes have whole bytes.
+fn byte_holes(slots: &[Slot]) -> usize
+    ensures { result ≡ byte_holes slots.now }
+{
+    slots.iter().filter(|s| s.hole / 8 > 0).count()
+}
+
+fn separator(style: Style) -> &'static [u8]
+    ensures { result.now ≡ separator style }
+{
+    if style.sizes { b"" } else { b"\n" }
+}
+
+/// Adds the text of a type, where it has holes enough, and before it what parts it from the text before, where one
+/// has started. Answers whether one has started then.
+fn put_shown(
+    alloc: Global,
+    out: &mut Vec<u8>,
+    table: &Table<'_>,
+    style: Style,
+    x: u32,
+    shown: &TypeLayout,
+    started: bool,
+) -> Result<bool, AllocError>
+    requires line { 0 < style.line }
+    requires few { x < 2 ^ 32 - 1 }
+    ensures { IfOk result (λ now. PutsPiece table.now.types style (x, shown.now) started out.old.items out.new.items now) }
+{
+    if byte_holes(shown.slots.items()) < style.holes as usize {
+        return Ok(started);
+    }
+    if started {
+        out.extend_from_slice(separator(style))?;
+    }
+    let piece = piece(alloc, table, style, x, shown)?;
+    out.extend_from_slice(piece.items())?;
+    Ok(true)
+}
+
+/// The text of a type.
+#[tactic(auto, unfolding(crate::specs::Shown::piece))]
+fn piece(
+    alloc: Global,
+    table: &Table<'_>,
+    style: Style,
+    x: u32,
+    shown: &TypeLayout,
+) -> Result<Bytes, AllocError>
+    requires line { 0 < style.line }
+    requires few { x < 2 ^ 32 - 1 }
+    ensures { IfOk result (λ b. b ≡ piece table.now.types style (x, shown.now)) }
+{
+    if style.sizes {
+        return sizes_line(alloc, table, x + 1, shown);
+    }
+    text(alloc, table, x + 1, shown, style.line)
+}
