@@ -136,8 +136,13 @@ abbrev Rest : Meaning → Meaning → Type 0
 Rest before w =
     w
     ≡ record before {
-        printed = w.printed; stored = w.stored; calls = w.calls; loads = w.loads; prints = w.prints; stores = w.stores;
-      }
+      printed = w.printed;
+      stored = w.stored;
+      calls = w.calls;
+      loads = w.loads;
+      prints = w.prints;
+      stores = w.stores;
+    }
 
 rest_loaded : (before after : Meaning) (c : Option ℕ) (l : ℕ) → after ≡ record before { calls = c; loads = l } → Rest before after
 rest_loaded before after c l e = subst (Rest before) (sym e) refl

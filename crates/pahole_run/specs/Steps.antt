@@ -303,9 +303,13 @@ pub record Done
   pub rest :
       after
       ≡ record before {
-          printed = after.printed; stored = after.stored; calls = after.calls; loads = after.loads; prints = after.prints;
-          stores = after.stores;
-        }
+        printed = after.printed;
+        stored = after.stored;
+        calls = after.calls;
+        loads = after.loads;
+        prints = after.prints;
+        stores = after.stores;
+      }
   pub calls : CalledAtMost (length task.files + 1) before.calls after.calls
   pub exact : EndsAt (λ (k : ℕ). Counted (k + 1) before.calls after.calls) result
   pub cause : Cause before after result

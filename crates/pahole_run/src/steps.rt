@@ -154,7 +154,15 @@ pub fn do_job<W: World, G: Gate>(
             if base.is_some() {
                 return Err(ended_of_whole(200, 2));
             }
-            encode_files(alloc, world, gate, *jobs, limits, out.as_str(), files.items())
+            encode_files(
+                alloc,
+                world,
+                gate,
+                *jobs,
+                limits,
+                out.as_str(),
+                files.items(),
+            )
         }
         Job::Show {
             format,
@@ -177,7 +185,16 @@ pub fn do_job<W: World, G: Gate>(
                 holes: *holes,
                 line: *line,
             };
-            show_files(alloc, world, gate, *jobs, limits, names_of(names), style, files.items())
+            show_files(
+                alloc,
+                world,
+                gate,
+                *jobs,
+                limits,
+                names_of(names),
+                style,
+                files.items(),
+            )
         }
         Job::Selfmade { .. } => Err(ended_of_whole(200, 3)),
     }

@@ -1,0 +1,73 @@
+-- Declarations, a type at a time.
+use Rattle.std.proofs.Common.{◌≡◌, ℕ, suc, ◌+◌, ◌-◌, ◌<◌, ◌≤◌, true, false, cond, List, [], ◌∷◌, ◌++◌, Option, codes, refl, sym, ap, ◌∙◌, arith}
+use Rattle.std.proofs.lemmas.Bool.{cond-true, cond-false}
+use Rattle.std.proofs.lemmas.List.{append-nil, append_assoc}
+use Rattle.std.proofs.lemmas.List.Concat.{flat_map-append}
+use Rattle.std.specs.List.{flat_map, range_with_len}
+use Rattle.c_model.specs.declared.graph.CType.{CType}
+use Rattle.c_model.specs.declared.graph.Ref.{Ref}
+use Rattle.layout_printer.specs.Sizes.{type_of}
+use Rattle.layout_printer.specs.Declarations.{Written, before, decl_at, decl_in, is_passed, kind_of, leads, member_type, past}
+use Rattle.layout_printer.proofs.Holes.{range_push}
+
+past_suc : (n : ℕ) (types : List CType) (r : Ref) → past (suc n) types r ≡ cond (is_passed (kind_of types r)) (past n types (member_type types r 0)) r
+unfolding past
+past_suc n types r = refl
+
+one_left : (n k : ℕ) → k < n → n - k ≡ suc (n - (k + 1))
+one_left n k h = omega arith
+
+-- at a type that is not passed
+pub past_stop : (n k : ℕ) (types : List CType) (r : Ref) (whole : Ref) → k < n → is_passed (kind_of types r) ≡ false → past (n - k) types r ≡ whole → r ≡ whole
+past_stop n k types r whole h e inv =
+    sym (ap (λ i. past i types r) (one_left n k h) ∙ past_suc (n - (k + 1)) types r ∙ cond-false _ _ _ e) ∙ inv
+
+-- past a type
+pub past_on : (n k : ℕ) (types : List CType) (r next : Ref) (whole : Ref) → k < n → is_passed (kind_of types r) ≡ true → next ≡ member_type types r 0 → past (n - k) types r ≡ whole → past (n - (k + 1)) types next ≡ whole
+past_on n k types r next whole h e to inv =
+    ap (past (n - (k + 1)) types) to ∙ sym (ap (λ i. past i types r) (one_left n k h) ∙ past_suc (n - (k + 1)) types r ∙ cond-true _ _ _ e) ∙ inv
+
+past_zero : (types : List CType) (r : Ref) → past 0 types r ≡ r
+unfolding past
+past_zero types r = refl
+
+-- where no more are passed
+pub past_end : (n k : ℕ) (types : List CType) (r : Ref) (whole : Ref) → n ≤ k → past (n - k) types r ≡ whole → r ≡ whole
+past_end n k types r whole h inv = let none : n - k ≡ 0 = omega arith in sym (ap (λ i. past i types r) none ∙ past_zero types r) ∙ inv
+
+module _ (lists : Ref → List ℕ) (types : List CType) where
+  decl_suc : (n : ℕ) (r : Ref) (d : List ℕ) → decl_in lists (suc n) types r d ≡ decl_at (decl_in lists n types) types (lists r) (type_of types r) d
+  unfolding decl_in
+  decl_suc n r d = refl
+
+  decl_zero : (r : Ref) (d : List ℕ) → decl_in lists 0 types r d ≡ record { type_part = codes "..."; name_part = d }
+  unfolding decl_in
+  decl_zero r d = refl
+
+  -- a type is written
+  pub followed : (n k : ℕ) (list : List ℕ) (r : Ref) (front d front' d' : List ℕ) (next : Option Ref) (whole : Written) → k < n → list ≡ lists r
+      → before front (decl_in lists (n - k) types r d) ≡ whole
+      → ((rest : Ref → List ℕ → Written) → leads rest front' d' next ≡ before front (decl_at rest types list (type_of types r) d))
+      → leads (decl_in lists (n - (k + 1)) types) front' d' next ≡ whole
+  followed n k list r front d front' d' next whole h e inv step =
+      step (decl_in lists (n - (k + 1)) types)
+      ∙ ap (λ (l : List ℕ). before front (decl_at (decl_in lists (n - (k + 1)) types) types l (type_of types r) d)) e
+      ∙ ap (before front) (sym (ap (λ i. decl_in lists i types r d) (one_left n k h) ∙ decl_suc (n - (k + 1)) r d))
+      ∙ inv
+
+  -- no more types are followed
+  pub cut_off : (n k : ℕ) (r : Ref) (front d front' : List ℕ) (whole : Written) → n ≤ k → before front (decl_in lists (n - k) types r d) ≡ whole → front' ≡ front ++ codes "..."
+      → let w : Written = record { type_part = front'; name_part = d } in w ≡ whole
+  cut_off n k r front d front' whole h inv e =
+      let none : n - k ≡ 0 = omega arith in
+      ap (λ (t : List ℕ). let w : Written = record { type_part = t; name_part = d } in w) e
+      ∙ sym (ap (before front) (ap (λ i. decl_in lists i types r d) none ∙ decl_zero r d))
+      ∙ inv
+
+-- one more place
+pub places_more : (f : ℕ → List ℕ) (n : ℕ) (front out more : List ℕ) → out ≡ front ++ flat_map f (range_with_len 0 n) → more ≡ out ++ f n → more ≡ front ++ flat_map f (range_with_len 0 (n + 1))
+places_more f n front out more e m =
+    m
+    ∙ ap (λ (xs : List ℕ). xs ++ f n) e
+    ∙ append_assoc front (flat_map f (range_with_len 0 n)) (f n)
+    ∙ ap (λ (xs : List ℕ). front ++ xs) (ap (λ (xs : List ℕ). flat_map f (range_with_len 0 n) ++ xs) (sym (append-nil (f n))) ∙ sym (flat_map-append f (range_with_len 0 n) (n ∷ [])) ∙ ap (flat_map f) (sym (range_push n)))

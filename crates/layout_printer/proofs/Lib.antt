@@ -1,0 +1,11 @@
+pub mod Scaling
+pub mod Holes
+pub mod Chains
+pub mod Placed
+pub mod Adding
+pub mod Declaring
+pub mod Appending
+pub mod Boundaries
+pub mod Summing
+pub mod Membering
+pub mod Wholes

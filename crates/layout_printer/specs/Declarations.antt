@@ -1,0 +1,164 @@
+-- C declarations of BTF's types: a type part and a name part, in the notation of ISO C, 6.7.
+use Rattle.std.specs.Prelude.{ℕ, zero, suc, ◌+◌, ◌==◌, ◌&&◌, ◌||◌, Bool, true, false, List, [], ◌∷◌, ◌++◌, Option, Some, None, codes, decimal, length, slice_get, if◌then◌else◌}
+use Rattle.std.specs.Option.{option_map_or}
+use Rattle.std.specs.List.{flat_map, range_with_len}
+use Rattle.c_model.specs.declared.label.Label.{Label}
+use Rattle.c_model.specs.declared.label.Part.{Part}
+use Rattle.c_model.specs.declared.graph.CType.{CType}
+use Rattle.c_model.specs.declared.graph.Ref.{Ref}
+use Rattle.c_model.specs.declared.graph.Ref.TheVariants.{Void, Node}
+use Rattle.btf_codec.specs.Fields.{target_at}
+use Rattle.layout_printer.specs.Sizes.{type_of}
+use Rattle.layout_printer.specs.declared.shapes.Shape.{Shape}
+use Rattle.layout_printer.specs.declared.shapes.Shape.TheVariants.{Named, Tagged, Pointer, Qualifier, Array, Function, Annotation, Other}
+
+-- a declaration: what stands for the type, and what stands for the name
+pub record Written : Type 0 where
+  pub type_part : List ℕ
+  pub name_part : List ℕ
+
+-- how a type of a kind is written
+abbrev pub shape_of : ℕ → Shape
+shape_of k =
+    if k == 1 then Named  -- INT
+    else if k == 2 then Pointer  -- PTR
+    else if k == 3 then Array  -- ARRAY
+    else if k == 4 then Tagged  -- STRUCT
+    else if k == 5 then Tagged  -- UNION
+    else if k == 6 then Tagged  -- ENUM
+    else if k == 7 then Tagged  -- FWD
+    else if k == 8 then Named  -- TYPEDEF
+    else if k == 9 then Qualifier  -- VOLATILE
+    else if k == 10 then Qualifier  -- CONST
+    else if k == 11 then Qualifier  -- RESTRICT
+    else if k == 13 then Function  -- FUNC_PROTO
+    else if k == 16 then Named  -- FLOAT
+    else if k == 18 then Annotation  -- TYPE_TAG
+    else if k == 19 then Tagged  -- ENUM64
+    else Other
+
+-- the keyword of a tag
+abbrev pub tag_word : Label → List ℕ
+tag_word l =
+    if l.kind == 4 then codes "struct"
+    else if l.kind == 5 then codes "union"
+    else if l.kind == 7 then (if l.flag then codes "union" else codes "struct")
+    else codes "enum"
+
+-- the name of a tag, `{...}` where it has none
+abbrev pub tag_name : List ℕ → List ℕ
+tag_name [] = codes "{...}"
+tag_name (x ∷ xs) = x ∷ xs
+
+abbrev pub qualifier_word : ℕ → List ℕ
+qualifier_word k = if k == 9 then codes "volatile" else if k == 10 then codes "const" else codes "restrict"
+
+-- a space before it, where there is something
+abbrev pub spaced : List ℕ → List ℕ
+spaced [] = []
+spaced (x ∷ xs) = 32 ∷ x ∷ xs
+
+-- the number of an array's elements, nothing for 0
+abbrev pub bound : ℕ → List ℕ
+bound n = if n == 0 then [] else decimal n
+
+-- the kind of what a reference is to; 0 for void
+abbrev pub kind_of : List CType → Ref → ℕ
+kind_of types r = option_map_or (λ (t : CType). t.label.kind) (type_of types r) 0
+
+-- the type in a place of what a reference is to, and the name of the part there
+abbrev pub member_type : List CType → Ref → ℕ → Ref
+member_type types r k = option_map_or (λ (t : CType). target_at t.targets k) (type_of types r) Void
+
+abbrev pub part_name : List Part → ℕ → List ℕ
+part_name parts k = option_map_or (λ (p : Part). p.name) (slice_get parts k) []
+
+abbrev pub member_name : List CType → Ref → ℕ → List ℕ
+member_name types r k = option_map_or (λ (t : CType). part_name t.label.parts k) (type_of types r) []
+
+-- the number of parts of what a reference is to
+abbrev pub part_count : List CType → Ref → ℕ
+part_count types r = option_map_or (λ (t : CType). length t.label.parts) (type_of types r) 0
+
+-- whether it is a qualifier or a tag
+abbrev pub is_passed : ℕ → Bool
+is_passed k = (k == 9) || (k == 10) || (k == 11) || (k == 18)
+
+-- what stands behind at most so many qualifiers and tags
+unfoldable pub past : ℕ → List CType → Ref → Ref
+past zero types r = r
+past (suc n) types r = if is_passed (kind_of types r) then past n types (member_type types r 0) else r
+
+-- whether an array or a function stands behind qualifiers and tags, and whether a pointer does
+abbrev pub leads_to_list : List CType → Ref → Bool
+leads_to_list types r = (kind_of types (past 64 types r) == 3) || (kind_of types (past 64 types r) == 13)
+
+abbrev pub leads_to_pointer : List CType → Ref → Bool
+leads_to_pointer types r = kind_of types (past 64 types r) == 2
+
+-- with something before the type part
+abbrev pub before : List ℕ → Written → Written
+before front w = record { type_part = front ++ w.type_part; name_part = w.name_part }
+
+-- the declaration of a type by its shape, given those of the types behind it and the text of its parameters
+abbrev pub decl_by : (Ref → List ℕ → Written) → List CType → List ℕ → Shape → CType → List ℕ → Written
+decl_by rest types list Named t d = record { type_part = t.label.name; name_part = d }
+decl_by rest types list Tagged t d = record { type_part = tag_word t.label ++ 32 ∷ tag_name t.label.name; name_part = d }
+decl_by rest types list Pointer t d =
+    rest (target_at t.targets 0) (if leads_to_list types (target_at t.targets 0) then codes "(*" ++ (d ++ codes ")") else codes "*" ++ d)
+decl_by rest types list Qualifier t d =
+    if leads_to_pointer types (target_at t.targets 0) then rest (target_at t.targets 0) (qualifier_word t.label.kind ++ spaced d)
+    else before (qualifier_word t.label.kind ++ codes " ") (rest (target_at t.targets 0) d)
+decl_by rest types list Array t d = rest (target_at t.targets 0) (d ++ (codes "[" ++ (bound t.label.extra ++ codes "]")))
+decl_by rest types list Function t d = rest (target_at t.targets 0) (d ++ (codes "(" ++ (list ++ codes ")")))
+decl_by rest types list Annotation t d = rest (target_at t.targets 0) d
+decl_by rest types list Other t d = record { type_part = codes "?"; name_part = d }
+
+abbrev pub decl_at : (Ref → List ℕ → Written) → List CType → List ℕ → Option CType → List ℕ → Written
+decl_at rest types list None d = record { type_part = codes "void"; name_part = d }
+decl_at rest types list (Some t) d = decl_by rest types list (shape_of t.label.kind) t d
+
+-- the declaration of a name of a type, where at most so many types are followed, given the texts of parameters
+unfoldable pub decl_in : (Ref → List ℕ) → ℕ → List CType → Ref → List ℕ → Written
+decl_in lists zero types r d = record { type_part = codes "..."; name_part = d }
+decl_in lists (suc n) types r d = decl_at (decl_in lists n types) types (lists r) (type_of types r) d
+
+-- in a parameter every list of parameters is written `...`
+abbrev pub hidden : Ref → List ℕ
+hidden r = codes "..."
+
+abbrev pub parameter_decl : List CType → Ref → List ℕ → Written
+parameter_decl types r name = decl_in hidden 64 types r name
+
+abbrev pub is_void : Ref → Bool
+is_void Void = true
+is_void (Node x) = false
+
+-- a parameter; the last one without a name and of void stands for any more
+abbrev pub parameter_text : List CType → Bool → Ref → List ℕ → List ℕ
+parameter_text types last r name =
+    if last && ((length name == 0) && is_void r) then codes "..."
+    else (parameter_decl types r name).type_part ++ spaced (parameter_decl types r name).name_part
+
+-- the parameter of a function in a place, behind a comma where it is not the first
+abbrev pub parameter_at : List CType → Ref → ℕ → List ℕ
+parameter_at types r k =
+    (if k == 0 then [] else codes ", ") ++ parameter_text types (k + 1 == part_count types r) (member_type types r (k + 1)) (member_name types r k)
+
+-- the parameters of a function, `void` where there are none
+abbrev pub parameters : List CType → Ref → List ℕ
+parameters types r =
+    if part_count types r == 0 then codes "void" else flat_map (parameter_at types r) (range_with_len 0 (part_count types r))
+
+-- only functions have parameters
+abbrev pub list_at : List CType → Ref → List ℕ
+list_at types r = if kind_of types r == 13 then parameters types r else []
+
+-- the declaration of a name of a type: 64 types are followed, and what is behind them is written `...`
+abbrev pub decl : List CType → Ref → List ℕ → Written
+decl types r name = decl_in (list_at types) 64 types r name
+
+-- the working form: what is written so far, and the type that is next
+abbrev pub leads : (Ref → List ℕ → Written) → List ℕ → List ℕ → Option Ref → Written
+leads rest front d None = record { type_part = front; name_part = d }
+leads rest front d (Some r) = before front (rest r d)

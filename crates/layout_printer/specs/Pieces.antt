@@ -1,0 +1,27 @@
+-- Pieces of text.
+use Rattle.std.specs.Prelude.{ℕ, ◌-◌, List, [], ◌∷◌, ◌++◌, decimal, replicate, length}
+use Rattle.layout_printer.specs.declared.pieces.Piece.{Piece}
+use Rattle.layout_printer.specs.declared.pieces.Piece.TheVariants.{Text, Left, Number, Wide, Right}
+
+-- so many spaces
+abbrev pub spaces : ℕ → List ℕ
+spaces n = replicate n 32
+
+-- bytes, and spaces up to a width behind them
+abbrev pub left : List ℕ → ℕ → List ℕ
+left bytes width = bytes ++ spaces (width - length bytes)
+
+-- a number, and spaces up to a width before it
+abbrev pub right : ℕ → ℕ → List ℕ
+right number width = spaces (width - length (decimal number)) ++ decimal number
+
+abbrev pub text_of : Piece → List ℕ
+text_of (Text bytes) = bytes.now
+text_of (Left bytes width) = left bytes.now width
+text_of (Number n) = decimal n
+text_of (Wide n) = decimal n
+text_of (Right n width) = right n width
+
+abbrev pub texts : List Piece → List ℕ
+texts [] = []
+texts (p ∷ ps) = text_of p ++ texts ps

@@ -1,0 +1,207 @@
+//! The lines of members.
+ghost use Rattle.std.specs.Prelude.{◌≡◌, ◌++◌, ◌<◌, ◌/◌, ◌*◌, ◌≤◌, List, IfOk, OnOk, max};
+ghost use Rattle.layout_printer.specs.declared.slots.Slot.{Slot};
+ghost use Rattle.layout_printer.specs.Text.{ago_text, boundary_text, crossed_text, declared_text, hole_text, is_in_bits, line_of, member_text, members_text, name_text, place_text};
+ghost use Rattle.layout_printer.specs.Lines.{greatest_line};
+
+use crate::declaration::declare;
+use crate::pieces::{Piece, put, put_if};
+use crate::shapes::{member_name, member_type};
+use crate::slots::Slot;
+use c_model::{CType, Ref};
+use std::alloc::{AllocError, Global};
+
+/// Appends the lines of all members of what a reference is to.
+pub fn put_members(
+    alloc: Global,
+    out: &mut Vec<u8>,
+    types: &[CType<'_>],
+    r: Ref,
+    line: u32,
+    slots: &[Slot],
+) -> Result<(), AllocError>
+    requires { 0 < line }
+    ensures { OnOk result (out.new.items ≡ out.old.items ++ members_text types.now r line slots.now) }
+{
+    let mut greatest = 0;
+    for (place, slot) in slots.iter().enumerate() {
+        put_member(alloc, out, types, r, line, greatest, place, slot)?;
+        greatest = later_line(greatest, line_of(line, slot));
+    }
+    Ok(())
+}
+
+/// Appends the lines of a member. Of the earlier ones `greatest` is the last cache line that one begins in.
+fn put_member(
+    alloc: Global,
+    out: &mut Vec<u8>,
+    types: &[CType<'_>],
+    r: Ref,
+    line: u32,
+    greatest: u64,
+    place: usize,
+    slot: &Slot,
+) -> Result<(), AllocError>
+    requires { 0 < line }
+    ensures { OnOk result ((earlier : List Slot) → greatest ≡ greatest_line line earlier →
+        out.new.items ≡ out.old.items ++ member_text types.now r line earlier place slot.now) }
+{
+    put_hole(out, slot.hole)?;
+    put_boundary(out, line, greatest, slot)?;
+    let name = member_name(types, r, place);
+    let written = declare(alloc, types, member_type(types, r, place), name)?;
+    let text = name_text(alloc, &written.name_part, slot)?;
+    put_declared(out, &written.type_part, &text, slot)
+}
+
+fn put_hole(out: &mut Vec<u8>, hole: u64) -> Result<(), AllocError>
+    ensures { OnOk result (out.new.items ≡ out.old.items ++ hole_text hole) }
+{
+    let bits = hole % 8;
+    let bytes = hole / 8;
+    put_if(out, hole > 0, &[Piece::Text(b"\n")])?;
+    put_if(
+        out,
+        bits > 0,
+        &[
+            Piece::Text(b"\t/* XXX "),
+            Piece::Number(bits),
+            Piece::Text(b" bits hole, try to pack */\n"),
+        ],
+    )?;
+    put_if(
+        out,
+        bytes > 0,
+        &[
+            Piece::Text(b"\t/* XXX "),
+            Piece::Number(bytes),
+            Piece::Text(b" bytes hole, try to pack */\n"),
+        ],
+    )?;
+    put_if(out, hole > 0, &[Piece::Text(b"\n")])
+}
+
+/// Appends the line of a boundary of cache lines, where the member is the first that begins behind it.
+fn put_boundary(out: &mut Vec<u8>, line: u32, greatest: u64, slot: &Slot) -> Result<(), AllocError>
+    requires { 0 < line }
+    ensures { OnOk result ((earlier : List Slot) → greatest ≡ greatest_line line earlier →
+        out.new.items ≡ out.old.items ++ boundary_text line earlier slot.now) }
+{
+    let byte = slot.start / 8;
+    let number = line_of(line, slot);
+    if number <= greatest {
+        return Ok(());
+    }
+    put_crossed(out, number, number * u64::from(line), byte)
+}
+
+/// Appends the line of a boundary at byte `boundary`, before a member at byte `byte`.
+fn put_crossed(out: &mut Vec<u8>, number: u64, boundary: u64, byte: u64) -> Result<(), AllocError>
+    requires { boundary ≤ byte }
+    ensures { OnOk result (out.new.items ≡ out.old.items ++ crossed_text number boundary byte) }
+{
+    put(
+        out,
+        &[
+            Piece::Text(b"\t/* --- cacheline "),
+            Piece::Number(number),
+            Piece::Text(b" boundary ("),
+            Piece::Number(boundary),
+            Piece::Text(b" bytes) "),
+        ],
+    )?;
+    let ago = byte - boundary;
+    put_if(
+        out,
+        ago > 0,
+        &[
+            Piece::Text(b"was "),
+            Piece::Number(ago),
+            Piece::Text(b" bytes ago "),
+        ],
+    )?;
+    put(out, &[Piece::Text(b"--- */\n")])
+}
+
+/// The name part of a member, with the width of a bit field.
+fn name_text(alloc: Global, name: &[u8], slot: &Slot) -> Result<Vec<u8>, AllocError>
+    ensures { IfOk result (λ v. v.items ≡ name_text name.now slot.now) }
+{
+    let mut out = Vec::from_slice(alloc, name)?;
+    put_if(
+        &mut out,
+        slot.field,
+        &[Piece::Text(b":"), Piece::Number(slot.bits)],
+    )?;
+    out.push(b';')?;
+    Ok(out)
+}
+
+/// Appends the line of a declaration.
+fn put_declared<'p>(
+    out: &mut Vec<u8>,
+    type_part: &'p [u8],
+    name: &'p [u8],
+    slot: &Slot,
+) -> Result<(), AllocError>
+    ensures { OnOk result (out.new.items ≡ out.old.items ++ declared_text type_part.now name.now slot.now) }
+{
+    put(
+        out,
+        &[
+            Piece::Text(b"\t"),
+            Piece::Left(type_part, 26),
+            Piece::Text(b" "),
+            Piece::Left(name, 21),
+            Piece::Text(b" "),
+        ],
+    )?;
+    put_place(out, slot)
+}
+
+fn put_place(out: &mut Vec<u8>, slot: &Slot) -> Result<(), AllocError>
+    ensures { OnOk result (out.new.items ≡ out.old.items ++ place_text slot.now) }
+{
+    let byte = slot.start / 8;
+    let bit = slot.start % 8;
+    if slot.field || bit > 0 {
+        put(
+            out,
+            &[
+                Piece::Text(b"/* "),
+                Piece::Right(byte, 5),
+                Piece::Text(b":"),
+                Piece::Number(bit),
+                Piece::Text(b" "),
+                Piece::Right(slot.bits, 3),
+                Piece::Text(b" */\n"),
+            ],
+        )
+    } else {
+        put(
+            out,
+            &[
+                Piece::Text(b"/* "),
+                Piece::Right(byte, 5),
+                Piece::Text(b" "),
+                Piece::Right(slot.bits / 8, 5),
+                Piece::Text(b" */\n"),
+            ],
+        )
+    }
+}
+
+/// The cache line that a member begins in.
+fn line_of(line: u32, slot: &Slot) -> u64
+    requires { 0 < line }
+    ensures value { result ≡ line_of line slot.now }
+    ensures within { result * line ≤ slot.now.start / 8 }
+{
+    slot.start / 8 / u64::from(line)
+}
+
+fn later_line(a: u64, b: u64) -> u64
+    ensures { result ≡ max a b }
+{
+    if a < b { b } else { a }
+}

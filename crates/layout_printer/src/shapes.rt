@@ -1,0 +1,158 @@
+//! What declarations ask of types.
+ghost use Rattle.std.specs.Prelude.{◌≡◌, ◌<◌};
+ghost use Rattle.layout_printer.specs.Declarations.{is_passed, is_void, kind_of, leads_to_list, leads_to_pointer, member_name, member_type, part_count, past, qualifier_word, shape_of, tag_name, tag_word};
+
+use crate::lookups::{target_at, type_of};
+use c_model::{CType, Label, Ref};
+
+/// How a type is written in a declaration.
+#[derive(Clone, Copy, Debug, PartialEq, Eq)]
+pub enum Shape {
+    /// Its name.
+    Named,
+    /// A keyword and a tag.
+    Tagged,
+    Pointer,
+    Qualifier,
+    Array,
+    Function,
+    /// Not at all.
+    Annotation,
+    /// `?`.
+    Other,
+}
+
+/// How a type of a kind is written.
+pub fn shape_of(kind: u8) -> Shape
+    ensures { result ≡ shape_of kind }
+{
+    match kind {
+        1 | 8 | 16 => Shape::Named,
+        2 => Shape::Pointer,
+        3 => Shape::Array,
+        4 | 5 | 6 | 7 | 19 => Shape::Tagged,
+        9 | 10 | 11 => Shape::Qualifier,
+        13 => Shape::Function,
+        18 => Shape::Annotation,
+        _ => Shape::Other,
+    }
+}
+
+/// The keyword of a tag.
+pub fn tag_word(label: &Label<'_>) -> &'static [u8]
+    ensures { result.now ≡ tag_word label.now }
+{
+    match label.kind {
+        4 => b"struct",
+        5 => b"union",
+        7 if label.flag => b"union",
+        7 => b"struct",
+        _ => b"enum",
+    }
+}
+
+/// The name of a tag, `{...}` where it has none.
+pub fn tag_name<'n>(name: &'n [u8]) -> &'n [u8]
+    ensures { result.now ≡ tag_name name.now }
+{
+    if name.is_empty() { b"{...}" } else { name }
+}
+
+/// The word of a qualifier.
+pub fn qualifier_word(kind: u8) -> &'static [u8]
+    ensures { result.now ≡ qualifier_word kind }
+{
+    match kind {
+        9 => b"volatile",
+        10 => b"const",
+        _ => b"restrict",
+    }
+}
+
+/// Whether a reference is to void.
+pub fn is_void(r: Ref) -> bool
+    ensures { result ≡ is_void r }
+{
+    match r {
+        Ref::Void => true,
+        Ref::Node(_) => false,
+    }
+}
+
+/// The kind of what a reference is to; 0 for void.
+pub fn kind_of(types: &[CType<'_>], r: Ref) -> u8
+    ensures { result ≡ kind_of types.now r }
+{
+    match type_of(types, r) {
+        None => 0,
+        Some(t) => t.label.kind,
+    }
+}
+
+/// The type in a place of what a reference is to.
+pub fn member_type(types: &[CType<'_>], r: Ref, place: usize) -> Ref
+    ensures { result ≡ member_type types.now r place }
+{
+    match type_of(types, r) {
+        None => Ref::Void,
+        Some(t) => target_at(t.targets.items(), place),
+    }
+}
+
+/// The name of the part in a place of what a reference is to.
+pub fn member_name<'t, 'a>(types: &'t [CType<'a>], r: Ref, place: usize) -> &'a [u8]
+    ensures { result.now ≡ member_name types.now r place }
+{
+    match type_of(types, r) {
+        None => b"",
+        Some(t) => match t.label.parts.items().get(place) {
+            None => b"",
+            Some(part) => part.name.bytes(),
+        },
+    }
+}
+
+/// The number of parts of what a reference is to.
+pub fn part_count(types: &[CType<'_>], r: Ref) -> usize
+    ensures { result ≡ part_count types.now r }
+{
+    match type_of(types, r) {
+        None => 0,
+        Some(t) => t.label.parts.items().len(),
+    }
+}
+
+/// Whether an array or a function stands behind qualifiers and tags.
+pub fn leads_to_list(types: &[CType<'_>], r: Ref) -> bool
+    ensures { result ≡ leads_to_list types.now r }
+{
+    let kind = kind_of(types, past(types, r));
+    kind == 3 || kind == 13
+}
+
+/// Whether a pointer stands behind qualifiers and tags.
+pub fn leads_to_pointer(types: &[CType<'_>], r: Ref) -> bool
+    ensures { result ≡ leads_to_pointer types.now r }
+{
+    kind_of(types, past(types, r)) == 2
+}
+
+/// What stands behind at most 64 qualifiers and tags.
+fn past(types: &[CType<'_>], r: Ref) -> Ref
+    ensures { result ≡ past 64 types.now r }
+{
+    let mut at = r;
+    for _ in 0..64u32 {
+        if !is_passed(kind_of(types, at)) {
+            return at;
+        }
+        at = member_type(types, at, 0);
+    }
+    at
+}
+
+fn is_passed(kind: u8) -> bool
+    ensures { result ≡ is_passed kind }
+{
+    kind == 9 || kind == 10 || kind == 11 || kind == 18
+}

@@ -1,0 +1,103 @@
+//! What a layout says.
+ghost use Rattle.std.specs.Prelude.{◌≡◌};
+
+use std::alloc::{AllocError, AllocFailed};
+use std::marker::Model;
+use thiserror::Error;
+
+/// Where a member lies, in bits from the beginning of its structure.
+#[derive(Clone, Copy, Debug, PartialEq, Eq)]
+pub struct Slot {
+    /// The first bit.
+    pub start: u64,
+    /// How many bits the member has.
+    pub bits: u64,
+    /// Whether it is a bit field.
+    pub field: bool,
+    /// How many bits below the first one lie past the end of each earlier member.
+    pub hole: u64,
+}
+
+/// A list of slots. Contracts see it as the list.
+#[derive(Debug, Drop)]
+pub struct Slots {
+    items: Vec<Slot>,
+}
+
+impl Model for Slots {
+    ghost use Rattle.std.specs.Prelude.{List};
+    ghost use Rattle.layout_printer.specs.declared.slots.Slot.{Slot};
+
+    ghost Value = { List Slot };
+
+    ghost view = { λ s. s.items.items };
+}
+
+impl Slots {
+    /// The list of these slots.
+    pub fn new(items: Vec<Slot>) -> Slots
+        ensures { result ≡ items.items }
+    {
+        Slots { items }
+    }
+
+    /// The slots as a slice.
+    #[inline(always)]
+    pub fn items(&self) -> &[Slot]
+        ensures { result.now ≡ self.now }
+    {
+        self.items.as_slice()
+    }
+
+    /// Gives the slots back, without a copy.
+    pub fn into_items(self) -> Vec<Slot>
+        ensures { result.items ≡ self }
+    {
+        self.items
+    }
+}
+
+/// The layout of a structure or union.
+#[derive(Debug, Drop)]
+pub struct TypeLayout {
+    /// The id of the structure or union.
+    pub id: u32,
+    /// Its size in bytes.
+    pub size: u32,
+    /// A slot for each member, in order.
+    pub slots: Slots,
+    /// How many bits of the size lie past the end of each member.
+    pub padding: u64,
+}
+
+/// Why a structure or union has no layout.
+#[derive(Clone, Copy, Debug, PartialEq, Eq, Error)]
+pub enum LayoutFault {
+    /// The type of this id is a member's, and it has no size. 0 is void.
+    #[error("type {0} has no size")]
+    NoSize(u32),
+    #[error("out of memory")]
+    Memory,
+}
+
+impl From<AllocError> for LayoutFault {
+    ghost use Rattle.std.specs.Prelude.{◌≡◌};
+    ghost use Rattle.layout_printer.specs.declared.slots.LayoutFault.TheVariants.{Memory};
+
+    ghost from_gives = { λ _ e. e ≡ Memory };
+
+    fn from(_e: AllocError) -> LayoutFault {
+        LayoutFault::Memory
+    }
+}
+
+impl<T: Drop> From<AllocFailed<T>> for LayoutFault {
+    ghost use Rattle.std.specs.Prelude.{◌≡◌};
+    ghost use Rattle.layout_printer.specs.declared.slots.LayoutFault.TheVariants.{Memory};
+
+    ghost from_gives = { λ _ e. e ≡ Memory };
+
+    fn from(_e: AllocFailed<T>) -> LayoutFault {
+        LayoutFault::Memory
+    }
+}

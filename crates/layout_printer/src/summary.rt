@@ -1,0 +1,152 @@
+//! The lines behind the members.
+ghost use Rattle.std.specs.Prelude.{◌≡◌, ◌++◌, ◌<◌, OnOk};
+ghost use Rattle.layout_printer.specs.Text.{last_line_text, padding_text, size_text, summary_text};
+ghost use Rattle.layout_printer.specs.Totals.{AreTotals, sums_text};
+
+use crate::pieces::{Piece, put, put_if};
+use crate::slots::{Slot, TypeLayout};
+use std::alloc::AllocError;
+
+/// Sums over all members.
+#[derive(Clone, Copy, Debug)]
+pub struct Totals {
+    /// The bits of the members.
+    pub bits: u128,
+    /// How many holes have whole bytes, and these bytes.
+    pub byte_holes: u128,
+    pub hole_bytes: u128,
+    /// How many holes have further bits, and these bits.
+    pub bit_holes: u128,
+    pub hole_bits: u128,
+}
+
+/// The sums over all members.
+pub fn sum_up(slots: &[Slot]) -> Totals
+    ensures { AreTotals slots.now result }
+{
+    let mut all = Totals {
+        bits: 0,
+        byte_holes: 0,
+        hole_bytes: 0,
+        bit_holes: 0,
+        hole_bits: 0,
+    };
+    for slot in slots {
+        let bytes = u128::from(slot.hole / 8);
+        let bits = u128::from(slot.hole % 8);
+        all = Totals {
+            bits: all.bits + u128::from(slot.bits),
+            byte_holes: all.byte_holes + u128::from(bytes > 0),
+            hole_bytes: all.hole_bytes + bytes,
+            bit_holes: all.bit_holes + u128::from(bits > 0),
+            hole_bits: all.hole_bits + bits,
+        };
+    }
+    all
+}
+
+/// Appends the lines behind the members.
+pub fn put_summary(out: &mut Vec<u8>, line: u32, shown: &TypeLayout) -> Result<(), AllocError>
+    requires { 0 < line }
+    ensures { OnOk result (out.new.items ≡ out.old.items ++ summary_text line shown.now) }
+{
+    put_size(out, line, shown)?;
+    put_holes(out, sum_up(shown.slots.items()))?;
+    put_padding(out, shown.padding)?;
+    put_last_line(out, line, shown.size)
+}
+
+/// Appends the line of the size.
+fn put_size(out: &mut Vec<u8>, line: u32, shown: &TypeLayout) -> Result<(), AllocError>
+    requires { 0 < line }
+    ensures { OnOk result (out.new.items ≡ out.old.items ++ size_text line shown.now) }
+{
+    let line = u64::from(line);
+    let lines = (u64::from(shown.size) + line - 1) / line;
+    let members = shown.slots.items().len();
+    put(
+        out,
+        &[
+            Piece::Text(b"\n\t/* size: "),
+            Piece::Number(u64::from(shown.size)),
+            Piece::Text(b", cachelines: "),
+            Piece::Number(lines),
+            Piece::Text(b", members: "),
+            Piece::Number(members as u64),
+            Piece::Text(b" */\n"),
+        ],
+    )
+}
+
+/// Appends the lines of the holes.
+fn put_holes(out: &mut Vec<u8>, all: Totals) -> Result<(), AllocError>
+    ensures { OnOk result (out.new.items ≡ out.old.items ++ sums_text all) }
+{
+    put_if(
+        out,
+        all.byte_holes > 0,
+        &[
+            Piece::Text(b"\t/* sum members: "),
+            Piece::Wide(all.bits / 8),
+            Piece::Text(b", holes: "),
+            Piece::Wide(all.byte_holes),
+            Piece::Text(b", sum holes: "),
+            Piece::Wide(all.hole_bytes),
+            Piece::Text(b" */\n"),
+        ],
+    )?;
+    put_if(
+        out,
+        all.bit_holes > 0,
+        &[
+            Piece::Text(b"\t/* bit holes: "),
+            Piece::Wide(all.bit_holes),
+            Piece::Text(b", sum bit holes: "),
+            Piece::Wide(all.hole_bits),
+            Piece::Text(b" bits */\n"),
+        ],
+    )
+}
+
+/// Appends the lines of the padding, in bits.
+fn put_padding(out: &mut Vec<u8>, padding: u64) -> Result<(), AllocError>
+    ensures { OnOk result (out.new.items ≡ out.old.items ++ padding_text padding) }
+{
+    let bytes = padding / 8;
+    let bits = padding % 8;
+    put_if(
+        out,
+        bytes > 0,
+        &[
+            Piece::Text(b"\t/* padding: "),
+            Piece::Number(bytes),
+            Piece::Text(b" */\n"),
+        ],
+    )?;
+    put_if(
+        out,
+        bits > 0,
+        &[
+            Piece::Text(b"\t/* bit_padding: "),
+            Piece::Number(bits),
+            Piece::Text(b" bits */\n"),
+        ],
+    )
+}
+
+/// Appends the line of the last cache line, where it is not full.
+fn put_last_line(out: &mut Vec<u8>, line: u32, size: u32) -> Result<(), AllocError>
+    requires { 0 < line }
+    ensures { OnOk result (out.new.items ≡ out.old.items ++ last_line_text line size) }
+{
+    let rest = size % line;
+    put_if(
+        out,
+        rest > 0,
+        &[
+            Piece::Text(b"\t/* last cacheline: "),
+            Piece::Number(u64::from(rest)),
+            Piece::Text(b" bytes */\n"),
+        ],
+    )
+}

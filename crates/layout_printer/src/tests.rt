@@ -1,0 +1,409 @@
+//! Texts of small tables: worked rows, and each form of a declaration written out by hand.
+ghost use Rattle.std.specs.Prelude.{◌≡◌, ◌<◌, ◌^◌, IsTrue, All, length};
+ghost use Rattle.c_model.specs.Graph.{IsBelow, RefersWithin};
+ghost use Rattle.layout_printer.specs.Layout.{IsStructure};
+
+use crate::lookups::{ref_of, type_of};
+use crate::placing::layout;
+use crate::sizes::pointer_of;
+use crate::slots::{LayoutFault, TypeLayout};
+use crate::texts::{sizes_line, text};
+use btf_codec::Table;
+use c_model::{CType, Label, Nodes, Part, Parts, Ref, Refs};
+use dw_base::{Name, Order};
+use std::alloc::Global;
+use std::test::Fail;
+
+/// Whether an id is a structure's or a union's.
+fn is_structure(types: &[CType<'_>], id: u32) -> bool
+    ensures { IsTrue result → IsStructure types.now id }
+{
+    match type_of(types, ref_of(id)) {
+        None => false,
+        Some(t) => t.label.kind == 4 || t.label.kind == 5,
+    }
+}
+
+fn is_within(count: usize, targets: &[Ref]) -> bool
+    ensures { IsTrue result → All (IsBelow count) targets.now }
+{
+    for target in targets {
+        if let Ref::Node(number) = target
+            && *number as usize >= count
+        {
+            return false;
+        }
+    }
+    true
+}
+
+fn are_within(count: usize, types: &[CType<'_>]) -> bool
+    ensures { IsTrue result → RefersWithin count types.now }
+{
+    for t in types {
+        if !is_within(count, t.targets.items()) {
+            return false;
+        }
+    }
+    true
+}
+
+/// A type whose parts stand in a list of their own.
+#[derive(Clone, Copy)]
+struct Shown {
+    kind: u8,
+    name: &'static [u8],
+    flag: bool,
+    size: u32,
+    extra: u32,
+    parts: usize,
+    targets: &'static [u32],
+}
+
+fn typed(
+    kind: u8,
+    name: &'static [u8],
+    flag: bool,
+    size: u32,
+    extra: u32,
+    parts: usize,
+    targets: &'static [u32],
+) -> Shown {
+    Shown {
+        kind,
+        name,
+        flag,
+        size,
+        extra,
+        parts,
+        targets,
+    }
+}
+
+fn refs_of(alloc: Global, ids: &[u32]) -> Result<Refs, Fail> {
+    let mut targets = Vec::new(alloc);
+    for id in ids {
+        targets.push(ref_of(*id))?;
+    }
+    Ok(Refs::new(targets))
+}
+
+fn table_of<'a>(
+    alloc: Global,
+    all: &[Shown],
+    parts: &[(&'a [u8], u64)],
+) -> Result<Table<'a>, Fail> {
+    let mut types = Vec::new(alloc);
+    let mut rest = parts.iter();
+    for shown in all {
+        let mut own = Vec::new(alloc);
+        for _ in 0..shown.parts {
+            if let Some((name, value)) = rest.next() {
+                own.push(Part {
+                    name: Name::new(name),
+                    value: *value,
+                })?;
+            }
+        }
+        types.push(CType {
+            label: Label {
+                kind: shown.kind,
+                name: Name::new(shown.name),
+                flag: shown.flag,
+                size: shown.size,
+                extra: shown.extra,
+                parts: Parts::new(own),
+            },
+            targets: refs_of(alloc, shown.targets)?,
+        })?;
+    }
+    Ok(Table {
+        order: Order::Little,
+        base: 0,
+        types: Nodes::new(types),
+        names: b"",
+    })
+}
+
+/// The layout of a structure, if the table is as `layout` asks.
+fn placed(
+    alloc: Global,
+    table: &Table<'_>,
+    id: u32,
+) -> Result<Result<TypeLayout, LayoutFault>, Fail> {
+    let types = table.types.items();
+    if types.len() > 1000 || !is_structure(types, id) || !are_within(types.len(), types) {
+        return Err(Fail::from("no structure"));
+    }
+    Ok(layout(alloc, table, id, 8))
+}
+
+/// The lines of an id whose structure is another one.
+fn text_of(
+    alloc: Global,
+    table: &Table<'_>,
+    id: u32,
+    structure: u32,
+    line: u32,
+) -> Result<Vec<u8>, Fail>
+    requires { 0 < line }
+{
+    let placed = placed(alloc, table, structure)??;
+    Ok(text(alloc, table, id, &placed, line)?.into_items())
+}
+
+fn joined(alloc: Global, lines: &[&[u8]]) -> Result<Vec<u8>, Fail> {
+    let mut out = Vec::new(alloc);
+    for line in lines {
+        out.extend_from_slice(line)?;
+    }
+    Ok(out)
+}
+
+fn registry(alloc: Global) -> Result<Table<'static>, Fail> {
+    let all = [
+        typed(1, b"char", false, 1, 8, 0, &[]),
+        typed(4, b"", true, 72, 0, 6, &[1, 3, 4, 6, 7, 7]),
+        typed(1, b"long long int", false, 8, 0, 0, &[]),
+        typed(2, b"", false, 0, 0, 0, &[5]),
+        typed(7, b"node", false, 0, 0, 0, &[]),
+        typed(3, b"", false, 0, 40, 0, &[1, 9]),
+        typed(1, b"unsigned int", false, 4, 0, 0, &[]),
+        typed(8, b"registry", false, 0, 0, 0, &[2]),
+        typed(1, b"__ARRAY_SIZE_TYPE__", false, 4, 0, 0, &[]),
+    ];
+    let parts = [
+        (b"tag".as_slice(), 0),
+        (b"count".as_slice(), 0x40),
+        (b"first".as_slice(), 0x80),
+        (b"name".as_slice(), 0xc0),
+        (b"live".as_slice(), 0x1000200),
+        (b"kind".as_slice(), 0x3000201),
+    ];
+    table_of(alloc, &all, &parts)
+}
+
+#[test]
+fn a_typedef_of_a_structure(rt: HostRuntime) -> Result<(), Fail> {
+    let alloc = rt.alloc();
+    let table = registry(alloc)?;
+    let lines = [
+        b"typedef struct {\n".as_slice(),
+        b"\tchar                       tag;                  /*     0     1 */\n".as_slice(),
+        b"\n".as_slice(),
+        b"\t/* XXX 7 bytes hole, try to pack */\n".as_slice(),
+        b"\n".as_slice(),
+        b"\tlong long int              count;                /*     8     8 */\n".as_slice(),
+        b"\tstruct node                *first;               /*    16     8 */\n".as_slice(),
+        b"\tchar                       name[40];             /*    24    40 */\n".as_slice(),
+        b"\t/* --- cacheline 1 boundary (64 bytes) --- */\n".as_slice(),
+        b"\tunsigned int               live:1;               /*    64:0   1 */\n".as_slice(),
+        b"\tunsigned int               kind:3;               /*    64:1   3 */\n".as_slice(),
+        b"\n".as_slice(),
+        b"\t/* size: 72, cachelines: 2, members: 6 */\n".as_slice(),
+        b"\t/* sum members: 57, holes: 1, sum holes: 7 */\n".as_slice(),
+        b"\t/* padding: 7 */\n".as_slice(),
+        b"\t/* bit_padding: 4 bits */\n".as_slice(),
+        b"\t/* last cacheline: 8 bytes */\n".as_slice(),
+        b"} registry;\n".as_slice(),
+    ];
+    assert_eq!(rt; text_of(alloc, &table, 8, 2, 64)?, joined(alloc, &lines)?);
+    let placed = placed(alloc, &table, 2)??;
+    let line = sizes_line(alloc, &table, 8, &placed)?;
+    assert_eq!(rt; line.items(), b"registry\t72\t1\n".as_slice());
+    Ok(())
+}
+
+#[test]
+fn a_structure(rt: HostRuntime) -> Result<(), Fail> {
+    let alloc = rt.alloc();
+    let all = [
+        typed(4, b"list_head", false, 16, 0, 2, &[2, 2]),
+        typed(2, b"", false, 0, 0, 0, &[1]),
+    ];
+    let parts = [(b"next".as_slice(), 0), (b"prev".as_slice(), 0x40)];
+    let table = table_of(alloc, &all, &parts)?;
+    let lines = [
+        b"struct list_head {\n".as_slice(),
+        b"\tstruct list_head           *next;                /*     0     8 */\n".as_slice(),
+        b"\tstruct list_head           *prev;                /*     8     8 */\n".as_slice(),
+        b"\n".as_slice(),
+        b"\t/* size: 16, cachelines: 1, members: 2 */\n".as_slice(),
+        b"\t/* last cacheline: 16 bytes */\n".as_slice(),
+        b"};\n".as_slice(),
+    ];
+    assert_eq!(rt; text_of(alloc, &table, 1, 1, 64)?, joined(alloc, &lines)?);
+    assert_eq!(rt; pointer_of(&table), 8);
+    Ok(())
+}
+
+#[test]
+fn each_form_of_a_declaration(rt: HostRuntime) -> Result<(), Fail> {
+    let alloc = rt.alloc();
+    let all = [
+        typed(1, b"char", false, 1, 0, 0, &[]),
+        typed(10, b"", false, 0, 0, 0, &[1]),
+        typed(2, b"", false, 0, 0, 0, &[2]),
+        typed(10, b"", false, 0, 0, 0, &[3]),
+        typed(9, b"", false, 0, 0, 0, &[6]),
+        typed(1, b"int", false, 4, 0, 0, &[]),
+        typed(3, b"", false, 0, 2, 0, &[3, 6]),
+        typed(3, b"", false, 0, 0, 0, &[6, 6]),
+        typed(2, b"", false, 0, 0, 0, &[7]),
+        typed(4, b"", false, 4, 0, 0, &[]),
+        typed(5, b"u", false, 8, 0, 0, &[]),
+        typed(6, b"e", false, 4, 0, 0, &[]),
+        typed(7, b"w", true, 0, 0, 0, &[]),
+        typed(2, b"", false, 0, 0, 0, &[13]),
+        typed(13, b"", false, 0, 0, 0, &[0]),
+        typed(2, b"", false, 0, 0, 0, &[15]),
+        typed(13, b"", false, 0, 0, 2, &[3, 6, 0]),
+        typed(2, b"", false, 0, 0, 0, &[17]),
+        typed(13, b"", false, 0, 0, 2, &[6, 18, 14]),
+        typed(2, b"", false, 0, 0, 0, &[19]),
+        typed(18, b"user", false, 0, 0, 0, &[1]),
+        typed(2, b"", false, 0, 0, 0, &[21]),
+        typed(11, b"", false, 0, 0, 0, &[3]),
+        typed(8, b"t", false, 0, 0, 0, &[6]),
+        typed(16, b"double", false, 8, 0, 0, &[]),
+        typed(2, b"", false, 0, 0, 0, &[0]),
+        typed(14, b"v", false, 0, 0, 0, &[6]),
+        typed(19, b"", false, 8, 0, 0, &[]),
+        typed(2, b"", false, 0, 0, 0, &[29]),
+        typed(
+            5,
+            b"forms",
+            false,
+            64,
+            0,
+            22,
+            &[
+                2, 3, 4, 5, 7, 8, 9, 10, 11, 12, 14, 16, 18, 20, 22, 23, 24, 25, 26, 27, 28, 29,
+            ],
+        ),
+    ];
+    let parts = [
+        (b"n".as_slice(), 0),
+        (b"".as_slice(), 0),
+        (b"cb".as_slice(), 0),
+        (b"".as_slice(), 0),
+        (b"a".as_slice(), 0),
+        (b"b".as_slice(), 0),
+        (b"c".as_slice(), 0),
+        (b"d".as_slice(), 0),
+        (b"f".as_slice(), 0),
+        (b"g".as_slice(), 0),
+        (b"h".as_slice(), 0),
+        (b"i".as_slice(), 0),
+        (b"j".as_slice(), 0),
+        (b"k".as_slice(), 0),
+        (b"l".as_slice(), 0),
+        (b"m".as_slice(), 0),
+        (b"n".as_slice(), 0),
+        (b"o".as_slice(), 0),
+        (b"p".as_slice(), 0),
+        (b"q".as_slice(), 0),
+        (b"r".as_slice(), 0),
+        (b"s".as_slice(), 0),
+        (b"t".as_slice(), 0),
+        (b"v".as_slice(), 0),
+        (b"w".as_slice(), 0),
+        (b"".as_slice(), 0),
+    ];
+    let table = table_of(alloc, &all, &parts)?;
+    let lines = [
+        b"union forms {\n".as_slice(),
+        b"\tconst char                 a;                    /*     0     1 */\n".as_slice(),
+        b"\tconst char                 *b;                   /*     0     8 */\n".as_slice(),
+        b"\tconst char                 *const c;             /*     0     8 */\n".as_slice(),
+        b"\tvolatile int               d;                    /*     0     4 */\n".as_slice(),
+        b"\tconst char                 *f[2];                /*     0    16 */\n".as_slice(),
+        b"\tint                        g[];                  /*     0     0 */\n".as_slice(),
+        b"\tconst char                 *(*h)[2];             /*     0     8 */\n".as_slice(),
+        b"\tstruct {...}               i;                    /*     0     4 */\n".as_slice(),
+        b"\tunion u                    j;                    /*     0     8 */\n".as_slice(),
+        b"\tenum e                     k;                    /*     0     4 */\n".as_slice(),
+        b"\tunion w                    *l;                   /*     0     8 */\n".as_slice(),
+        b"\tvoid                       (*m)(void);           /*     0     8 */\n".as_slice(),
+        b"\tconst char                 *(*n)(int n, ...);    /*     0     8 */\n".as_slice(),
+        b"\tint                        (*o)(const char *(*cb)(...), union w *); /*     0     8 */\n".as_slice(),
+        b"\tchar                       *p;                   /*     0     8 */\n".as_slice(),
+        b"\tconst char                 *restrict q;          /*     0     8 */\n".as_slice(),
+        b"\tt                          r;                    /*     0     4 */\n".as_slice(),
+        b"\tdouble                     s;                    /*     0     8 */\n".as_slice(),
+        b"\tvoid                       *t;                   /*     0     8 */\n".as_slice(),
+        b"\t?                          v;                    /*     0     4 */\n".as_slice(),
+        b"\tenum {...}                 w;                    /*     0     8 */\n".as_slice(),
+        b"\t...                        ****************************************************************; /*     0     8 */\n".as_slice(),
+        b"\n".as_slice(),
+        b"\t/* size: 64, cachelines: 1, members: 22 */\n".as_slice(),
+        b"\t/* padding: 48 */\n".as_slice(),
+        b"};\n".as_slice(),
+    ];
+    assert_eq!(rt; text_of(alloc, &table, 30, 30, 64)?, joined(alloc, &lines)?);
+    Ok(())
+}
+
+#[test]
+fn holes_in_bits_and_lines(rt: HostRuntime) -> Result<(), Fail> {
+    let alloc = rt.alloc();
+    let all = [
+        typed(1, b"int", false, 4, 0, 0, &[]),
+        typed(4, b"bits", true, 40, 0, 6, &[1, 1, 1, 1, 1, 1]),
+    ];
+    let parts = [
+        (b"a".as_slice(), 0x3000000),
+        (b"b".as_slice(), 0x500000c),
+        (b"c".as_slice(), 0x20),
+        (b"d".as_slice(), 0x40),
+        (b"e".as_slice(), 0x1000113),
+        (b"f".as_slice(), 0xa0),
+    ];
+    let table = table_of(alloc, &all, &parts)?;
+    let lines = [
+        b"struct bits {\n".as_slice(),
+        b"\tint                        a:3;                  /*     0:0   3 */\n".as_slice(),
+        b"\n".as_slice(),
+        b"\t/* XXX 1 bits hole, try to pack */\n".as_slice(),
+        b"\t/* XXX 1 bytes hole, try to pack */\n".as_slice(),
+        b"\n".as_slice(),
+        b"\tint                        b:5;                  /*     1:4   5 */\n".as_slice(),
+        b"\n".as_slice(),
+        b"\t/* XXX 7 bits hole, try to pack */\n".as_slice(),
+        b"\t/* XXX 1 bytes hole, try to pack */\n".as_slice(),
+        b"\n".as_slice(),
+        b"\tint                        c;                    /*     4     4 */\n".as_slice(),
+        b"\tint                        d;                    /*     8     4 */\n".as_slice(),
+        b"\n".as_slice(),
+        b"\t/* XXX 3 bits hole, try to pack */\n".as_slice(),
+        b"\t/* XXX 22 bytes hole, try to pack */\n".as_slice(),
+        b"\n".as_slice(),
+        b"\t/* --- cacheline 2 boundary (32 bytes) was 2 bytes ago --- */\n".as_slice(),
+        b"\tint                        e:1;                  /*    34:3   1 */\n".as_slice(),
+        b"\tint                        f;                    /*    20     4 */\n".as_slice(),
+        b"\n".as_slice(),
+        b"\t/* size: 40, cachelines: 3, members: 6 */\n".as_slice(),
+        b"\t/* sum members: 13, holes: 3, sum holes: 24 */\n".as_slice(),
+        b"\t/* bit holes: 3, sum bit holes: 11 bits */\n".as_slice(),
+        b"\t/* padding: 5 */\n".as_slice(),
+        b"\t/* bit_padding: 4 bits */\n".as_slice(),
+        b"\t/* last cacheline: 8 bytes */\n".as_slice(),
+        b"};\n".as_slice(),
+    ];
+    assert_eq!(rt; text_of(alloc, &table, 2, 2, 16)?, joined(alloc, &lines)?);
+    Ok(())
+}
+
+#[test]
+fn a_member_without_a_size(rt: HostRuntime) -> Result<(), Fail> {
+    let alloc = rt.alloc();
+    let all = [
+        typed(4, b"s", false, 4, 0, 2, &[3, 2]),
+        typed(7, b"t", false, 0, 0, 0, &[]),
+        typed(2, b"", false, 0, 0, 0, &[2]),
+    ];
+    let parts = [(b"p".as_slice(), 0), (b"x".as_slice(), 64)];
+    let table = table_of(alloc, &all, &parts)?;
+    assert!(rt; matches!(&placed(alloc, &table, 1)?, Err(LayoutFault::NoSize(2))));
+    Ok(())
+}
