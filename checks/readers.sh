@@ -1,5 +1,5 @@
 #!/usr/bin/env bash
-# Other readers of BTF accept what the program stores (the files stored.o.hex of cases/, which checks/cases.sh
+# Other readers of BTF accept what the program stores (the files stored.o.hex of the cases, which checks/cases.sh
 # compares with the program's): bpftool, and a small C program over libbpf's btf__parse. A reader that isn't
 # installed is skipped by name.
 set -u
@@ -14,8 +14,8 @@ trap 'rm -rf "$scratch"' EXIT
 read_all() {
   local reader=$1 folder name said
   shift
-  for folder in "$root"/cases/*/; do
-    [ -f "${folder}stored.o.hex" ] || continue
+  for folder in "$root"/crates/run_cases/data/*/; do
+    [ -f "${folder}stored.o.hex" ] && [ ! -f "${folder}stops" ] || continue
     name=$(basename "$folder")
     unhex <"${folder}stored.o.hex" >"$scratch/o"
     if said=$("$@" "$scratch/o" 2>&1); then

@@ -1,4 +1,4 @@
-# Sourced by the checks: the files *.hex of cases/ as bytes.
+# Sourced by the checks: the files *.hex of the cases as bytes.
 
 # Lower-case hex on standard input to bytes on standard output.
 unhex() {

@@ -45,7 +45,7 @@ module _ (based : Bool) (types limit : ℕ) (want : Option Order) (bytes : List 
   all_well order body names pieces h s b p f = rw (h, s, b, p, f) refl
 
 -- the words of a piece are those where it was cut off
-word_cut : (order : Order) (bytes : List ℕ) (n i : ℕ) → 4 * i + 4 ≤ n → word_in order (take n bytes) i ≡ word_in order bytes i
+pub word_cut : (order : Order) (bytes : List ℕ) (n i : ℕ) → 4 * i + 4 ≤ n → word_in order (take n bytes) i ≡ word_in order bytes i
 word_cut Little bytes n i le =
     let a = get_or-take n bytes (4 * i) 0 (omega arith) in
     let b = get_or-take n bytes (4 * i + 1) 0 (omega arith) in

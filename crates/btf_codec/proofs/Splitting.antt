@@ -31,7 +31,7 @@ with_one : (front : List (List ℕ)) (p : List ℕ) (r : Result (List (List ℕ)
 with_one front p (Ok rest) = ap (λ (xs : List (List ℕ)). let r : Result (List (List ℕ)) BtfFault = Ok xs in r) (sym (append_assoc front (p ∷ []) rest))
 with_one front p (Err e) = refl
 
-width_some : (layout : Layout) (v : ℕ) → 3 ≤ type_width layout v
+pub width_some : (layout : Layout) (v : ℕ) → 3 ≤ type_width layout v
 width_some Int v = omega arith
 width_some Link v = omega arith
 width_some Array v = omega arith
@@ -81,7 +81,7 @@ one_piece order n i place id size (b ∷ bs) front total lt some h so_far =
     ∙ sym (rw h refl)
     ∙ s
 
-at_end : (order : Order) (k place id : ℕ) → pieces_of order k place id [] ≡ Ok []
+pub at_end : (order : Order) (k place id : ℕ) → pieces_of order k place id [] ≡ Ok []
 unfolding pieces_of
 at_end order zero place id = refl
 at_end order (suc k) place id = refl

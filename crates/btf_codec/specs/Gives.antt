@@ -1,11 +1,13 @@
 -- What a call of the reader answers, against what reading gives.
-use Rattle.std.specs.Prelude.{◌≡◌, ℕ, ◌*◌, ◌-◌, ◌<◌, ◌^◌, List, length, slice_get, slice_index, Option, None, Some, Result, Ok, Err, ⊤}
-use Rattle.btf_codec.specs.Reading.{Before, Shown, layout_in, type_width, vlen_in, word_in}
+use Rattle.std.specs.Prelude.{◌≡◌, ℕ, ◌*◌, ◌-◌, ◌<◌, ◌^◌, List, length, slice_get, ◌++◌, slice_index, Option, None, Some, Result, Ok, Err, ⊤}
+use Rattle.btf_codec.specs.Reading.{Before, Shown, types_before, layout_in, type_width, vlen_in, word_in}
 use Rattle.btf_codec.specs.declared.fault.BtfFault.{BtfFault}
 use Rattle.btf_codec.specs.declared.fault.BtfFault.TheVariants.{Memory}
 use Rattle.btf_codec.specs.declared.layout.Layout.{Layout}
 use Rattle.c_model.specs.Graph.{RefersWithin}
+use Rattle.c_model.specs.declared.graph.CType.{CType}
 use Rattle.btf_codec.specs.declared.table.Table.{Table}
+use Rattle.btf_codec.specs.Spells.{Base}
 use Rattle.dw_base.specs.declared.numbers.Order.{Order}
 
 -- the answer, seen by a view
@@ -51,3 +53,12 @@ before_of t = record { types = t.types; names = t.names.now }
 
 abbrev pub shown_of : Table → Shown
 shown_of t = record { order = t.order; base = t.base; types = t.types; names = t.names.now }
+
+-- the table that the own types and strings go on from
+abbrev pub base_seen : Option Before → Option Base
+base_seen None = None
+base_seen (Some before) = Some (record { types = length before.types; names = before.names })
+
+-- the table of own types and strings over the one before
+abbrev pub table_over : Option Before → Order → List CType → List ℕ → Shown
+table_over before order own names = record { order = order; base = length (types_before before); types = types_before before ++ own; names = names }

@@ -8,6 +8,8 @@ pub mod laws;
 mod layout;
 mod pieces;
 pub mod reader;
+#[cfg(test)]
+mod reader_tests;
 mod shared;
 mod shown;
 pub mod table;
@@ -17,7 +19,7 @@ mod words;
 pub mod writer;
 
 pub use fault::BtfFault;
-pub use laws::spelled_once;
+pub use laws::{spelled_once, written_is_read};
 pub use reader::read;
 pub use table::{Table, TableOut};
 pub use writer::write;

@@ -1,9 +1,13 @@
 //! The reader of BTF files.
-ghost use Rattle.std.specs.Prelude.{◌≡◌, ◌+◌, ◌*◌, ◌-◌, ◌/◌, ◌<◌, ◌≤◌, ◌^◌, ◌++◌, ℕ, List, Ok, Err, length, map, take, slice_index_or, is_some, All, IfOk, OnOk, IfSome};
+ghost use Rattle.std.specs.Prelude.{◌≡◌, ◌+◌, ◌*◌, ◌-◌, ◌/◌, ◌<◌, ◌≤◌, ◌^◌, ◌++◌, ℕ, List, Ok, Err, length, map, take, drop, slice_index_or, is_some, All, IfOk, IsTrue, MatchResult, OnOk, IfSome};
 ghost use Rattle.std.specs.Option.{option_map};
-ghost use Rattle.btf_codec.specs.Gives.{EndsWithNul, Gives, IsBefore, IsPiece, before_of, shown_of, unless};
-ghost use Rattle.btf_codec.specs.Reading.{file_of, names_before, pieces_fault, table_of, type_shown, types_before, types_of, word_in};
+ghost use Rattle.btf_codec.specs.Gives.{EndsWithNul, Gives, IsBefore, IsPiece, base_seen, before_of, shown_of, table_over, unless};
+ghost use Rattle.btf_codec.specs.Reading.{file_of, is_wanted, names_before, pieces_fault, table_of, type_shown, types_before, types_of, word_in};
+ghost use Rattle.btf_codec.specs.Spells.{Spells};
+ghost use Rattle.btf_codec.specs.declared.fault.BtfFault.TheVariants.{Memory};
 ghost use Rattle.btf_codec.specs.declared.table.Table.{Table};
+ghost use Rattle.c_model.specs.declared.graph.CType.{CType};
+ghost use Rattle.dw_base.specs.declared.numbers.Order.{Order};
 ghost use denote.Bor.{Bor};
 
 use crate::fault::BtfFault;
@@ -177,7 +181,9 @@ fn strings_of<'a>(base: Option<&Table<'a>>) -> &'a [u8]
     }
 }
 
-/// The table that the bytes spell, or the first fault of the bytes.
+/// The table that the bytes spell over a base, in the wanted byte order if one is wanted (the kernel's BTF documentation).
+/// Bytes that spell none are refused with their first fault, by the order of the checks, and none are refused that
+/// spell one, unless memory runs out.
 pub fn read<'a>(
     alloc: Global,
     bytes: &'a [u8],
@@ -185,7 +191,18 @@ pub fn read<'a>(
     base: Option<&Table<'a>>,
 ) -> Result<Table<'a>, BtfFault>
     requires { IfSome base (λ b. IsBefore b.now) }
-    ensures { Gives shown_of result (table_of (option_map (λ b. before_of b.now) base.entry) want bytes.now) }
+    // The table, or the first fault by the order of the checks.
+    ensures gives { Gives shown_of result (table_of (option_map (λ b. before_of b.now) base.entry) want bytes.now) }
+    // The bytes spell the own types and strings over the base.
+    ensures spelled { IfOk result (λ t. Spells (base_seen (option_map (λ b. before_of b.now) base.entry)) t.order (drop t.base t.types) t.names.now bytes.now) }
+    // The types of the base come first.
+    ensures first { IfOk result (λ t. take t.base t.types ≡ types_before (option_map (λ b. before_of b.now) base.entry)) }
+    ensures base { IfOk result (λ t. t.base ≡ length (types_before (option_map (λ b. before_of b.now) base.entry))) }
+    ensures wanted { IfOk result (λ t. IsTrue (is_wanted want t.order)) }
+    // What is spelled in a wanted byte order is read, unless memory runs out.
+    ensures complete { (order : Order) (own : List CType) (names : List ℕ) →
+        Spells (base_seen (option_map (λ b. before_of b.now) base.entry)) order own names bytes.now → IsTrue (is_wanted want order) →
+        MatchResult result (λ t. shown_of t ≡ table_over (option_map (λ b. before_of b.now) base.entry) order own names) (λ e. e ≡ Memory) }
 {
     let mut all = types_of(alloc, base)?;
     let before = all.len() as u32;

@@ -17,6 +17,8 @@ mod shared;
 mod sources;
 pub mod table;
 #[cfg(test)]
+mod table_tests;
+#[cfg(test)]
 mod tests;
 mod types;
 

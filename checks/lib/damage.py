@@ -1,0 +1,81 @@
+"""damage.py PROGRAM FOLDER: runs PROGRAM on a thousand damaged copies of FOLDER/whole."""
+import collections
+import os
+import random
+import re
+import struct
+import subprocess
+import sys
+
+RUNS = 1000
+SECONDS = 20
+LINE = re.compile(
+    rb"pahole: (a|-): (image|\.debug_info|\.debug_abbrev|table) \d+: error \d+( -?\d+){0,2}\n|pahole: out of memory\n"
+)
+
+
+def debug_ranges(elf):
+    """The places of the sections `.debug_*` of a 64-bit little-endian file, as pairs of begin and end."""
+    table, size, count, names = struct.unpack_from("<Q", elf, 40)[0], *struct.unpack_from("<HHH", elf, 58)
+    headers = [struct.unpack_from("<IIQQQQ", elf, table + i * size) for i in range(count)]
+    texts = headers[names][4]
+    ranges = []
+    for name, _, _, _, offset, length in headers:
+        if elf[texts + name:].startswith(b".debug_") and length:
+            ranges.append((offset, offset + length))
+    return ranges
+
+
+def damaged(elf, ranges, dice):
+    """A copy of the file, cut off or with 1 to 8 bytes changed."""
+    if dice.random() < 0.1:
+        return elf[: dice.randrange(len(elf))]
+    copy = bytearray(elf)
+    inside = dice.random() < 0.5
+    for _ in range(dice.randint(1, 8)):
+        begin, end = dice.choice(ranges) if inside else (0, len(copy))
+        copy[dice.randrange(begin, end)] = dice.randrange(256)
+    return bytes(copy)
+
+
+def wrong(status, complaint, stored):
+    """What is wrong with a run's end, or nothing."""
+    if status not in range(6):
+        return f"status {status}"
+    if stored and status != 0:
+        return f"something is stored on status {status}"
+    if status == 0:
+        return "a complaint on status 0" if complaint else None
+    if not LINE.fullmatch(complaint):
+        return f"the complaint {complaint[:200]!r}"
+    return None
+
+
+def main():
+    program, folder = os.path.abspath(sys.argv[1]), sys.argv[2]
+    with open(f"{folder}/whole", "rb") as file:
+        elf = file.read()
+    ranges, dice = debug_ranges(elf), random.Random(20261127)
+    ends, bad = collections.Counter(), 0
+    for run in range(RUNS):
+        with open(f"{folder}/a", "wb") as file:
+            file.write(damaged(elf, ranges, dice))
+        out = f"{folder}/o"
+        if os.path.exists(out):
+            os.remove(out)
+        try:
+            ended = subprocess.run([program, "--btf_encode_detached=o", "a"], cwd=folder, capture_output=True, timeout=SECONDS)
+            fault = wrong(ended.returncode, ended.stderr, os.path.exists(out))
+            ends[ended.returncode] += 1
+        except subprocess.TimeoutExpired:
+            fault = f"no end within {SECONDS} seconds"
+        if fault:
+            print(f"failed damage {run}: {fault}")
+            bad += 1
+    if not bad:
+        counts = ", ".join(f"{ends[status]} with status {status}" for status in sorted(ends))
+        print(f"passed damage: {RUNS} damaged files, {counts}")
+    return bad != 0
+
+
+sys.exit(main())

@@ -1,0 +1,136 @@
+//! Coarsest partitions compared with a plain program over pairs: of worked graphs, of made graphs, and of graphs at
+//! the limits of size.
+#![tactic(auto)]
+
+mod compared;
+mod fault;
+mod fitting;
+mod made;
+mod merged;
+mod plain;
+mod rows;
+mod sizes;
+mod worked;
+
+use anyhow::Error;
+use compared::{Tally, decided, is_one_relation};
+use made::{Draws, made_table};
+use sizes::{
+    all_differ, empty_rounds, ints_of_sizes, ints_table, long_name_table, ring_has_two_classes,
+};
+use split_base::TableFault;
+use std::alloc::Global;
+use std::process::ExitCode;
+use worked::worked_graphs;
+
+/// How many graphs are made.
+const MADE: u64 = 300;
+
+fn main(rt: HostRuntime) -> ExitCode {
+    let alloc = rt.alloc();
+    let all = worked_agree(&rt, alloc)
+        .and_then(|first| Ok(made_agree(&rt, alloc)? && first))
+        .and_then(|first| Ok(limits_hold(&rt, alloc)? && first));
+    match all {
+        Ok(true) => ExitCode::SUCCESS,
+        Ok(false) => ExitCode::from(1),
+        Err(error) => {
+            let _ = println!(rt; "{error}");
+            ExitCode::from(1)
+        }
+    }
+}
+
+/// The worked graphs: both programs find what is written beside them.
+fn worked_agree<R: Print>(rt: &R, alloc: Global) -> Result<bool, Error> {
+    let mut differ = 0u64;
+    let mut tally = Tally::default();
+    let all = worked_graphs(alloc)?;
+    for worked in &all {
+        let (numbers, same) = decided(alloc, &worked.table, &mut tally)?;
+        if !same || !is_one_relation(&numbers, &worked.want) {
+            println!(rt; "{} differs", worked.name)?;
+            differ = differ.saturating_add(1);
+        }
+    }
+    let verdict = if differ == 0 {
+        "as expected"
+    } else {
+        "some differ"
+    };
+    println!(rt; "worked graphs: {}, {}", all.len(), verdict)?;
+    Ok(differ == 0)
+}
+
+/// The made graphs: both programs find one relation.
+fn made_agree<R: Print>(rt: &R, alloc: Global) -> Result<bool, Error> {
+    let mut draws = Draws::new(2026);
+    let mut differ = 0u64;
+    let mut tally = Tally::default();
+    for number in 0..MADE {
+        let table = made_table(alloc, &mut draws)?;
+        let (_, same) = decided(alloc, &table, &mut tally)?;
+        if !same {
+            println!(rt; "made graph {} differs", number)?;
+            differ = differ.saturating_add(1);
+        }
+    }
+    let verdict = if differ == 0 {
+        "none differs"
+    } else {
+        "some differ"
+    };
+    println!(rt; "made graphs: {MADE}, {verdict}")?;
+    println!(rt;
+        "  pairs of different types that are related: {}",
+        tally.pairs
+    )?;
+    println!(rt; "  forwards without a definition: {}", tally.undefined)?;
+    println!(rt; "  forwards that the base closes: {}", tally.closed)?;
+    println!(rt; "  open forwards of one definition: {}", tally.of_one)?;
+    println!(rt;
+        "  open forwards of several definitions, all of one class: {}",
+        tally.of_equals
+    )?;
+    println!(rt;
+        "  open forwards of several classes of definitions: {}",
+        tally.apart
+    )?;
+    Ok(differ == 0)
+}
+
+/// The word for whether something holds.
+fn said(holds: bool) -> &'static str {
+    if holds { "yes" } else { "no" }
+}
+
+/// The graphs at the limits of size.
+fn limits_hold<R: Print>(rt: &R, alloc: Global) -> Result<bool, Error> {
+    let rounds = empty_rounds(alloc)?;
+    match rounds {
+        Some(rounds) => println!(rt; "empty graph: {rounds} rounds")?,
+        None => println!(rt; "empty graph: it has classes")?,
+    }
+    let ring = ring_has_two_classes(alloc, 1000)?;
+    println!(rt;
+        "ring of 1000 pointers among equal structures, two classes: {}",
+        said(ring)
+    )?;
+    let ints = ints_of_sizes(alloc, 1 << 20)?;
+    let apart = all_differ(alloc, &ints)?;
+    println!(rt; "1048576 sizes of INT, all differ: {}", said(apart))?;
+    let table = ints_table(alloc, &ints)?;
+    println!(rt; "  their table: {:?}", table)?;
+    let most = long_name_table(alloc, 16_777_213)?;
+    println!(rt; "a last name at 16777215: {:?}", most)?;
+    let far = long_name_table(alloc, 16_777_214)?;
+    println!(rt; "a last name at 16777216: {:?}", far)?;
+    Ok(
+        rounds == Some(0)
+            && ring
+            && apart
+            && table == Err(TableFault::TooManyTypes(1_048_576))
+            && most == Ok(2)
+            && far == Err(TableFault::NamesTooLong(16_777_216)),
+    )
+}

@@ -1,0 +1,100 @@
+//! The partition that the proved program finds.
+ghost use Rattle.std.specs.Prelude.{◌≡◌, ◌<◌, ◌++◌, take, IfOk};
+ghost use Rattle.c_model.specs.Partition.{IsCoarsest};
+ghost use Rattle.c_model.specs.Forwards.{HasFittingForwards};
+
+use crate::fault::Fault;
+use crate::fitting::{graph_from, is_fitting};
+use c_model::laws::nothing_open_is_plain;
+use c_model::{CType, Classes, Graph};
+use class_refine::{Refined, classes};
+use dw_base::Steps;
+use forward_rule::FwdIndex;
+use std::alloc::{AllocError, Global};
+use std::marker::Brand;
+use std::sync::ledger::{Blank, Ledger};
+
+/// A graph and its coarsest partition.
+#[derive(Debug, Drop)]
+pub struct Found<'a> {
+    pub graph: Graph<'a>,
+    pub refined: Refined,
+}
+
+/// The coarsest plain agreement of a graph.
+fn plain_classes<L: Ledger>(
+    alloc: Global,
+    graph: &Graph<'_>,
+    steps: &mut Steps<L>,
+) -> Result<Classes, AllocError>
+    requires { HasFittingForwards graph.now }
+    ensures { IfOk result (λ c. IsCoarsest graph.now.nodes c) }
+{
+    nothing_open_is_plain();
+    let closed = FwdIndex::plain(graph);
+    let refined = classes(alloc, graph, &closed, steps)?;
+    Ok(refined.classes)
+}
+
+/// The types, and behind them others.
+fn followed_by<'a>(types: Vec<CType<'a>>, own: Vec<CType<'a>>) -> Result<Vec<CType<'a>>, AllocError>
+    ensures { IfOk result (λ nodes. nodes.items ≡ types.entry.items ++ own.entry.items) }
+{
+    let mut nodes = types;
+    for t in own {
+        nodes.push(t)?;
+    }
+    Ok(nodes)
+}
+
+/// The graph of a base and of types behind it.
+fn joined<'a>(alone: Graph<'a>, own: Vec<CType<'a>>) -> Result<Graph<'a>, Fault>
+    ensures { IfOk result (λ g. take g.base g.nodes ≡ alone.entry.nodes) }
+{
+    let base = alone.len();
+    let nodes = followed_by(alone.into_nodes().into_items(), own)?;
+    match graph_from(base, nodes) {
+        Some(graph) => Ok(graph),
+        None => Err(Fault::Unfit),
+    }
+}
+
+/// The coarsest partition of a base and of types behind it.
+pub fn merged<'a>(
+    alloc: Global,
+    base: Vec<CType<'a>>,
+    own: Vec<CType<'a>>,
+) -> Result<Found<'a>, Fault> {
+    merged_over::<Brand>(alloc, base, own, Blank::new(1))
+}
+
+/// The same over a counter of steps, which nobody reads here.
+fn merged_over<'a, L: Ledger>(
+    alloc: Global,
+    base: Vec<CType<'a>>,
+    own: Vec<CType<'a>>,
+    blank: Blank,
+) -> Result<Found<'a>, Fault>
+    requires name { blank.name ≡ L.name }
+    requires parts { blank.parts ≡ L.parts }
+    requires some { 0 < L.parts }
+{
+    let mut steps = Steps::<L>::new(blank);
+    let Ok(count) = u32::try_from(base.len()) else {
+        return Err(Fault::Unfit);
+    };
+    let Some(alone) = graph_from(count, base) else {
+        return Err(Fault::Unfit);
+    };
+    if !is_fitting(&alone) {
+        return Err(Fault::Unfit);
+    }
+    let kept = plain_classes(alloc, &alone, &mut steps)?;
+    let graph = joined(alone, own)?;
+    if !is_fitting(&graph) {
+        return Err(Fault::Unfit);
+    }
+    let forwards = FwdIndex::build(alloc, &graph, &kept)?;
+    let refined = classes(alloc, &graph, &forwards, &mut steps)?;
+    Ok(Found { graph, refined })
+}

@@ -1,0 +1,104 @@
+//! Small graphs as tables: a row for each type.
+use c_model::{CType, Label, Part, Parts, Ref, Refs};
+use dw_base::Name;
+use std::alloc::{AllocError, Global};
+
+pub const INT: u8 = 1;
+
+pub const PTR: u8 = 2;
+
+pub const STRUCT: u8 = 4;
+
+pub const UNION: u8 = 5;
+
+pub const ENUM: u8 = 6;
+
+pub const FWD: u8 = 7;
+
+pub const TYPEDEF: u8 = 8;
+
+pub const ENUM64: u8 = 19;
+
+/// A member or an enumerator: its name and its value.
+#[derive(Clone, Copy, Debug)]
+pub struct Piece {
+    pub name: &'static [u8],
+    pub value: u64,
+}
+
+/// What a type says of itself, apart from what it refers to.
+#[derive(Clone, Copy, Debug)]
+pub struct Head {
+    pub kind: u8,
+    pub name: &'static [u8],
+    pub flag: bool,
+    pub size: u32,
+    pub pieces: &'static [Piece],
+}
+
+/// A type of a table.
+#[derive(Debug, Drop)]
+pub struct Row {
+    pub head: Head,
+    pub targets: Vec<Ref>,
+}
+
+/// A graph: its types, the first `base` of which are those of a base.
+#[derive(Debug, Drop)]
+pub struct Table {
+    pub base: usize,
+    pub rows: Vec<Row>,
+}
+
+/// What a type without parts says of itself.
+pub fn bare(kind: u8, name: &'static [u8], size: u32) -> Head {
+    Head {
+        kind,
+        name,
+        flag: false,
+        size,
+        pieces: &[],
+    }
+}
+
+/// What a type with these parts says of itself.
+pub fn parted(kind: u8, name: &'static [u8], size: u32, pieces: &'static [Piece]) -> Head {
+    Head {
+        kind,
+        name,
+        flag: false,
+        size,
+        pieces,
+    }
+}
+
+/// The label of a row.
+fn label_of(alloc: Global, head: &Head) -> Result<Label<'static>, AllocError> {
+    let mut parts = Vec::new(alloc);
+    for piece in head.pieces {
+        parts.push(Part {
+            name: Name::new(piece.name),
+            value: piece.value,
+        })?;
+    }
+    Ok(Label {
+        kind: head.kind,
+        name: Name::new(head.name),
+        flag: head.flag,
+        size: head.size,
+        extra: 0,
+        parts: Parts::new(parts),
+    })
+}
+
+/// The types of these rows.
+pub fn types_of(alloc: Global, rows: &[Row]) -> Result<Vec<CType<'static>>, AllocError> {
+    let mut types = Vec::new(alloc);
+    for row in rows {
+        types.push(CType {
+            label: label_of(alloc, &row.head)?,
+            targets: Refs::new(Vec::from_slice(alloc, row.targets.as_slice())?),
+        })?;
+    }
+    Ok(types)
+}

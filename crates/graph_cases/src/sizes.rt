@@ -1,0 +1,100 @@
+//! Graphs at the limits of size.
+use crate::compared::is_one_relation;
+use crate::fault::Fault;
+use crate::fitting::are_ints;
+use crate::merged::{Found, merged};
+use crate::rows::{INT, PTR, Piece, Row, STRUCT, bare, parted, types_of};
+use c_model::{CType, Label, Parts, Ref, Refs};
+use dw_base::Name;
+use split_base::{TableFault, build};
+use std::alloc::{AllocError, Global};
+
+/// The number of rounds of the empty graph, which has no classes.
+pub fn empty_rounds(alloc: Global) -> Result<Option<u32>, Fault> {
+    let found = merged(alloc, Vec::new(alloc), Vec::new(alloc))?;
+    let rounds = found.refined.rounds();
+    Ok(if found.refined.classes.numbers().is_empty() {
+        Some(rounds)
+    } else {
+        None
+    })
+}
+
+const NEXT: &[Piece] = &[Piece {
+    name: b"next",
+    value: 0,
+}];
+
+/// Whether a ring of so many pointers among equal structures has two classes.
+pub fn ring_has_two_classes(alloc: Global, pointers: u32) -> Result<bool, Fault> {
+    let count = pointers.saturating_mul(2);
+    let mut rows = Vec::new(alloc);
+    let mut want = Vec::new(alloc);
+    for x in 0..count {
+        let head = if x % 2 == 0 {
+            parted(STRUCT, b"ring", 8, NEXT)
+        } else {
+            bare(PTR, b"", 0)
+        };
+        let next = x.saturating_add(1) % count;
+        let targets = vec![in alloc; Ref::Node(next)]?;
+        rows.push(Row { head, targets })?;
+        want.push(x % 2)?;
+    }
+    let found = merged(alloc, Vec::new(alloc), types_of(alloc, &rows)?)?;
+    Ok(is_one_relation(found.refined.classes.numbers(), &want))
+}
+
+/// An INT of a name and a size.
+fn int<'a>(alloc: Global, name: &'a [u8], size: u32) -> CType<'a> {
+    CType {
+        label: Label {
+            kind: INT,
+            name: Name::new(name),
+            flag: false,
+            size,
+            extra: 0,
+            parts: Parts::new(Vec::new(alloc)),
+        },
+        targets: Refs::new(Vec::new(alloc)),
+    }
+}
+
+/// INTs of so many sizes, merged.
+pub fn ints_of_sizes(alloc: Global, count: u32) -> Result<Found<'static>, Fault> {
+    let mut types = Vec::new(alloc);
+    for size in 0..count {
+        types.push(int(alloc, b"int", size))?;
+    }
+    merged(alloc, Vec::new(alloc), types)
+}
+
+/// Whether no two nodes are of one class.
+pub fn all_differ(alloc: Global, found: &Found<'_>) -> Result<bool, AllocError> {
+    let mut numbers = Vec::from_slice(alloc, found.refined.classes.numbers())?;
+    numbers.sort_unstable();
+    Ok(numbers.windows(2).all(|pair| pair.first() != pair.last()))
+}
+
+/// The number of types of the table of a graph of INTs, or why there is none.
+pub fn ints_table(alloc: Global, found: &Found<'_>) -> Result<Result<usize, TableFault>, Fault> {
+    let classes = &found.refined.classes;
+    let graph = &found.graph;
+    if classes.numbers().len() != graph.nodes().len() || !are_ints(graph.nodes()) {
+        return Err(Fault::Unfit);
+    }
+    match build(alloc, graph, classes, None) {
+        Ok(table) => Ok(Ok(table.types.items().len())),
+        Err(fault) => Ok(Err(fault)),
+    }
+}
+
+/// The table of two INTs, the first with a name of so many bytes.
+pub fn long_name_table(alloc: Global, bytes: usize) -> Result<Result<usize, TableFault>, Fault> {
+    let name = vec![in alloc; b'n'; bytes]?;
+    let mut types = Vec::new(alloc);
+    types.push(int(alloc, &name, 4))?;
+    types.push(int(alloc, b"last", 4))?;
+    let found = merged(alloc, Vec::new(alloc), types)?;
+    ints_table(alloc, &found)
+}
