@@ -1,27 +1,31 @@
 -- A job from its steps.
-use Rattle.std.proofs.Common.{◌≡◌, ◌+◌, ◌≤◌, List, [], ℕ, Ok, Err, Result, ap, ◌∙◌, sym, length, subst, arith, refl, Option, None, Some, IfSome, OnOk, true, false, is_some}
+use Rattle.std.proofs.Common.{Bool, ◌≡◌, ◌+◌, ◌≤◌, ◌++◌, List, [], ℕ, Ok, Err, Result, ap, ◌∙◌, sym, length, subst, arith, refl, Option, None, Some, IfSome, OnOk, true, false, is_some}
+use Rattle.std.proofs.lemmas.List.{append-nil}
 use Rattle.std.specs.Option.{option_map, option_or, ForSome}
 use Rattle.std.specs.Global.{Vec}
 use Rattle.dw_base.specs.declared.places.Limits.{Limits}
 use Rattle.world_io.specs.Meaning.{Meaning}
-use Rattle.world_io.specs.Calls.{Rose, Stores, raised, under, IsLeft}
+use Rattle.world_io.specs.Calls.{Rose, Stores, Prints, Gains, GainsPart, raised, under, IsLeft}
 use Rattle.world_io.specs.declared.files.HeldFile.{HeldFile}
 use Rattle.world_io.specs.declared.fault.OutFault.{OutFault}
 use Rattle.world_io.specs.declared.fault.OutFault.TheVariants.{Failed as OutFailed, Memory as OutMemory}
-use Rattle.command_line.specs.declared.job.Job.TheVariants.{Encode}
-use Rattle.pahole_run.specs.Tasks.{Task, task_of}
+use Rattle.command_line.specs.declared.job.Job.TheVariants.{Encode, Show}
+use Rattle.command_line.specs.declared.job.Format.{Format}
+use Rattle.command_line.specs.declared.job.Format.TheVariants.{Dwarf, Btf}
+use Rattle.pahole_run.specs.Tasks.{Display, Task, encode_task, show_task, shown_by, is_btf, task_of}
 use Rattle.pahole_run.specs.declared.refusal.Refusal.{Refusal}
-use Rattle.pahole_run.specs.declared.refusal.Refusal.TheVariants.{Missing, Fault as Numbered}
+use Rattle.pahole_run.specs.declared.refusal.Refusal.TheVariants.{Missing, NoName, Fault as Numbered}
 use Rattle.pahole_run.specs.declared.refusal.Fault.{Fault}
 use Rattle.pahole_run.specs.declared.refusal.Ended.{Ended}
-use Rattle.pahole_run.specs.declared.refusal.Ended.TheVariants.{Refused, Read, Store, Memory}
-use Rattle.pahole_run.specs.Layers.{of_store, of_whole}
+use Rattle.pahole_run.specs.declared.refusal.Ended.TheVariants.{Refused, Read, Print, Store, Memory}
+use Rattle.pahole_run.specs.Layers.{of_store, of_print, of_whole}
 use Rattle.c_model.specs.declared.graph.CType.{CType}
 use Rattle.split_base.specs.Merged.{IsMerged}
-use Rattle.pahole_run.specs.Files.{alone, order_in, graph_in}
-use Rattle.pahole_run.specs.Tables.{btf_of, AreSpelled, TheTable}
-use Rattle.pahole_run.specs.Refusals.{load_refusal, contents, nodes_unless, made_nodes, nodes_of, first, graph_checks, table_checks, early_checks, file_checks, first_refusal, MergeTo}
-use Rattle.pahole_run.specs.Steps.{LoadsAll, OnlyLoads, CalledAtMost, Counted, EndsAt, IsLoadEnd, Cause, Tells, IsOwn, Kept, Unstored, Holds, StoresOut, IsStoreEnd, Knows, Makes, output_of, Done}
+use Rattle.pahole_run.specs.Files.{alone, graph_in}
+use Rattle.shown_types.specs.declared.showing.Style.{Style}
+use Rattle.pahole_run.specs.Tables.{TheTable}
+use Rattle.pahole_run.specs.Refusals.{load_refusal, contents, nodes_unless, made_nodes, nodes_of, first, graph_checks, early_checks, late_checks, file_checks, first_refusal, MergeTo}
+use Rattle.pahole_run.specs.Steps.{LoadsAll, OnlyLoads, CalledAtMost, Counted, EndsAt, IsLoadEnd, Cause, PrintCause, Tells, IsOwn, Kept, Unstored, UnstoredBy, Unprinted, UnprintedBy, Holds, StoresOut, IsStoreEnd, Printed, PrintKept, PrintsOut, Knows, Makes, IsOutput, SpelledBy, Delivers, Done}
 use Rattle.pahole_run.proofs.LoadLemmas.{called_within, called_once, part_told}
 use Rattle.pahole_run.proofs.NoTypes.{no_table, first_more}
 
@@ -75,52 +79,158 @@ store_err out bytes before after OutMemory s =
       ends = tt;
     }
 
--- the whole job
+-- one print
 
--- nothing is stored
-kept_load :
-    (V : Type 0) (out bytes : List ℕ) (before after : Meaning) (e : Ended)
-    → IsLoadEnd {V = V} (Err e) → after.stored ≡ before.stored → Kept out bytes before after (Err e)
-kept_load V out bytes before after (Refused r) l s = s
-kept_load V out bytes before after (Read i) l s = s
-kept_load V out bytes before after Store l s = absurd l
-kept_load V out bytes before after Memory l s = s
+append_none : (o : Option (List ℕ)) → o ≡ option_map (λ (xs : List ℕ). xs ++ []) o
+append_none None = refl
+append_none (Some xs) = ap (λ (v : List ℕ). Some v) (sym (append-nil xs))
 
-kept_own :
-    (V : Type 0) (out bytes : List ℕ) (before after : Meaning) (e : Ended)
-    → IsOwn {V = V} (Err e) → after.stored ≡ before.stored → Kept out bytes before after (Err e)
-kept_own V out bytes before after (Refused r) l s = s
-kept_own V out bytes before after (Read i) l s = s
-kept_own V out bytes before after Store l s = absurd l
-kept_own V out bytes before after Memory l s = s
+-- an empty text is not printed
+pub print_none : (text : List ℕ) (w : Meaning) → text ≡ [] → PrintsOut text w w (Ok tt)
+print_none text w none =
+    record {
+      rest = refl;
+      calls = λ c e. (c, e, omega arith);
+      cause = refl;
+      kept = subst (λ (t : List ℕ). Printed t w w) (sym none) (append_none w.printed);
+    }
 
-unstored_same : (before after : Meaning) (e : Ended) → after.stored ≡ before.stored → Unstored before after (Err e)
-unstored_same before after (Refused r) s = s
-unstored_same before after (Read i) s = s
-unstored_same before after Store s = tt
-unstored_same before after Memory s = s
+print_rest :
+    (before after : Meaning)
+    → after ≡ record before { printed = after.printed; calls = option_map raised before.calls; prints = after.prints }
+    → after ≡ record before { printed = after.printed; calls = after.calls; prints = after.prints }
+print_rest before after rest =
+    subst (λ (k : Option ℕ). after ≡ record before { printed = after.printed; calls = k; prints = after.prints })
+    (sym (ap (λ (w : Meaning). w.calls) rest)) rest
 
-unstored_from :
-    (out bytes : List ℕ) (before now after : Meaning) (r : Result (Unit {0}) Ended)
-    → now.stored ≡ before.stored → IsStoreEnd r → Kept out bytes now after r → Unstored before after r
-unstored_from out bytes before now after (Ok u) s o k = tt
-unstored_from out bytes before now after (Err (Refused r)) s o k = absurd o
-unstored_from out bytes before now after (Err (Read i)) s o k = absurd o
-unstored_from out bytes before now after (Err Store) s o k = tt
-unstored_from out bytes before now after (Err Memory) s o k = k ∙ s
+pub print_ok : (text : List ℕ) (before after : Meaning) → Prints before after text (Ok tt) → PrintsOut text before after (Ok tt)
+print_ok text before after p =
+    record {
+      rest = print_rest before after p.rest;
+      calls = called_once before.calls after.calls (ap (λ (w : Meaning). w.calls) p.rest);
+      cause = p.still (λ e. cc);
+      kept = p.ok;
+    }
+
+pub print_err :
+    (text : List ℕ) (before after : Meaning) (f : OutFault)
+    → Prints before after text (Err f) → PrintsOut text before after (Err (of_print f))
+print_err text before after OutFailed p =
+    record {
+      rest = print_rest before after p.rest;
+      calls = called_once before.calls after.calls (ap (λ (w : Meaning). w.calls) p.rest);
+      cause = p.failed refl;
+      kept = p.part refl;
+    }
+print_err text before after OutMemory p =
+    record {
+      rest = print_rest before after p.rest;
+      calls = called_once before.calls after.calls (ap (λ (w : Meaning). w.calls) p.rest);
+      cause = p.still (λ e. cc);
+      kept = p.memory refl;
+    }
+
+-- what stays in a whole task
+
+abbrev Rest : Meaning → Meaning → Type 0
+Rest before w =
+    w
+    ≡ record before {
+      printed = w.printed;
+      stored = w.stored;
+      calls = w.calls;
+      loads = w.loads;
+      prints = w.prints;
+      stores = w.stores;
+    }
+
+rest_loaded : (before after : Meaning) (c : Option ℕ) (l : ℕ) → after ≡ record before { calls = c; loads = l } → Rest before after
+rest_loaded before after c l e = subst (Rest before) (sym e) refl
+
+rest_stored :
+    (before now after : Meaning) (c d : Option ℕ) (l t : ℕ) (s : Option (List HeldFile))
+    → now ≡ record before { calls = c; loads = l } → after ≡ record now { stored = s; calls = d; stores = t }
+    → Rest before after
+rest_stored before now after c d l t s e f =
+    subst (Rest before) (sym (f ∙ ap (λ (w : Meaning). let v : Meaning = record w { stored = s; calls = d; stores = t } in v) e)) refl
+
+rest_printed :
+    (before now after : Meaning) (c d : Option ℕ) (l t : ℕ) (s : Option (List ℕ))
+    → now ≡ record before { calls = c; loads = l } → after ≡ record now { printed = s; calls = d; prints = t }
+    → Rest before after
+rest_printed before now after c d l t s e f =
+    subst (Rest before) (sym (f ∙ ap (λ (w : Meaning). let v : Meaning = record w { printed = s; calls = d; prints = t } in v) e)) refl
+
+delivers_load :
+    (V : Type 0) (task : Task) (P : List ℕ → Type 0) (before after : Meaning) (e : Ended)
+    → IsLoadEnd {V = V} (Err e) → Delivers task P before after (Err e)
+delivers_load V task P before after (Refused r) l = tt
+delivers_load V task P before after (Read i) l = tt
+delivers_load V task P before after Print l = absurd l
+delivers_load V task P before after Store l = absurd l
+delivers_load V task P before after Memory l = tt
+
+delivers_own :
+    (V : Type 0) (task : Task) (P : List ℕ → Type 0) (before after : Meaning) (e : Ended)
+    → IsOwn {V = V} (Err e) → Delivers task P before after (Err e)
+delivers_own V task P before after (Refused r) l = tt
+delivers_own V task P before after (Read i) l = tt
+delivers_own V task P before after Print l = absurd l
+delivers_own V task P before after Store l = absurd l
+delivers_own V task P before after Memory l = tt
+
+print_cause_load :
+    (V : Type 0) (before after : Meaning) (e : Ended)
+    → IsLoadEnd {V = V} (Err e) → after.prints ≡ before.prints → PrintCause before after (Err e)
+print_cause_load V before after (Refused r) l s = s
+print_cause_load V before after (Read i) l s = s
+print_cause_load V before after Print l s = absurd l
+print_cause_load V before after Store l s = s
+print_cause_load V before after Memory l s = s
+
+print_cause_own :
+    (V : Type 0) (before after : Meaning) (e : Ended)
+    → IsOwn {V = V} (Err e) → after.prints ≡ before.prints → PrintCause before after (Err e)
+print_cause_own V before after (Refused r) l s = s
+print_cause_own V before after (Read i) l s = s
+print_cause_own V before after Print l s = absurd l
+print_cause_own V before after Store l s = s
+print_cause_own V before after Memory l s = s
+
+unstored_same :
+    (display : Option Display) (before after : Meaning) (e : Ended)
+    → after.stored ≡ before.stored → Unstored display before after (Err e)
+unstored_same display before after (Refused r) s = s
+unstored_same display before after (Read i) s = s
+unstored_same display before after Print s = s
+unstored_same display before after Store s = tt
+unstored_same display before after Memory s = s
+
+unprinted_same :
+    (display : Option Display) (before after : Meaning) (e : Ended)
+    → after.printed ≡ before.printed → Unprinted display before after (Err e)
+unprinted_same display before after (Refused r) s = s
+unprinted_same display before after (Read i) s = s
+unprinted_same display before after Print s = tt
+unprinted_same display before after Store s = s
+unprinted_same display before after Memory s = s
 
 ends_again :
     (V W : Type 0) (P : ℕ → Type 0) (e : Ended) → EndsAt {V = V} P (Err e) → EndsAt {V = W} P (Err e)
 ends_again V W P (Refused (Missing k)) h = h
+ends_again V W P (Refused (NoName k)) h = tt
 ends_again V W P (Refused (Numbered f)) h = tt
 ends_again V W P (Read k) h = h
+ends_again V W P Print h = tt
 ends_again V W P Store h = tt
 ends_again V W P Memory h = tt
 
 ends_own : (V W : Type 0) (P : ℕ → Type 0) (e : Ended) → IsOwn {V = V} (Err e) → EndsAt {V = W} P (Err e)
 ends_own V W P (Refused (Missing k)) o = absurd o
+ends_own V W P (Refused (NoName k)) o = tt
 ends_own V W P (Refused (Numbered f)) o = tt
 ends_own V W P (Read k) o = absurd o
+ends_own V W P Print o = tt
 ends_own V W P Store o = tt
 ends_own V W P Memory o = tt
 
@@ -128,30 +238,17 @@ ends_store : (P : ℕ → Type 0) (r : Result (Unit {0}) Ended) → IsStoreEnd r
 ends_store P (Ok u) o = tt
 ends_store P (Err (Refused r)) o = absurd o
 ends_store P (Err (Read k)) o = absurd o
+ends_store P (Err Print) o = absurd o
 ends_store P (Err Store) o = tt
 ends_store P (Err Memory) o = tt
-
--- only loads were made, seen from the whole job
-load_rest :
-    (before after : Meaning) → OnlyLoads before after
-    → after
-    ≡ record before { stored = after.stored; calls = after.calls; loads = after.loads; stores = after.stores }
-load_rest before after o =
-    let stored : after.stored ≡ before.stored = ap (λ (w : Meaning). w.stored) o.0 in
-    let stores : after.stores ≡ before.stores = ap (λ (w : Meaning). w.stores) o.0 in
-    subst
-    (λ (k : ℕ). after ≡ record before { stored = after.stored; calls = after.calls; loads = after.loads; stores = k })
-    (sym stores)
-    (subst
-    (λ (k : Option (List HeldFile)).
-    after ≡ record before { stored = k; calls = after.calls; loads = after.loads; stores = before.stores })
-    (sym stored) o.0)
 
 cause_of_err :
     (V W : Type 0) (before after : Meaning) (e : Ended) → Cause {V = V} before after (Err e) → Cause {V = W} before after (Err e)
 cause_of_err V W before after (Refused (Missing i)) c = c
+cause_of_err V W before after (Refused (NoName k)) c = c
 cause_of_err V W before after (Refused (Numbered f)) c = c
 cause_of_err V W before after (Read i) c = c
+cause_of_err V W before after Print c = c
 cause_of_err V W before after Store c = c
 cause_of_err V W before after Memory c = c
 
@@ -166,7 +263,7 @@ no_nodes limits held task r e =
 early_first :
     (limits : Limits) (held : List HeldFile) (task : Task) (types : List CType) (r : Refusal)
     → first (early_checks limits held task) ≡ Some r → first_refusal limits held task types ≡ Some r
-early_first limits held task types r e = first_more (early_checks limits held task) (table_checks types) r e
+early_first limits held task types r e = first_more (early_checks limits held task) (late_checks task.display (contents held task.files) types) r e
 
 -- a load that is refused is the first refusal of a task that is done
 load_first :
@@ -183,6 +280,7 @@ knows_none :
     → Knows {V = W} (TheTable nodes) (Err e)
 knows_none V W nodes one P (Refused r) none l h = subst TheTable (sym (none r h)) no_table
 knows_none V W nodes one P (Read i) none l h = tt
+knows_none V W nodes one P Print none l h = absurd l
 knows_none V W nodes one P Store none l h = absurd l
 knows_none V W nodes one P Memory none l h = tt
 
@@ -195,22 +293,22 @@ pub done_unloaded :
 done_unloaded limits task before after e now l =
     let stored : after.stored ≡ before.stored = ap (λ (w : Meaning). w.stored) l.only.0 in
     record {
-      rest = load_rest before after l.only;
-      later = (l.only.1, omega (arith, ap (λ (w : Meaning). w.stores) l.only.0));
+      rest = rest_loaded before after after.calls after.loads l.only.0;
       calls = called_within (length task.files) (length task.files + 1) before.calls after.calls (omega arith) l.calls;
       exact = ends_again (Vec (List ℕ)) (Unit {0}) (λ (k : ℕ). Counted (k + 1) before.calls after.calls) e l.exact;
       cause = cause_of_err (Vec (List ℕ)) (Unit {0}) before after e l.cause;
+      prints = print_cause_load (Vec (List ℕ)) before after e l.loads (ap (λ (w : Meaning). w.prints) l.only.0);
       others = λ q ne. ap (under q) stored;
-      unstored = unstored_same before after e stored;
+      unstored = unstored_same task.display before after e stored;
+      unprinted = unprinted_same task.display before after e (ap (λ (w : Meaning). w.printed) l.only.0);
       told =
           λ held is types m.
           part_told (Vec (List ℕ)) (Unit {0}) (λ (v : Vec (List ℕ)). v.items ≡ contents held task.files)
-          (λ (u : Unit {0}). Holds task.out (output_of held task types) after)
-          (load_refusal limits held 0 0 task.files) (first_refusal limits held task types) e
+          (λ (u : Unit {0}). Unit {0}) (load_refusal limits held 0 0 task.files) (first_refusal limits held task types) e
           (λ (r : Refusal) (at : load_refusal limits held 0 0 task.files ≡ Some r).
           early_first limits held task types r (load_first limits held task r now at))
           (l.told held is);
-      kept = λ held is types m. kept_load (Vec (List ℕ)) task.out (output_of held task types) before after e l.loads stored;
+      sent = λ held is types m. delivers_load (Vec (List ℕ)) task (IsOutput task.display (contents held task.files) types) before after e l.loads;
       table =
           λ held is.
           knows_none (Vec (List ℕ)) (Unit {0}) (nodes_of limits held task) (load_refusal limits held 0 0 task.files)
@@ -232,14 +330,15 @@ done_later limits task before f later =
     ap (λ (o : Option Refusal). option_or o (option_or (load_refusal limits held 0 0 task.files) (first (graph_checks limits (contents held task.files))))) later in
     record {
       rest = refl;
-      later = (omega arith, omega arith);
       calls = λ c e. (c, e, omega arith);
       exact = tt;
       cause = (refl, refl);
+      prints = refl;
       others = λ q ne. refl;
       unstored = refl;
+      unprinted = refl;
       told = λ held is types m. early_first limits held task types (Numbered f) (early held);
-      kept = λ held is types m. refl;
+      sent = λ held is types m. tt;
       table = λ held is. subst TheTable (sym (no_nodes limits held task (Numbered f) (early held))) no_table;
       spelled = tt;
     }
@@ -251,21 +350,42 @@ done_over_base limits before out None jobs files h = absurd (cc)
 done_over_base limits before out (Some b) jobs files h =
     done_later limits (task_of (Encode out (Some b) jobs files)) before _ refl
 
-pub done_without :
+pub done_encoded :
     (limits : Limits) (before after : Meaning) (out : List ℕ) (base : Option (List ℕ)) (jobs : ℕ) (files : List (List ℕ))
     (r : Result (Unit {0}) Ended)
-    → is_some base ≡ false → Done limits (record { later = None; out = out; files = files }) before after r
+    → is_some base ≡ false → Done limits (encode_task out files) before after r
     → Done limits (task_of (Encode out base jobs files)) before after r
-done_without limits before after out None jobs files r h d = d
-done_without limits before after out (Some b) jobs files r h d = absurd (cc)
+done_encoded limits before after out None jobs files r h d = d
+done_encoded limits before after out (Some b) jobs files r h d = absurd (cc)
+
+pub done_show_base :
+    (limits : Limits) (before : Meaning) (format : Format) (base : Option (List ℕ)) (names : Option (List (List ℕ)))
+    (sizes : Bool) (holes line jobs : ℕ) (files : List (List ℕ))
+    → is_some base ≡ true
+    → Done limits (task_of (Show format base names sizes holes line jobs files)) before before (Err (of_whole 200 2))
+done_show_base limits before format None names sizes holes line jobs files h = absurd (cc)
+done_show_base limits before format (Some b) names sizes holes line jobs files h =
+    done_later limits (task_of (Show format (Some b) names sizes holes line jobs files)) before _ refl
+
+pub done_show_btf :
+    (limits : Limits) (before : Meaning) (format : Format) (base : Option (List ℕ)) (names : Option (List (List ℕ)))
+    (sizes : Bool) (holes line jobs : ℕ) (files : List (List ℕ))
+    → is_some base ≡ false → is_btf format ≡ true
+    → Done limits (task_of (Show format base names sizes holes line jobs files)) before before (Err (of_whole 200 1))
+done_show_btf limits before format (Some b) names sizes holes line jobs files h f = absurd (cc)
+done_show_btf limits before Dwarf None names sizes holes line jobs files h f = absurd (cc)
+done_show_btf limits before Btf None names sizes holes line jobs files h f =
+    done_later limits (task_of (Show Btf None names sizes holes line jobs files)) before _ refl
 
 own_cause :
     (V W : Type 0) (before after : Meaning) (e : Ended)
     → IsOwn {V = V} (Err e) → after.loads ≡ before.loads → after.stores ≡ before.stores
     → Cause {V = W} before after (Err e)
 own_cause V W before after (Refused (Missing i)) o l s = absurd o
+own_cause V W before after (Refused (NoName k)) o l s = (l, s)
 own_cause V W before after (Refused (Numbered f)) o l s = (l, s)
 own_cause V W before after (Read i) o l s = absurd o
+own_cause V W before after Print o l s = absurd o
 own_cause V W before after Store o l s = absurd o
 own_cause V W before after Memory o l s = (l, s)
 
@@ -275,11 +395,11 @@ after_load :
     → task.later ≡ None
     → load_refusal limits held 0 0 task.files ≡ None
     → files ≡ contents held task.files
-    → first_refusal limits held task types ≡ first (file_checks limits files types)
+    → first_refusal limits held task types ≡ first (file_checks task.display limits files types)
 after_load limits held task files types now none is =
-    ap (λ (o : Option Refusal). option_or o (option_or (load_refusal limits held 0 0 task.files) (first (file_checks limits (contents held task.files) types)))) now
-    ∙ ap (λ (q : Option Refusal). option_or q (first (file_checks limits (contents held task.files) types))) none
-    ∙ ap (λ (fs : List (List ℕ)). first (file_checks limits fs types)) (sym is)
+    ap (λ (o : Option Refusal). option_or o (option_or (load_refusal limits held 0 0 task.files) (first (file_checks task.display limits (contents held task.files) types)))) now
+    ∙ ap (λ (q : Option Refusal). option_or q (first (file_checks task.display limits (contents held task.files) types))) none
+    ∙ ap (λ (fs : List (List ℕ)). first (file_checks task.display limits fs types)) (sym is)
 
 -- and so are the nodes
 nodes_after :
@@ -306,39 +426,40 @@ knows_again :
     (V W P : Type 0) (e : Ended) → IsOwn {V = V} (Err e) → Knows {V = V} P (Err e) → Knows {V = W} P (Err e)
 knows_again V W P (Refused r) o h = h
 knows_again V W P (Read i) o h = tt
+knows_again V W P Print o h = absurd o
 knows_again V W P Store o h = absurd o
 knows_again V W P Memory o h = tt
 
--- a task whose table is not made
+-- a task whose output is not made
 pub done_unmade :
     (limits : Limits) (task : Task) (before now : Meaning) (files : Vec (List ℕ)) (e : Ended)
     → task.later ≡ None
     → LoadsAll limits task.files before now (Ok files)
-    → Makes limits files.items (Err e)
+    → Makes task.display limits files.items (Err e)
     → Done limits task before now (Err e)
 done_unmade limits task before now files e done l m =
     let stored : now.stored ≡ before.stored = ap (λ (w : Meaning). w.stored) l.only.0 in
     record {
-      rest = load_rest before now l.only;
-      later = (l.only.1, omega (arith, l.cause.1));
+      rest = rest_loaded before now now.calls now.loads l.only.0;
       calls = called_within (length task.files) (length task.files + 1) before.calls now.calls (omega arith) l.calls;
       exact = ends_own (List ℕ) (Unit {0}) (λ (k : ℕ). Counted (k + 1) before.calls now.calls) e m.own;
       cause = own_cause (List ℕ) (Unit {0}) before now e m.own l.cause.0 l.cause.1;
+      prints = print_cause_own (List ℕ) before now e m.own (ap (λ (w : Meaning). w.prints) l.only.0);
       others = λ q ne. ap (under q) stored;
-      unstored = unstored_same before now e stored;
+      unstored = unstored_same task.display before now e stored;
+      unprinted = unprinted_same task.display before now e (ap (λ (w : Meaning). w.printed) l.only.0);
       told =
           λ held is types of.
           let loaded : (load_refusal limits held 0 0 task.files ≡ None) × (files.items ≡ contents held task.files) =
           l.told held is in
-          let merged : IsMerged (alone (made_nodes limits files.items)) types =
-          merge_again limits held task files.items types (nodes_after limits held task files.items done loaded.0 loaded.1) of in
-          part_told (List ℕ) (Unit {0}) (λ (v : List ℕ). v ≡ btf_of (order_in files.items) types)
-          (λ (u : Unit {0}). Holds task.out (output_of held task types) now)
-          (first (file_checks limits files.items types)) (first_refusal limits held task types) e
-          (λ (r : Refusal) (at : first (file_checks limits files.items types) ≡ Some r).
+          part_told (List ℕ) (Unit {0}) (λ (v : List ℕ). IsOutput task.display files.items types v)
+          (λ (u : Unit {0}). Unit {0})
+          (first (file_checks task.display limits files.items types)) (first_refusal limits held task types) e
+          (λ (r : Refusal) (at : first (file_checks task.display limits files.items types) ≡ Some r).
           after_load limits held task files.items types done loaded.0 loaded.1 ∙ at)
-          (m.told types merged);
-      kept = λ held is types of. kept_own (List ℕ) task.out (output_of held task types) before now e m.own stored;
+          (m.told types
+          (merge_again limits held task files.items types (nodes_after limits held task files.items done loaded.0 loaded.1) of));
+      sent = λ held is types of. delivers_own (List ℕ) task (IsOutput task.display (contents held task.files) types) before now e m.own;
       table =
           λ held is.
           let loaded : (load_refusal limits held 0 0 task.files ≡ None) × (files.items ≡ contents held task.files) =
@@ -363,6 +484,7 @@ store_cause :
 store_cause before now after (Ok u) l s o c = (c.0 ∙ l, c.1 ∙ s)
 store_cause before now after (Err (Refused r)) l s o c = absurd o
 store_cause before now after (Err (Read i)) l s o c = absurd o
+store_cause before now after (Err Print) l s o c = absurd o
 store_cause before now after (Err Store) l s o c = (c.0 ∙ l, subst (λ (n : ℕ). Rose n after.stores) s c.1)
 store_cause before now after (Err Memory) l s o c = (c.0 ∙ l, c.1 ∙ s)
 
@@ -372,22 +494,9 @@ store_told :
 store_told check P (Ok u) none o h = (none, h refl)
 store_told check P (Err (Refused r)) none o h = absurd o
 store_told check P (Err (Read i)) none o h = absurd o
+store_told check P (Err Print) none o h = absurd o
 store_told check P (Err Store) none o h = tt
 store_told check P (Err Memory) none o h = tt
-
-kept_from :
-    (out bytes : List ℕ) (before now after : Meaning) (r : Result (Unit {0}) Ended)
-    → now.stored ≡ before.stored → IsStoreEnd r → Kept out bytes now after r → Kept out bytes before after r
-kept_from out bytes before now after (Ok u) s o k = k
-kept_from out bytes before now after (Err (Refused r)) s o k = absurd o
-kept_from out bytes before now after (Err (Read i)) s o k = absurd o
-kept_from out bytes before now after (Err Store) s o k =
-    subst
-    (λ (w : Option (List HeldFile)).
-    IfSome (under out w)
-    (λ (old : Option (List ℕ)). IfSome (under out after.stored) (λ (v : Option (List ℕ)). IsLeft bytes old v)))
-    s k
-kept_from out bytes before now after (Err Memory) s o k = k ∙ s
 
 on_ok : (P : Type 0) (r : Result (Unit {0}) Ended) → P → OnOk r P
 on_ok P (Ok u) p = p
@@ -397,76 +506,231 @@ knows : (P : Type 0) (r : Result (Unit {0}) Ended) → P → Knows P r
 knows P (Ok u) p = p
 knows P (Err (Refused r)) p = p
 knows P (Err (Read i)) p = tt
+knows P (Err Print) p = p
 knows P (Err Store) p = p
 knows P (Err Memory) p = tt
 
--- a task whose table is made
-pub done_stored :
-    (limits : Limits) (task : Task) (before now after : Meaning) (files : Vec (List ℕ)) (bytes : List ℕ)
-    (r : Result (Unit {0}) Ended)
-    → task.later ≡ None
-    → LoadsAll limits task.files before now (Ok files)
-    → Makes limits files.items (Ok bytes)
-    → StoresOut task.out bytes now after r
-    → Done limits task before after r
-done_stored limits task before now after files bytes r done l m s =
-    let stored : now.stored ≡ before.stored = ap (λ (w : Meaning). w.stored) l.only.0 in
-    let made :
-    (held : List HeldFile) (types : List CType) → before.files ≡ Some held → MergeTo limits held task types
-    → (first_refusal limits held task types ≡ None) × (bytes ≡ output_of held task types) =
-    λ held types is of.
+-- what is told where the output was made
+made_told :
+    (limits : Limits) (task : Task) (before now : Meaning) (files : Vec (List ℕ)) (bytes : List ℕ)
+    → task.later ≡ None → LoadsAll limits task.files before now (Ok files) → Makes task.display limits files.items (Ok bytes)
+    → (held : List HeldFile) (types : List CType) → before.files ≡ Some held → MergeTo limits held task types
+    → (first_refusal limits held task types ≡ None) × IsOutput task.display (contents held task.files) types bytes
+made_told limits task before now files bytes done l m held types is of =
     let loaded : (load_refusal limits held 0 0 task.files ≡ None) × (files.items ≡ contents held task.files) =
     l.told held is in
-    let told : (first (file_checks limits files.items types) ≡ None) × (bytes ≡ btf_of (order_in files.items) types) =
+    let told : (first (file_checks task.display limits files.items types) ≡ None) × IsOutput task.display files.items types bytes =
     m.told types
     (merge_again limits held task files.items types (nodes_after limits held task files.items done loaded.0 loaded.1) of) in (
       after_load limits held task files.items types done loaded.0 loaded.1 ∙ told.0,
-      told.1 ∙ ap (λ (fs : List (List ℕ)). btf_of (order_in fs) types) loaded.1,
-    ) in
+      subst (λ (fs : List (List ℕ)). IsOutput task.display fs types bytes) loaded.1 told.1,
+    )
+
+made_table :
+    (limits : Limits) (task : Task) (before now : Meaning) (files : Vec (List ℕ)) (bytes : List ℕ)
+    → task.later ≡ None → LoadsAll limits task.files before now (Ok files) → Makes task.display limits files.items (Ok bytes)
+    → (held : List HeldFile) → before.files ≡ Some held → TheTable (nodes_of limits held task)
+made_table limits task before now files bytes done l m held is =
+    let loaded : (load_refusal limits held 0 0 task.files ≡ None) × (files.items ≡ contents held task.files) =
+    l.told held is in
+    subst TheTable (nodes_after limits held task files.items done loaded.0 loaded.1) m.table
+
+made_spelled :
+    (limits : Limits) (task : Task) (before now : Meaning) (files : Vec (List ℕ)) (bytes : List ℕ)
+    → task.later ≡ None → LoadsAll limits task.files before now (Ok files) → Makes task.display limits files.items (Ok bytes)
+    → (held : List HeldFile) → before.files ≡ Some held → (types : List CType) → MergeTo limits held task types
+    → SpelledBy task.display (contents held task.files) types
+made_spelled limits task before now files bytes done l m held is types of =
+    let loaded : (load_refusal limits held 0 0 task.files ≡ None) × (files.items ≡ contents held task.files) =
+    l.told held is in
+    subst (λ (fs : List (List ℕ)). SpelledBy task.display fs types) loaded.1
+    (m.spelled types
+    (merge_again limits held task files.items types (nodes_after limits held task files.items done loaded.0 loaded.1) of))
+
+unstored_from :
+    (out bytes : List ℕ) (before now after : Meaning) (r : Result (Unit {0}) Ended)
+    → now.stored ≡ before.stored → IsStoreEnd r → Kept out bytes now after r → Unstored None before after r
+unstored_from out bytes before now after (Ok u) s o k = tt
+unstored_from out bytes before now after (Err (Refused r)) s o k = absurd o
+unstored_from out bytes before now after (Err (Read i)) s o k = absurd o
+unstored_from out bytes before now after (Err Print) s o k = absurd o
+unstored_from out bytes before now after (Err Store) s o k = tt
+unstored_from out bytes before now after (Err Memory) s o k = k ∙ s
+
+unprinted_store : (before after : Meaning) (r : Result (Unit {0}) Ended) → IsStoreEnd r → after.printed ≡ before.printed → Unprinted None before after r
+unprinted_store before after (Ok u) o s = s
+unprinted_store before after (Err e) o s = unprinted_same None before after e s
+
+print_cause_store : (before after : Meaning) (r : Result (Unit {0}) Ended) → IsStoreEnd r → after.prints ≡ before.prints → PrintCause before after r
+print_cause_store before after (Ok u) o s = s
+print_cause_store before after (Err (Refused r)) o s = s
+print_cause_store before after (Err (Read i)) o s = s
+print_cause_store before after (Err Print) o s = absurd o
+print_cause_store before after (Err Store) o s = s
+print_cause_store before after (Err Memory) o s = s
+
+delivers_store :
+    (names : List (List ℕ)) (P : List ℕ → Type 0) (out bytes : List ℕ) (before now after : Meaning) (r : Result (Unit {0}) Ended)
+    → now.stored ≡ before.stored → IsStoreEnd r → P bytes → Kept out bytes now after r
+    → Delivers (encode_task out names) P before after r
+delivers_store names P out bytes before now after (Ok u) s o p k = (bytes, p, k)
+delivers_store names P out bytes before now after (Err (Refused r)) s o p k = tt
+delivers_store names P out bytes before now after (Err (Read i)) s o p k = tt
+delivers_store names P out bytes before now after (Err Print) s o p k = absurd o
+delivers_store names P out bytes before now after (Err Store) s o p k = (
+  bytes,
+  p,
+  subst
+      (λ (w : Option (List HeldFile)).
+      IfSome (under out w)
+      (λ (old : Option (List ℕ)). IfSome (under out after.stored) (λ (v : Option (List ℕ)). IsLeft bytes old v)))
+      s k,
+)
+delivers_store names P out bytes before now after (Err Memory) s o p k = tt
+
+-- a task whose table is made, and stored or not
+pub done_stored :
+    (limits : Limits) (out : List ℕ) (names : List (List ℕ)) (before now after : Meaning) (files : Vec (List ℕ)) (bytes : List ℕ)
+    (r : Result (Unit {0}) Ended)
+    → LoadsAll limits names before now (Ok files)
+    → Makes None limits files.items (Ok bytes)
+    → StoresOut out bytes now after r
+    → Done limits (encode_task out names) before after r
+done_stored limits out names before now after files bytes r l m s =
+    let task : Task = encode_task out names in
+    let stored : now.stored ≡ before.stored = ap (λ (w : Meaning). w.stored) l.only.0 in
+    let printed : after.printed ≡ before.printed =
+    ap (λ (w : Meaning). w.printed) s.rest ∙ ap (λ (w : Meaning). w.printed) l.only.0 in
+    let prints : after.prints ≡ before.prints = ap (λ (w : Meaning). w.prints) s.rest ∙ ap (λ (w : Meaning). w.prints) l.only.0 in
     record {
-      rest =
-          subst
-          (λ (w : Meaning).
-          after ≡ record w { stored = after.stored; calls = after.calls; loads = after.loads; stores = after.stores })
-          l.only.0
-          (subst
-          (λ (k : ℕ). after ≡ record now { stored = after.stored; calls = after.calls; loads = k; stores = after.stores })
-          (sym (ap (λ (w : Meaning). w.loads) s.rest)) s.rest);
-      later =
-          (omega (arith, l.only.1, ap (λ (w : Meaning). w.loads) s.rest), omega (arith, s.later, l.cause.1));
-      calls =
-          stored_calls (length task.files) (length task.files) before.calls now.calls after.calls (omega arith) l.calls s.calls;
+      rest = rest_stored before now after now.calls after.calls now.loads after.stores after.stored l.only.0 s.rest;
+      calls = stored_calls (length names) (length names) before.calls now.calls after.calls (omega arith) l.calls s.calls;
       exact = ends_store (λ (k : ℕ). Counted (k + 1) before.calls after.calls) r s.ends;
       cause = store_cause before now after r l.cause.0 l.cause.1 s.ends s.cause;
+      prints = print_cause_store before after r s.ends prints;
       others = λ q ne. s.others q ne ∙ ap (under q) stored;
-      unstored = unstored_from task.out bytes before now after r stored s.ends s.kept;
+      unstored = unstored_from out bytes before now after r stored s.ends s.kept;
+      unprinted = unprinted_store before after r s.ends printed;
       told =
           λ held is types of.
-          store_told (first_refusal limits held task types) (λ (u : Unit {0}). Holds task.out (output_of held task types) after) r
-          (made held types is of).0 s.ends
-          (λ (ok : r ≡ Ok tt).
-          let kept : Kept task.out bytes now after (Ok tt) =
-          subst (λ (v : Result (Unit {0}) Ended). Kept task.out bytes now after v) ok s.kept in
-          subst (λ (b : List ℕ). Holds task.out b after) (made held types is of).1 kept);
-      kept =
+          store_told (first_refusal limits held task types) (λ (u : Unit {0}). Unit {0}) r
+          (made_told limits task before now files bytes refl l m held types is of).0 s.ends (λ (ok : r ≡ Ok tt). tt);
+      sent =
           λ held is types of.
-          subst (λ (b : List ℕ). Kept task.out b before after r) (made held types is of).1
-          (kept_from task.out bytes before now after r stored s.ends s.kept);
+          delivers_store names (IsOutput None (contents held names) types) out bytes before now after r stored s.ends
+          (made_told limits task before now files bytes refl l m held types is of).1 s.kept;
       table =
           λ held is.
-          let loaded : (load_refusal limits held 0 0 task.files ≡ None) × (files.items ≡ contents held task.files) =
-          l.told held is in
-          knows (TheTable (nodes_of limits held task)) r
-          (subst TheTable (nodes_after limits held task files.items done loaded.0 loaded.1) m.table);
+          knows (TheTable (nodes_of limits held task)) r (made_table limits task before now files bytes refl l m held is);
       spelled =
           on_ok
           (ForSome before.files
           (λ (held : List HeldFile).
-          (types : List CType) → MergeTo limits held task types → AreSpelled (order_in (contents held task.files)) types)) r
-          (λ held is types of.
-          let loaded : (load_refusal limits held 0 0 task.files ≡ None) × (files.items ≡ contents held task.files) =
-          l.told held is in
-          subst (λ (fs : List (List ℕ)). AreSpelled (order_in fs) types) loaded.1
-          (m.spelled types
-          (merge_again limits held task files.items types (nodes_after limits held task files.items done loaded.0 loaded.1) of)));
+          (types : List CType) → MergeTo limits held task types → SpelledBy None (contents held names) types)) r
+          (λ held is types of. made_spelled limits task before now files bytes refl l m held is types of);
+    }
+
+-- a text that is printed or not
+
+ends_print : (P : ℕ → Type 0) (bytes : List ℕ) (before after : Meaning) (r : Result (Unit {0}) Ended) → PrintKept bytes before after r → EndsAt P r
+ends_print P bytes before after (Ok u) k = tt
+ends_print P bytes before after (Err (Refused r)) k = absurd k
+ends_print P bytes before after (Err (Read i)) k = absurd k
+ends_print P bytes before after (Err Print) k = tt
+ends_print P bytes before after (Err Store) k = absurd k
+ends_print P bytes before after (Err Memory) k = tt
+
+print_only_cause :
+    (bytes : List ℕ) (now before after : Meaning) (r : Result (Unit {0}) Ended)
+    → after.loads ≡ before.loads → after.stores ≡ before.stores → PrintKept bytes now after r → Cause before after r
+print_only_cause bytes now before after (Ok u) l s k = (l, s)
+print_only_cause bytes now before after (Err (Refused r)) l s k = absurd k
+print_only_cause bytes now before after (Err (Read i)) l s k = absurd k
+print_only_cause bytes now before after (Err Print) l s k = (l, s)
+print_only_cause bytes now before after (Err Store) l s k = absurd k
+print_only_cause bytes now before after (Err Memory) l s k = (l, s)
+
+print_cause_from : (before now after : Meaning) (r : Result (Unit {0}) Ended) → now.prints ≡ before.prints → PrintCause now after r → PrintCause before after r
+print_cause_from before now after (Ok u) s c = c ∙ s
+print_cause_from before now after (Err (Refused r)) s c = c ∙ s
+print_cause_from before now after (Err (Read i)) s c = c ∙ s
+print_cause_from before now after (Err Print) s c = subst (λ (n : ℕ). Rose n after.prints) s c
+print_cause_from before now after (Err Store) s c = c ∙ s
+print_cause_from before now after (Err Memory) s c = c ∙ s
+
+unstored_print :
+    (d : Display) (before after : Meaning) (r : Result (Unit {0}) Ended) → after.stored ≡ before.stored → Unstored (Some d) before after r
+unstored_print d before after (Ok u) s = s
+unstored_print d before after (Err e) s = unstored_same (Some d) before after e s
+
+unprinted_print :
+    (d : Display) (bytes : List ℕ) (before now after : Meaning) (r : Result (Unit {0}) Ended)
+    → now.printed ≡ before.printed → PrintKept bytes now after r → Unprinted (Some d) before after r
+unprinted_print d bytes before now after (Ok u) s k = tt
+unprinted_print d bytes before now after (Err (Refused r)) s k = absurd k
+unprinted_print d bytes before now after (Err (Read i)) s k = absurd k
+unprinted_print d bytes before now after (Err Print) s k = tt
+unprinted_print d bytes before now after (Err Store) s k = absurd k
+unprinted_print d bytes before now after (Err Memory) s k = k ∙ s
+
+print_told :
+    (check : Option Refusal) (bytes : List ℕ) (now after : Meaning) (r : Result (Unit {0}) Ended)
+    → check ≡ None → PrintKept bytes now after r → Tells check (λ (u : Unit {0}). Unit {0}) r
+print_told check bytes now after (Ok u) none k = (none, tt)
+print_told check bytes now after (Err (Refused r)) none k = absurd k
+print_told check bytes now after (Err (Read i)) none k = tt
+print_told check bytes now after (Err Print) none k = tt
+print_told check bytes now after (Err Store) none k = tt
+print_told check bytes now after (Err Memory) none k = tt
+
+delivers_print :
+    (shown : Option (List (List ℕ))) (style : Style) (names : List (List ℕ)) (P : List ℕ → Type 0) (bytes : List ℕ)
+    (before now after : Meaning) (r : Result (Unit {0}) Ended)
+    → now.printed ≡ before.printed → P bytes → PrintKept bytes now after r
+    → Delivers (show_task shown style names) P before after r
+delivers_print shown style names P bytes before now after (Ok u) s p k =
+    (bytes, p, subst (λ (o : Option (List ℕ)). Gains bytes o after.printed) s k)
+delivers_print shown style names P bytes before now after (Err (Refused r)) s p k = tt
+delivers_print shown style names P bytes before now after (Err (Read i)) s p k = tt
+delivers_print shown style names P bytes before now after (Err Print) s p k =
+    (bytes, p, subst (λ (o : Option (List ℕ)). GainsPart bytes o after.printed) s k)
+delivers_print shown style names P bytes before now after (Err Store) s p k = absurd k
+delivers_print shown style names P bytes before now after (Err Memory) s p k = tt
+
+-- a task whose text is made, and printed or not
+pub done_printed :
+    (limits : Limits) (shown : Option (List (List ℕ))) (style : Style) (names : List (List ℕ)) (before now after : Meaning)
+    (files : Vec (List ℕ)) (bytes : List ℕ) (r : Result (Unit {0}) Ended)
+    → LoadsAll limits names before now (Ok files)
+    → Makes (shown_by shown style) limits files.items (Ok bytes)
+    → PrintsOut bytes now after r
+    → Done limits (show_task shown style names) before after r
+done_printed limits shown style names before now after files bytes r l m p =
+    let task : Task = show_task shown style names in
+    let d : Display = record { names = shown; style = style } in
+    let stored : after.stored ≡ before.stored = ap (λ (w : Meaning). w.stored) p.rest ∙ ap (λ (w : Meaning). w.stored) l.only.0 in
+    let printed : now.printed ≡ before.printed = ap (λ (w : Meaning). w.printed) l.only.0 in
+    record {
+      rest = rest_printed before now after now.calls after.calls now.loads after.prints after.printed l.only.0 p.rest;
+      calls = stored_calls (length names) (length names) before.calls now.calls after.calls (omega arith) l.calls p.calls;
+      exact = ends_print (λ (k : ℕ). Counted (k + 1) before.calls after.calls) bytes now after r p.kept;
+      cause =
+          print_only_cause bytes now before after r (ap (λ (w : Meaning). w.loads) p.rest ∙ l.cause.0)
+          (ap (λ (w : Meaning). w.stores) p.rest ∙ l.cause.1) p.kept;
+      prints = print_cause_from before now after r (ap (λ (w : Meaning). w.prints) l.only.0) p.cause;
+      others = λ q ne. ap (under q) stored;
+      unstored = unstored_print d before after r stored;
+      unprinted = unprinted_print d bytes before now after r printed p.kept;
+      told =
+          λ held is types of.
+          print_told (first_refusal limits held task types) bytes now after r
+          (made_told limits task before now files bytes refl l m held types is of).0 p.kept;
+      sent =
+          λ held is types of.
+          delivers_print shown style names (IsOutput (Some d) (contents held names) types) bytes before now after r printed
+          (made_told limits task before now files bytes refl l m held types is of).1 p.kept;
+      table =
+          λ held is.
+          knows (TheTable (nodes_of limits held task)) r (made_table limits task before now files bytes refl l m held is);
+      spelled = on_ok _ r (λ held is types of. tt);
     }

@@ -1,5 +1,5 @@
 -- The steps of the table.
-use Rattle.std.proofs.Common.{◌≡◌, ◌⊎◌, ℕ, List, [], Bool, true, false, All, Option, None, Some, Result, Ok, Err, OnOk, inl, inr, refl, sym, ap, ◌∙◌, subst, length, drop, if◌then◌else◌}
+use Rattle.std.proofs.Common.{◌≡◌, ◌⊎◌, ◌++◌, ℕ, List, [], Bool, true, false, All, Option, None, Some, Result, Ok, Err, OnOk, inl, inr, refl, sym, ap, ◌∙◌, subst, length, drop, if◌then◌else◌}
 use Rattle.std.specs.Option.{option_or, option_map}
 use Rattle.dw_base.specs.declared.numbers.Order.{Order}
 use Rattle.dw_base.specs.declared.places.Limits.{Limits}
@@ -17,14 +17,15 @@ use Rattle.split_base.specs.Refusals.{strings_of, types_refusal, names_refusal, 
 use Rattle.split_base.specs.declared.fault.TableFault.{TableFault}
 use Rattle.split_base.specs.declared.fault.TableFault.TheVariants.{NodesTooMany, TooManyTypes, NamesTooLong, TableTooLong, Memory as TableMemory}
 use Rattle.pahole_run.specs.declared.refusal.Refusal.{Refusal}
-use Rattle.pahole_run.specs.declared.refusal.Refusal.TheVariants.{Missing, Fault as Numbered}
+use Rattle.pahole_run.specs.declared.refusal.Refusal.TheVariants.{Missing, NoName, Fault as Numbered}
 use Rattle.pahole_run.specs.declared.refusal.Ended.{Ended}
-use Rattle.pahole_run.specs.declared.refusal.Ended.TheVariants.{Refused, Read, Store, Memory}
+use Rattle.pahole_run.specs.declared.refusal.Ended.TheVariants.{Refused, Read, Print, Store, Memory}
 use Rattle.pahole_run.specs.Layers.{of_table, seen_as}
-use Rattle.pahole_run.specs.Files.{alone, graph_in, order_in}
+use Rattle.pahole_run.specs.Files.{alone, graph_in, order_in, width_in}
+use Rattle.pahole_run.specs.Tasks.{Display}
 use Rattle.pahole_run.specs.Tables.{names_of, btf_of, AreSpelled, TheTable}
-use Rattle.pahole_run.specs.Refusals.{first, graph_checks, table_checks, file_checks, nodes_unless, made_nodes}
-use Rattle.pahole_run.specs.Steps.{Tells, IsOwn, Knows, IsPartedBy, IsWritable, MakesTable, Makes}
+use Rattle.pahole_run.specs.Refusals.{first, graph_checks, table_checks, show_checks, file_checks, nodes_unless, made_nodes}
+use Rattle.pahole_run.specs.Steps.{Tells, IsOwn, Knows, IsPartedBy, IsWritable, MakesTable, IsOutput, Makes}
 use Rattle.pahole_run.proofs.LoadLemmas.{part_told}
 use Rattle.pahole_run.proofs.NoTypes.{no_table, first_more, first_rest}
 use Rattle.pahole_run.proofs.TableLaws.{one_table, represented}
@@ -140,8 +141,10 @@ written order t b w bytes spells only =
 
 own_again : (V W : Type 0) (e : Ended) → IsOwn {V = V} (Err e) → IsOwn {V = W} (Err e)
 own_again V W (Refused (Missing i)) h = absurd h
+own_again V W (Refused (NoName k)) h = tt
 own_again V W (Refused (Numbered f)) h = tt
 own_again V W (Read i) h = absurd h
+own_again V W Print h = absurd h
 own_again V W Store h = absurd h
 own_again V W Memory h = tt
 
@@ -153,6 +156,7 @@ knows_none :
     → Knows {V = W} (TheTable nodes) (Err e)
 knows_none V W nodes one P (Refused r) none o h = subst TheTable (sym (none r h)) no_table
 knows_none V W nodes one P (Read i) none o h = absurd o
+knows_none V W nodes one P Print none o h = absurd o
 knows_none V W nodes one P Store none o h = absurd o
 knows_none V W nodes one P Memory none o h = tt
 
@@ -165,7 +169,7 @@ table_unmade V P limits files e h o =
       told =
           λ types m.
           part_told V TableOut P (λ (t : TableOut). t.types ≡ types) (first (graph_checks limits files))
-          (first (file_checks limits files types)) e
+          (first (graph_checks limits files ++ table_checks types)) e
           (λ (r : Refusal) (at : first (graph_checks limits files) ≡ Some r).
           first_more (graph_checks limits files) (table_checks types) r at)
           h;
@@ -183,6 +187,7 @@ knows : {V : Type 0} (P : Type 0) (r : Result V Ended) → P → Knows P r
 knows P (Ok u) p = p
 knows P (Err (Refused r)) p = p
 knows P (Err (Read i)) p = tt
+knows P (Err Print) p = p
 knows P (Err Store) p = p
 knows P (Err Memory) p = tt
 
@@ -252,19 +257,24 @@ knows_again :
     (V W P : Type 0) (e : Ended) → Knows {V = V} P (Err e) → Knows {V = W} P (Err e)
 knows_again V W P (Refused r) h = h
 knows_again V W P (Read i) h = tt
+knows_again V W P Print h = h
 knows_again V W P Store h = h
 knows_again V W P Memory h = tt
 
+-- an output whose table is not made
 pub bytes_unmade :
-    (limits : Limits) (files : List (List ℕ)) (e : Ended) → MakesTable limits files (Err e) → Makes limits files (Err e)
-bytes_unmade limits files e m =
+    (display : Option Display) (limits : Limits) (files : List (List ℕ)) (e : Ended)
+    → MakesTable limits files (Err e) → Makes display limits files (Err e)
+bytes_unmade display limits files e m =
     record {
       told =
           λ types of.
           part_told TableOut (List ℕ) (λ (t : TableOut). t.types ≡ types)
-          (λ (v : List ℕ). v ≡ btf_of (order_in files) types) (first (file_checks limits files types))
-          (first (file_checks limits files types)) e
-          (λ (r : Refusal) (at : first (file_checks limits files types) ≡ Some r). at) (m.told types of);
+          (λ (v : List ℕ). IsOutput display files types v) (first (graph_checks limits files ++ table_checks types))
+          (first (file_checks display limits files types)) e
+          (λ (r : Refusal) (at : first (graph_checks limits files ++ table_checks types) ≡ Some r).
+          first_more (graph_checks limits files ++ table_checks types) (show_checks display (width_in files) types) r at)
+          (m.told types of);
       table = knows_again TableOut (List ℕ) (TheTable (made_nodes limits files)) e m.table;
       spelled = tt;
       own = own_again TableOut (List ℕ) e m.own;
@@ -277,6 +287,7 @@ spelt :
 spelt check order these types (Ok v) none same h = (none, h.1 ∙ ap (btf_of order) same)
 spelt check order these types (Err (Refused r)) none same h = absurd (cc)
 spelt check order these types (Err (Read i)) none same h = tt
+spelt check order these types (Err Print) none same h = tt
 spelt check order these types (Err Store) none same h = tt
 spelt check order these types (Err Memory) none same h = tt
 
@@ -292,16 +303,52 @@ pub bytes_made :
     → MakesTable limits files (Ok t)
     → Tells None (λ (v : List ℕ). v ≡ btf_of (order_in files) t.types) result
     → OnOk result (AreSpelled (order_in files) t.types) → IsOwn result
-    → Makes limits files result
+    → Makes None limits files result
 bytes_made limits files t result m told spelled own =
     record {
       told =
           λ types of.
-          spelt (first (file_checks limits files types)) (order_in files) t.types types result (m.told types of).0
+          spelt (first (file_checks None limits files types)) (order_in files) t.types types result (m.told types of).0
           (m.told types of).1 told;
       table = knows (TheTable (made_nodes limits files)) result m.table;
       spelled =
           spelled_by (order_in files) t.types (λ (types : List CType). IsMerged (alone (made_nodes limits files)) types) result
           (λ types of. (m.told types of).1) spelled;
+      own = own;
+    }
+
+shown_told :
+    (check late : Option Refusal) (P Q : List ℕ → Type 0) (result : Result (List ℕ) Ended)
+    → check ≡ late → ((v : List ℕ) → P v → Q v) → Tells late P result → Tells check Q result
+shown_told check late P Q (Ok v) same f h = (same ∙ h.0, f v h.1)
+shown_told check late P Q (Err (Refused r)) same f h = same ∙ h
+shown_told check late P Q (Err (Read i)) same f h = tt
+shown_told check late P Q (Err Print) same f h = tt
+shown_told check late P Q (Err Store) same f h = tt
+shown_told check late P Q (Err Memory) same f h = tt
+
+on_ok : (P : Type 0) (r : Result (List ℕ) Ended) → P → OnOk r P
+on_ok P (Ok u) p = p
+on_ok P (Err e) p = tt
+
+-- the text of a table
+pub text_made :
+    (d : Display) (limits : Limits) (files : List (List ℕ)) (t : TableOut) (result : Result (List ℕ) Ended)
+    → MakesTable limits files (Ok t)
+    → Tells (first (show_checks (Some d) (width_in files) t.types)) (λ (v : List ℕ). IsOutput (Some d) files t.types v) result
+    → IsOwn result
+    → Makes (Some d) limits files result
+text_made d limits files t result m told own =
+    record {
+      told =
+          λ types of.
+          let made : (first (graph_checks limits files ++ table_checks types) ≡ None) × (t.types ≡ types) = m.told types of in
+          shown_told (first (file_checks (Some d) limits files types)) (first (show_checks (Some d) (width_in files) t.types))
+          (λ (v : List ℕ). IsOutput (Some d) files t.types v) (λ (v : List ℕ). IsOutput (Some d) files types v) result
+          (first_rest (graph_checks limits files ++ table_checks types) (show_checks (Some d) (width_in files) types) made.0
+          ∙ ap (λ (ts : List CType). first (show_checks (Some d) (width_in files) ts)) (sym made.1))
+          (λ v h. subst (λ (ts : List CType). IsOutput (Some d) files ts v) made.1 h) told;
+      table = knows (TheTable (made_nodes limits files)) result m.table;
+      spelled = on_ok _ result (λ types of. tt);
       own = own;
     }

@@ -1,6 +1,6 @@
 -- What loaded files hold, step by step. Each file is the list of its bytes. All of these are total: where a file is
 -- refused it has no units, and where the graph is refused it has no nodes.
-use Rattle.std.specs.Prelude.{ℕ, ◌+◌, ◌&&◌, Bool, true, false, List, [], ◌∷◌, ◌++◌, map, Result}
+use Rattle.std.specs.Prelude.{ℕ, ◌+◌, ◌&&◌, Bool, true, false, List, [], ◌∷◌, ◌++◌, map, Option, None, Some, Result, if◌then◌else◌}
 use Rattle.std.specs.Result.{result_unwrap_or}
 use Rattle.dw_base.specs.declared.numbers.Order.{Order}
 use Rattle.dw_base.specs.declared.numbers.Order.TheVariants.{Little, Big}
@@ -59,3 +59,8 @@ graph_in limits files = graph_of limits.nodes (units_from 0 files)
 -- a graph whose nodes all come from files
 abbrev pub alone : List CType → Shape
 alone nodes = record { base = 0; nodes = nodes }
+
+-- how many bytes pointers have, by the class of the first file
+abbrev pub width_in : List (List ℕ) → ℕ
+width_in [] = 8
+width_in (x ∷ xs) = if is_wide x then 8 else 4

@@ -19,12 +19,14 @@ use Rattle.unit_encoder.specs.declared.fault.EncodeFault.{EncodeFault}
 use Rattle.unit_encoder.specs.declared.fault.EncodeFault.TheVariants.{Unit as UnitRefused, NodesTooMany as GraphTooMany, TypeRefOut, Memory as GraphMemory}
 use Rattle.split_base.specs.declared.fault.TableFault.{TableFault}
 use Rattle.split_base.specs.declared.fault.TableFault.TheVariants.{NodesTooMany, TooManyTypes, NamesTooLong, TableTooLong, Memory as TableMemory}
+use Rattle.shown_types.specs.declared.fault.ShowFault.{ShowFault}
+use Rattle.shown_types.specs.declared.fault.ShowFault.TheVariants.{NoName as NothingNamed, NoSize, Memory as ShowMemory}
 use Rattle.pahole_run.specs.declared.refusal.Value.{Value}
 use Rattle.pahole_run.specs.declared.refusal.Value.TheVariants.{Plain, Wide, Signed}
 use Rattle.pahole_run.specs.declared.refusal.Refusal.{Refusal}
-use Rattle.pahole_run.specs.declared.refusal.Refusal.TheVariants.{Missing, Fault as Numbered}
+use Rattle.pahole_run.specs.declared.refusal.Refusal.TheVariants.{Missing, NoName, Fault as Numbered}
 use Rattle.pahole_run.specs.declared.refusal.Ended.{Ended}
-use Rattle.pahole_run.specs.declared.refusal.Ended.TheVariants.{Refused, Read, Store, Memory}
+use Rattle.pahole_run.specs.declared.refusal.Ended.TheVariants.{Refused, Read, Print, Store, Memory}
 use Rattle.world_io.specs.declared.fault.OutFault.{OutFault}
 use Rattle.world_io.specs.declared.fault.OutFault.TheVariants.{Failed as OutFailed, Memory as OutMemory}
 use Rattle.world_io.specs.declared.fault.LoadFault.{LoadFault}
@@ -142,6 +144,16 @@ of_table (TooManyTypes count) = of_whole 100 count
 of_table (NamesTooLong offset) = of_whole 101 offset
 of_table (TableTooLong bytes) = of_whole 102 bytes
 of_table TableMemory = Memory
+
+-- a name that nothing has; 120: a member without a size
+abbrev pub of_show : ShowFault → Ended
+of_show (NothingNamed k) = Refused (NoName k)
+of_show (NoSize id) = of_whole 120 id
+of_show ShowMemory = Memory
+
+abbrev pub of_print : OutFault → Ended
+of_print OutFailed = Print
+of_print OutMemory = Memory
 
 abbrev pub of_store : OutFault → Ended
 of_store OutFailed = Store

@@ -1,6 +1,6 @@
 -- The first refusal of a job: one list of checks, in the order of the steps.
 use Rattle.std.specs.Prelude.{ℕ, ◌+◌, ◌-◌, List, [], ◌∷◌, ◌++◌, length, map, min, nat_lt, if◌then◌else◌, Option, None, Some, Result, unwrap_or}
-use Rattle.std.specs.Option.{option_or}
+use Rattle.std.specs.Option.{option_or, option_map}
 use Rattle.std.specs.Result.{result_err, result_unwrap_or}
 use Rattle.dw_base.specs.declared.places.Limits.{Limits}
 use Rattle.dw_base.specs.declared.places.Section.TheVariants.{Image}
@@ -13,9 +13,12 @@ use Rattle.split_base.specs.Merged.{IsMerged}
 use Rattle.unit_encoder.specs.declared.fault.EncodeFault.{EncodeFault}
 use Rattle.pahole_run.specs.declared.refusal.Refusal.{Refusal}
 use Rattle.pahole_run.specs.declared.refusal.Refusal.TheVariants.{Missing}
-use Rattle.pahole_run.specs.Tasks.{Task}
-use Rattle.pahole_run.specs.Files.{is_like, headers_of, graph_in, alone}
-use Rattle.pahole_run.specs.Layers.{numbered, refusal_in, mixed, of_elf, of_units, of_encode, of_table, seen_as}
+use Rattle.shown_types.specs.Listed.{chosen, missing}
+use Rattle.shown_types.specs.Shown.{first_no_size}
+use Rattle.shown_types.specs.declared.fault.ShowFault.TheVariants.{NoName, NoSize}
+use Rattle.pahole_run.specs.Tasks.{Display, Task}
+use Rattle.pahole_run.specs.Files.{is_like, headers_of, graph_in, width_in, alone}
+use Rattle.pahole_run.specs.Layers.{numbered, refusal_in, mixed, of_elf, of_units, of_encode, of_table, of_show, seen_as}
 
 -- the first that is there
 abbrev pub first : List (Option Refusal) → Option Refusal
@@ -82,9 +85,21 @@ table_checks types =
     ∷ seen_as of_table (length_refusal None types)
     ∷ []
 
+-- a name that no type has which can be shown, and 120, a member without a size
+abbrev pub show_checks : Option Display → ℕ → List CType → List (Option Refusal)
+show_checks None width types = []
+show_checks (Some d) width types =
+    seen_as of_show (option_map (λ (k : ℕ). NoName k) (missing types d.names))
+    ∷ seen_as of_show (option_map (λ (n : ℕ). NoSize n) (first_no_size types width (chosen types 0 d.names)))
+    ∷ []
+
+-- the checks of types: they make a table, and can be shown where they are
+abbrev pub late_checks : Option Display → List (List ℕ) → List CType → List (Option Refusal)
+late_checks display files types = table_checks types ++ show_checks display (width_in files) types
+
 -- the checks of loaded files that are merged to these types
-abbrev pub file_checks : Limits → List (List ℕ) → List CType → List (Option Refusal)
-file_checks limits files types = graph_checks limits files ++ table_checks types
+abbrev pub file_checks : Option Display → Limits → List (List ℕ) → List CType → List (Option Refusal)
+file_checks display limits files types = graph_checks limits files ++ late_checks display files types
 
 -- the checks of a task up to the graph: what is not done yet, then the loads, then the files
 abbrev pub early_checks : Limits → List HeldFile → Task → List (Option Refusal)
@@ -93,7 +108,8 @@ early_checks limits held task =
 
 -- all checks of a task whose files are merged to these types
 abbrev pub checks : Limits → List HeldFile → Task → List CType → List (Option Refusal)
-checks limits held task types = early_checks limits held task ++ table_checks types
+checks limits held task types =
+    early_checks limits held task ++ late_checks task.display (contents held task.files) types
 
 abbrev pub first_refusal : Limits → List HeldFile → Task → List CType → Option Refusal
 first_refusal limits held task types = first (checks limits held task types)

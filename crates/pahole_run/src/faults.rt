@@ -1,7 +1,7 @@
 //! The faults of the layers as ends of a run: the number of each, its place, and the values that it keeps.
 ghost use Rattle.std.specs.Prelude.{◌≡◌};
 ghost use Rattle.elf_sections.specs.Names.{number_of_kind};
-ghost use Rattle.pahole_run.specs.Layers.{keeping, of_load, of_elf, mixed, of_units, of_abbrev, of_form, of_walk, of_type, of_encode, of_table, of_store};
+ghost use Rattle.pahole_run.specs.Layers.{keeping, of_load, of_elf, mixed, of_units, of_abbrev, of_form, of_walk, of_type, of_encode, of_table, of_show, of_print, of_store};
 
 use crate::refusal::{
     Ended, Refusal, Value, ended_at, ended_keeping, ended_keeping_two, ended_of_whole,
@@ -12,6 +12,7 @@ use dwarf_abbrev::AbbrevFault;
 use dwarf_forms::FormFault;
 use elf_sections::{ElfFault, Kind};
 use entry_tree::{UnitFault, WalkFault};
+use shown_types::ShowFault;
 use split_base::TableFault;
 use unit_encoder::EncodeFault;
 use world_io::{LoadFault, OutFault};
@@ -211,6 +212,27 @@ pub fn ended_of_table(fault: TableFault) -> Ended
         TableFault::NamesTooLong(offset) => ended_of_whole(101, offset),
         TableFault::TableTooLong(bytes) => ended_of_whole(102, bytes),
         TableFault::Memory => Ended::Memory,
+    }
+}
+
+/// What is not shown.
+pub fn ended_of_show(fault: ShowFault) -> Ended
+    ensures { result ≡ of_show fault }
+{
+    match fault {
+        ShowFault::NoName(place) => Ended::Refused(Refusal::NoName(place)),
+        ShowFault::NoSize(id) => ended_of_whole(120, id as u64),
+        ShowFault::Memory => Ended::Memory,
+    }
+}
+
+/// A text that is not printed.
+pub fn ended_of_print(fault: OutFault) -> Ended
+    ensures { result ≡ of_print fault }
+{
+    match fault {
+        OutFault::Failed => Ended::Print,
+        OutFault::Memory => Ended::Memory,
     }
 }
 

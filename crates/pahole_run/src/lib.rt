@@ -1,6 +1,6 @@
 //! The program as one call: from its words to the file that it stores.
 //!
-//! So far it encodes files without a base.
+//! So far it encodes ELF files without a base, and shows their types.
 #![tactic(auto)]
 
 pub mod complaint;
@@ -8,6 +8,7 @@ mod faults;
 mod images;
 mod merging;
 pub mod refusal;
+mod showing;
 mod steps;
 mod table;
 mod tasks;

@@ -1,15 +1,18 @@
 //! The steps of a task, from its files to what is stored.
-ghost use Rattle.std.specs.Prelude.{◌≡◌, ◌+◌, ◌<◌, ◌≤◌, ◌^◌, None, length};
+ghost use Rattle.std.specs.Prelude.{◌≡◌, ◌+◌, ◌<◌, ◌≤◌, ◌^◌, length};
+ghost use Rattle.std.specs.Option.{option_copied};
 ghost use Rattle.command_line.specs.Words.{files_of, jobs_of};
 ghost use Rattle.pahole_run.specs.Refusals.{most_of};
-ghost use Rattle.pahole_run.specs.Steps.{LoadsOne, LoadsAll, StoresOut, Done};
-ghost use Rattle.pahole_run.specs.Tasks.{task_of, printing_kind};
+ghost use Rattle.pahole_run.specs.Steps.{LoadsOne, LoadsAll, StoresOut, PrintsOut, Done};
+ghost use Rattle.pahole_run.specs.Tasks.{task_of, encode_task, show_task, is_btf};
 
-use crate::faults::{ended_of_load, ended_of_store};
+use crate::faults::{ended_of_load, ended_of_print, ended_of_store};
 use crate::refusal::{Ended, ended_of_whole};
+use crate::showing::make_text;
 use crate::table::make;
-use command_line::{Job, Text};
+use command_line::{Format, Job, Text, Texts};
 use dw_base::{Bytes, Limits};
+use shown_types::Style;
 use std::alloc::Global;
 use world_io::{Gate, World};
 
@@ -73,6 +76,19 @@ fn store_out<W: World>(world: &mut W, out: &str, bytes: &[u8]) -> Result<(), End
     }
 }
 
+/// Prints a text, unless it is empty.
+fn print_out<W: World>(world: &mut W, text: &[u8]) -> Result<(), Ended>
+    ensures { PrintsOut text.now (W.meaning world.old) (W.meaning world.new) result }
+{
+    if text.is_empty() {
+        return Ok(());
+    }
+    match world.print(text) {
+        Ok(()) => Ok(()),
+        Err(fault) => Err(ended_of_print(fault)),
+    }
+}
+
 /// Encodes files without a base.
 fn encode_files<W: World, G: Gate>(
     alloc: Global,
@@ -86,14 +102,36 @@ fn encode_files<W: World, G: Gate>(
     requires bytes { (limits.file_bytes < 2 ^ 32) × (limits.all_bytes < 2 ^ 32) }
     requires few { length names.now < 2 ^ 32 }
     requires jobs { 1 ≤ jobs }
-    ensures { Done limits (record { later = None; out = out.now; files = names.now }) (W.meaning world.old) (W.meaning world.new) result }
+    ensures { Done limits (encode_task out.now names.now) (W.meaning world.old) (W.meaning world.new) result }
 {
     let files = load_all(alloc, world, limits, names)?;
     let table = make(alloc, gate, jobs, limits, files.as_slice())?;
     store_out(world, out, table.items())
 }
 
-/// Does a job. Only encoding without a base is done so far; other jobs are refused before anything is loaded.
+/// Shows the types of files without a base.
+fn show_files<W: World, G: Gate>(
+    alloc: Global,
+    world: &mut W,
+    gate: &G,
+    jobs: u32,
+    limits: Limits,
+    shown: Option<&[Text]>,
+    style: Style,
+    names: &[Text],
+) -> Result<(), Ended>
+    requires bytes { (limits.file_bytes < 2 ^ 32) × (limits.all_bytes < 2 ^ 32) }
+    requires few { length names.now < 2 ^ 32 }
+    requires jobs { 1 ≤ jobs }
+    ensures { Done limits (show_task (option_copied shown.entry) style names.now) (W.meaning world.old) (W.meaning world.new) result }
+{
+    let files = load_all(alloc, world, limits, names)?;
+    let text = make_text(alloc, gate, jobs, limits, shown, style, files.as_slice())?;
+    print_out(world, text.items())
+}
+
+/// Does a job. Only encoding and showing the types of ELF files without a base are done so far; other jobs are refused
+/// before anything is loaded.
 pub fn do_job<W: World, G: Gate>(
     alloc: Global,
     world: &mut W,
@@ -126,17 +164,57 @@ pub fn do_job<W: World, G: Gate>(
                 files.items(),
             )
         }
-        Job::Show { base, .. } => Err(ended_of_whole(200, printing_kind(base))),
+        Job::Show {
+            format,
+            base,
+            names,
+            sizes,
+            holes,
+            line,
+            jobs,
+            files,
+        } => {
+            if base.is_some() {
+                return Err(ended_of_whole(200, 2));
+            }
+            if is_btf(*format) {
+                return Err(ended_of_whole(200, 1));
+            }
+            let style = Style {
+                sizes: *sizes,
+                holes: *holes,
+                line: *line,
+            };
+            show_files(
+                alloc,
+                world,
+                gate,
+                *jobs,
+                limits,
+                names_of(names),
+                style,
+                files.items(),
+            )
+        }
         Job::Selfmade { .. } => Err(ended_of_whole(200, 3)),
     }
 }
 
-/// What is missing for a job that prints: a base, or printing.
-fn printing_kind(base: &Option<Text>) -> u64
-    ensures { result ≡ printing_kind base.now }
+fn is_btf(format: Format) -> bool
+    ensures { result ≡ is_btf format }
 {
-    match base {
-        None => 1,
-        Some(_) => 2,
+    match format {
+        Format::Dwarf => false,
+        Format::Btf => true,
+    }
+}
+
+/// The names of the types that are shown, if there are any.
+fn names_of(names: &Option<Texts>) -> Option<&[Text]>
+    ensures { option_copied result ≡ names.now }
+{
+    match names {
+        None => None,
+        Some(names) => Some(names.items()),
     }
 }

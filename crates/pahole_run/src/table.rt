@@ -29,14 +29,14 @@ pub fn make<G: Gate>(
     requires jobs { 1 ≤ jobs }
     requires few { length files.now < 2 ^ 32 }
     requires size { bytes_in files.now < 2 ^ 32 }
-    ensures { Makes limits files.now result }
+    ensures { Makes None limits files.now result }
 {
     let table = make_table(alloc, gate, jobs, limits, files)?;
     write_table(alloc, &table, order_in(files))
 }
 
 /// The table that loaded files are merged to.
-fn make_table<'a, G: Gate>(
+pub fn make_table<'a, G: Gate>(
     alloc: Global,
     gate: &G,
     jobs: u32,

@@ -226,7 +226,16 @@ fn encodes_one_file(rt: HostRuntime) -> Result<(), Fail> {
             "pahole: -: table 0: error 200 2\n",
             None,
         ),
-        ("a", one, None, 1, "pahole: -: table 0: error 200 1\n", None),
+        ("-s a", one, None, 0, "", None),
+        ("-C b a", one, None, 5, "pahole: no type b\n", None),
+        (
+            "-F btf a",
+            one,
+            None,
+            1,
+            "pahole: -: table 0: error 200 1\n",
+            None,
+        ),
         (
             "--selfmade=0",
             None,

@@ -1,7 +1,7 @@
 //! A run.
 ghost use Rattle.std.specs.Prelude.{◌≡◌, ◌<◌, ◌≤◌, ◌^◌, length, map, string_bytes, Ok};
 ghost use Rattle.command_line.specs.Words.{job_of_words, files_of, jobs_of};
-ghost use Rattle.pahole_run.specs.Promises.{Succeeds, Refuses, Fails, RefusesWords, Keeps, IsComplete};
+ghost use Rattle.pahole_run.specs.Promises.{Succeeds, Refuses, Unnamed, Fails, RefusesWords, Keeps, IsComplete};
 ghost use Rattle.pahole_run.specs.Run.{Runs, Unworded};
 
 use crate::complaint::{say_end, say_memory, say_usage};
@@ -29,17 +29,20 @@ pub fn run<R: Threads + Sync, W: World, G: Gate>(
     words: &[String],
 ) -> u8
     requires { (limits.file_bytes < 2 ^ 32) × (limits.all_bytes < 2 ^ 32) }
-    // 0: what is stored spells the table of the coarsest agreeing partition of the types of all units.
+    // 0: what is stored spells the table of the coarsest agreeing partition of the types of all units, or what is printed
+    // is the text of what is shown of it.
     ensures done { result ≡ 0 → Succeeds limits (job_of_words (map string_bytes words.now)) (W.meaning world.old) (W.meaning world.new) }
     // 1: the first refusal of the files has a number.
     ensures refused { result ≡ 1 → Refuses limits (job_of_words (map string_bytes words.now)) (W.meaning world.old) (W.meaning world.new) }
     // 2: the words give no job.
     ensures usage { RefusesWords (job_of_words (map string_bytes words.now)) (W.meaning world.old) (W.meaning world.new) result }
-    // 3: a load or the store failed, or a file is missing.
+    // 3: a load, the print or the store failed, or a file is missing.
     ensures failed { result ≡ 3 → Fails limits (job_of_words (map string_bytes words.now)) (W.meaning world.old) (W.meaning world.new) }
+    // 5: a name is that of no type that can be shown.
+    ensures unnamed { result ≡ 5 → Unnamed limits (job_of_words (map string_bytes words.now)) (W.meaning world.old) (W.meaning world.new) }
     // What stays. 4 is want of memory.
     ensures keeps { Keeps (job_of_words (map string_bytes words.now)) (W.meaning world.old) (W.meaning world.new) result }
-    // Where no load and no store fails, the first refusal decides between 0 and 1.
+    // Where no load, no print and no store fails, the first refusal decides between 0, 1 and 5.
     ensures complete { IsComplete limits (job_of_words (map string_bytes words.now)) (W.meaning world.old) (W.meaning world.new) result }
 {
     let _ = rt;

@@ -1,0 +1,99 @@
+//! The text of what loaded files show.
+ghost use Rattle.std.specs.Prelude.{◌≡◌, ◌⊎◌, ◌<◌, ◌≤◌, ◌^◌, length, IfSome, if◌then◌else◌};
+ghost use Rattle.elf_sections.specs.Header.{is_wide};
+ghost use Rattle.std.specs.Option.{option_copied};
+ghost use Rattle.c_model.specs.Graph.{RefersWithin};
+ghost use Rattle.shown_types.specs.Listed.{chosen};
+ghost use Rattle.shown_types.specs.Shown.{IsText};
+ghost use Rattle.pahole_run.specs.Files.{width_in};
+ghost use Rattle.pahole_run.specs.Refusals.{first, show_checks};
+ghost use Rattle.pahole_run.specs.Steps.{Tells, IsOwn, IsWritable, Makes, bytes_in};
+ghost use Rattle.pahole_run.specs.Tasks.{shown_by};
+
+use crate::faults::ended_of_show;
+use crate::refusal::Ended;
+use crate::table::make_table;
+use btf_codec::{Table, TableOut};
+use command_line::Text;
+use dw_base::{Bytes, Limits, Order};
+use shown_types::{Style, show};
+use std::alloc::Global;
+use world_io::Gate;
+
+/// The steps from loaded files to the text of what they show.
+pub fn make_text<G: Gate>(
+    alloc: Global,
+    gate: &G,
+    jobs: u32,
+    limits: Limits,
+    names: Option<&[Text]>,
+    style: Style,
+    files: &[Bytes],
+) -> Result<Bytes, Ended>
+    requires jobs { 1 ≤ jobs }
+    requires few { length files.now < 2 ^ 32 }
+    requires size { bytes_in files.now < 2 ^ 32 }
+    ensures { Makes (shown_by (option_copied names.entry) style) limits files.now result }
+{
+    let table = make_table(alloc, gate, jobs, limits, files)?;
+    show_table(alloc, table, width_in(files), names, style)
+}
+
+/// The text of a table that is made.
+fn show_table(
+    alloc: Global,
+    table: TableOut<'_>,
+    pointer: u32,
+    names: Option<&[Text]>,
+    style: Style,
+) -> Result<Bytes, Ended>
+    requires table { IsWritable table }
+    requires pointer { (pointer ≡ 4) ⊎ (pointer ≡ 8) }
+    ensures told { Tells (first (show_checks (shown_by (option_copied names.entry) style) pointer table.entry.types))
+        (λ v. IsText table.entry.types pointer style (chosen table.entry.types 0 (option_copied names.entry)) v) result }
+    ensures own { IsOwn result }
+{
+    if count_of(names) > u32::MAX as usize || style.line == 0 {
+        return Err(Ended::Memory);
+    }
+    let shown = Table {
+        order: Order::Little,
+        base: 0,
+        types: table.types,
+        names: &[],
+    };
+    match show(alloc, &shown, pointer, names, style) {
+        Ok(text) => Ok(text),
+        Err(fault) => Err(ended_of_show(fault)),
+    }
+}
+
+/// How many names there are.
+fn count_of(names: Option<&[Text]>) -> usize
+    ensures { IfSome (option_copied names.entry) (λ ns. result ≡ length ns) }
+{
+    match names {
+        None => 0,
+        Some(names) => names.len(),
+    }
+}
+
+/// How many bytes pointers have, by the class of the first file.
+fn width_in(files: &[Bytes]) -> u32
+    ensures { result ≡ width_in files.now }
+{
+    if files.is_empty() {
+        return 8;
+    }
+    width_of(files[0].items())
+}
+
+fn width_of(bytes: &[u8]) -> u32
+    ensures { result ≡ (if is_wide bytes.now then 8 else 4) }
+{
+    if bytes.len() > 4 && bytes[4] == 2 {
+        8
+    } else {
+        4
+    }
+}
