@@ -1,5 +1,5 @@
 //! A table of C's `struct a { int x; /* a hole of 4 bytes */ int y; };`, 12 bytes, and `typedef struct { int z; } t;`.
-ghost use Rattle.std.specs.Prelude.{◌≡◌, IfOk, length};
+ghost use Rattle.std.specs.Prelude.{◌≡◌, ◌+◌, All, IfOk, OnOk, length};
 ghost use Rattle.c_model.specs.Graph.{IsBelow, RefersWithin};
 
 use crate::{ShowFault, Style, show};
@@ -42,6 +42,16 @@ fn node<'a>(
     })
 }
 
+/// One type more, which refers to the first four.
+fn push_type<'a>(types: &mut Vec<CType<'a>>, t: CType<'a>) -> Result<(), AllocError>
+    requires { All (IsBelow 4) t.targets }
+    ensures len { OnOk result (length types.new.items ≡ length types.old.items + 1) }
+    ensures within { OnOk result (RefersWithin 4 types.old.items → RefersWithin 4 types.new.items) }
+{
+    types.push(t)?;
+    Ok(())
+}
+
 /// The table. The member `z` is of the type `last`.
 fn table(alloc: Global, last: Ref) -> Result<Table<'static>, AllocError>
     requires { IsBelow 4 last }
@@ -49,11 +59,17 @@ fn table(alloc: Global, last: Ref) -> Result<Table<'static>, AllocError>
     ensures within { IfOk result (λ t. RefersWithin 4 t.types) }
 {
     let mut types = Vec::new(alloc);
-    types.push(node(alloc, 1, b"int", 4, &[], &[])?)?;
+    push_type(&mut types, node(alloc, 1, b"int", 4, &[], &[])?)?;
     let members = [(b"x".as_slice(), 0u64), (b"y".as_slice(), 64)];
-    types.push(node(alloc, 4, b"a", 12, &members, &[Ref::Node(0), Ref::Node(0)])?)?;
-    types.push(node(alloc, 4, b"", 4, &[(b"z".as_slice(), 0)], &[last])?)?;
-    types.push(node(alloc, 8, b"t", 0, &[], &[Ref::Node(2)])?)?;
+    push_type(
+        &mut types,
+        node(alloc, 4, b"a", 12, &members, &[Ref::Node(0), Ref::Node(0)])?,
+    )?;
+    push_type(
+        &mut types,
+        node(alloc, 4, b"", 4, &[(b"z".as_slice(), 0)], &[last])?,
+    )?;
+    push_type(&mut types, node(alloc, 8, b"t", 0, &[], &[Ref::Node(2)])?)?;
     Ok(Table {
         order: Order::Little,
         base: 0,
