@@ -25,10 +25,10 @@ use Rattle.dwarf_forms.proofs.Spelled.{bind_gives, fixed_is, fixed_gives, uleb_a
 use Rattle.dwarf_forms.proofs.Widths.{has_widths}
 
 -- faults of steps
-same_fault : {A : Type 0} (a b : FormFault) → ◌≡◌ {A = Result A FormFault} (Err a) (Err b) → a ≡ b
+pub same_fault : {A : Type 0} (a b : FormFault) → ◌≡◌ {A = Result A FormFault} (Err a) (Err b) → a ≡ b
 same_fault a b e = cc
 
-never : {A : Type 0} {P : Type 0} (x : A) (f : FormFault) → ◌≡◌ {A = Result A FormFault} (Ok x) (Err f) → P
+pub never : {A : Type 0} {P : Type 0} (x : A) (f : FormFault) → ◌≡◌ {A = Result A FormFault} (Ok x) (Err f) → P
 never x f e = cc
 
 bind_err : {A B : Type 0} (r : Result A FormFault) (g : A → Result B FormFault) (f : FormFault) → (r >>= g) ≡ Err f → (r ≡ Err f) ⊎ ((x : A) × (r ≡ Ok x) × (g x ≡ Err f))
@@ -134,11 +134,11 @@ unsigned_err : (unit : List ℕ) (at attribute : ℕ) (f : FormFault) (o : Optio
 unsigned_err unit at attribute f None h e = inl (leb_none (drop at unit) h, sym (same_fault {A = ℕ × ℕ} (ValueTruncated attribute) f e))
 unsigned_err unit at attribute f (Some ds) h e = wide_test unit at attribute f ds (nat_lt (unsigned_of ds) (2 ^ 64)) h refl e
 
-uleb_err : (unit : List ℕ) (at attribute : ℕ) (f : FormFault) → uleb_at unit at attribute ≡ Err f → NoNumber unit attribute at f
+pub uleb_err : (unit : List ℕ) (at attribute : ℕ) (f : FormFault) → uleb_at unit at attribute ≡ Err f → NoNumber unit attribute at f
 unfolding uleb_at uleb_of
 uleb_err unit at attribute f e = unsigned_err unit at attribute f (leb_bytes (drop at unit)) refl e
 
-uleb_out : (unit : List ℕ) (at attribute : ℕ) (f : FormFault) → NoNumber unit attribute at f → uleb_at unit at attribute ≡ Err f
+pub uleb_out : (unit : List ℕ) (at attribute : ℕ) (f : FormFault) → NoNumber unit attribute at f → uleb_at unit at attribute ≡ Err f
 unfolding uleb_at uleb_of
 uleb_out unit at attribute f (inl n) = rw (leb_never (drop at unit) n.0) (ap (λ (f : FormFault). Err f) (sym n.1))
 uleb_out unit at attribute f (inr n) = rw (digits_at unit at n.1 n.0 n.2.0 n.2.1, le-ltb (unsigned_of n.0) (2 ^ 64) n.3) (ap (λ (f : FormFault). Err f) (sym n.4))
