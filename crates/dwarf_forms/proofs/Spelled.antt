@@ -38,7 +38,7 @@ cut_found : {A : Type 0} (attribute : ℕ) (o : Option A) (x : A) → or_cut att
 cut_found attribute None x e = cc
 cut_found attribute (Some y) x e = let q : y ≡ x = cc in ap (λ z. Some z) q
 
-fixed_is : (unit : List ℕ) (at w : ℕ) (order : Order) (attribute n end : ℕ) → fixed_at unit at w order attribute ≡ Ok (n, end) → (piece : List ℕ) × Stands unit at piece end × (length piece ≡ w) × (n ≡ ordered order piece)
+pub fixed_is : (unit : List ℕ) (at w : ℕ) (order : Order) (attribute n end : ℕ) → fixed_at unit at w order attribute ≡ Ok (n, end) → (piece : List ℕ) × Stands unit at piece end × (length piece ≡ w) × (n ≡ ordered order piece)
 unfolding fixed_at
 fixed_is unit at w order attribute n end e =
     let b = bind_ok (or_cut attribute (number_of unit at w order)) (λ (n : ℕ). Ok (n, at + w)) (n, end) e in
@@ -47,7 +47,7 @@ fixed_is unit at w order attribute n end e =
     let s = number_stands unit at w b.0 order o in
     (s.0, subst (λ (k : ℕ). Stands unit at s.0 k) p.1 s.1, s.2, sym p.0 ∙ s.3)
 
-fixed_gives : (unit : List ℕ) (at w : ℕ) (order : Order) (attribute end : ℕ) (piece : List ℕ) → 1 ≤ w → Stands unit at piece end → length piece ≡ w → fixed_at unit at w order attribute ≡ Ok (ordered order piece, end)
+pub fixed_gives : (unit : List ℕ) (at w : ℕ) (order : Order) (attribute end : ℕ) (piece : List ℕ) → 1 ≤ w → Stands unit at piece end → length piece ≡ w → fixed_at unit at w order attribute ≡ Ok (ordered order piece, end)
 unfolding fixed_at
 fixed_gives unit at w order attribute end piece some s l =
     let k : at + w ≡ end = omega (arith, s.2, l) in
@@ -87,11 +87,11 @@ text_at_gives unit at attribute u end s h =
     let k : at + length u + 1 ≡ end = omega (arith, s.2, nul_length u) in
     bind_gives (or_cut attribute (text_of unit at)) (λ (t : List ℕ). Ok (t, at + length t + 1)) u (ap (or_cut attribute) (text_found unit at end u s h)) ∙ ap (λ (k : ℕ). Ok (u, k)) k
 
-uleb_at_is : (unit : List ℕ) (at attribute n end : ℕ) → uleb_at unit at attribute ≡ Ok (n, end) → uleb_of unit at ≡ Ok (n, end)
+pub uleb_at_is : (unit : List ℕ) (at attribute n end : ℕ) → uleb_at unit at attribute ≡ Ok (n, end) → uleb_of unit at ≡ Ok (n, end)
 unfolding uleb_at
 uleb_at_is unit at attribute n end e = leb_found at attribute (uleb_of unit at) (n, end) e
 
-uleb_at_gives : (unit : List ℕ) (at attribute end : ℕ) (ds : List ℕ) → Stands unit at ds end → IsLeb ds → unsigned_of ds < 2 ^ 64 → uleb_at unit at attribute ≡ Ok (unsigned_of ds, end)
+pub uleb_at_gives : (unit : List ℕ) (at attribute end : ℕ) (ds : List ℕ) → Stands unit at ds end → IsLeb ds → unsigned_of ds < 2 ^ 64 → uleb_at unit at attribute ≡ Ok (unsigned_of ds, end)
 unfolding uleb_at
 uleb_at_gives unit at attribute end ds s l fits = ap (of_leb at attribute) (uleb_gives unit at end ds s l fits)
 
@@ -122,7 +122,7 @@ one_number orders.Big b = omega arith
 abbrev Read : Layout → ℕ → List ℕ → ℕ → Order → Spec → Plain → ℕ → Type 0
 Read l form unit at order spec v end = (piece : List ℕ) × Stands unit at piece end × Means l form order spec.implicit piece v
 
-abbrev made_from : {A : Type 0} → (A → Plain) → A × ℕ → Result (Plain × ℕ) FormFault
+abbrev pub made_from : {A : Type 0} → (A → Plain) → A × ℕ → Result (Plain × ℕ) FormFault
 made_from g n = Ok (g n.0, n.1)
 
 made_by : {A : Type 0} (r : Result (A × ℕ) FormFault) (g : A → Plain) (v : Plain) (end : ℕ) → (r >>= made_from g) ≡ Ok (v, end) → (x : A) × (r ≡ Ok (x, end)) × (v ≡ g x)
@@ -245,7 +245,7 @@ known_is f form mid true u t' u' e = cc
 known_is f form mid false true t' u' e = cc
 known_is f form mid false false t' u' e = let p = ok_parts {F = FormFault} f.0 form f.1 mid e in (p.0, p.1, eqb-false f.0 0x16 t', eqb-false f.0 0x21 u')
 
-abbrev named_form : List ℕ → ℕ → Spec → Result (ℕ × ℕ) FormFault
+abbrev pub named_form : List ℕ → ℕ → Spec → Result (ℕ × ℕ) FormFault
 named_form unit at spec = uleb_at unit at spec.attribute >>= λ (f : ℕ × ℕ). if f.0 == 0x16 || f.0 == 0x21 then Err (FormUnknown f.0) else Ok f
 
 used_test : (c : Within) (spec : Spec) (at form mid : ℕ) (t : Bool) → (spec.form == 0x16) ≡ t → (if t then named_form c.unit at spec else Ok (spec.form, at)) ≡ Ok (form, mid) → Uses c spec at form mid
@@ -267,11 +267,11 @@ used_test c spec at form mid true t e =
     )
 used_test c spec at form mid false t e = let p = ok_parts {F = FormFault} spec.form form at mid e in inl (eqb-false spec.form 0x16 t, sym p.0, sym p.1)
 
-form_is : (c : Within) (spec : Spec) (at form mid : ℕ) → form_at c.unit at spec ≡ Ok (form, mid) → Uses c spec at form mid
+pub form_is : (c : Within) (spec : Spec) (at form mid : ℕ) → form_at c.unit at spec ≡ Ok (form, mid) → Uses c spec at form mid
 unfolding form_at
 form_is c spec at form mid e = used_test c spec at form mid (spec.form == 0x16) refl e
 
-form_gives : (c : Within) (spec : Spec) (at form mid : ℕ) → Uses c spec at form mid → form_at c.unit at spec ≡ Ok (form, mid)
+pub form_gives : (c : Within) (spec : Spec) (at form mid : ℕ) → Uses c spec at form mid → form_at c.unit at spec ≡ Ok (form, mid)
 unfolding form_at
 form_gives c spec at form mid (inl h) = rw (ne_eqb spec.form 0x16 h.0, h.1, h.2) refl
 form_gives c spec at form mid (inr h) =
@@ -286,10 +286,10 @@ unknown_found : (form : ℕ) (o : Option Layout) (l : Layout) → or_unknown for
 unknown_found form None l e = cc
 unknown_found form (Some k) l e = let q : k ≡ l = cc in ap (λ z. Some z) q
 
-abbrev shown_as : ℕ → Plain → Shown
+abbrev pub shown_as : ℕ → Plain → Shown
 shown_as form value = record { form = form; value = value }
 
-abbrev after_form : Within → Spec → ℕ × ℕ → Result (Shown × ℕ) FormFault
+abbrev pub after_form : Within → Spec → ℕ × ℕ → Result (Shown × ℕ) FormFault
 after_form c spec f =
     or_unknown f.0 (layout_of c.offset_bytes c.address_bytes f.0) >>= λ (l : Layout). read_at l f.0 c.unit f.1 c.order spec >>= λ (v : Plain × ℕ). Ok (shown_as f.0 v.0, v.1)
 

@@ -1,5 +1,6 @@
 pub mod Forms
 pub mod Law
 pub mod Meanings
+pub mod Refusals
 pub mod Standard
 pub mod Values

@@ -171,7 +171,7 @@ const FORMS: [(u64, &[u8], &[u8], &str); 45] = [
     (0x16, &[0x12, 2, 0xf1], &[0x12, 0xf1, 2], "UnitRef(61698)"),
 ];
 
-/// The bytes are just the value, and without the last one they are cut off.
+/// The bytes are just the value, and where the unit ends one byte earlier it passes that end.
 fn holds(
     rt: &impl Abort,
     alloc: Global,
@@ -197,14 +197,15 @@ fn holds(
         Err(fault) => assert!(rt; false, "{form}: {fault}"),
     }
     assert_eq!(rt; skip(ctx, &spec, 0), Ok(bytes.len() as u64));
-    if !bytes.is_empty() {
-        let cut = context(&bytes[..bytes.len() - 1], ctx.order, ctx.offset_bytes);
-        assert_eq!(rt;
-            skip(&cut, &spec, 0),
-            Err(FormFault::ValueTruncated(3)),
-            "{text}"
-        );
-        assert!(rt; value(&cut, &spec, 0).is_err());
+    if ctx.end > 0 {
+        let mut cut = *ctx;
+        cut.end = ctx.end - 1;
+        let passes = FormFault::ValueTruncated(3);
+        assert_eq!(rt; skip(&cut, &spec, 0), Err(passes), "{text}");
+        match value(&cut, &spec, 0) {
+            Ok(_) => assert!(rt; false, "{form} passes the unit's end"),
+            Err(fault) => assert_eq!(rt; fault, passes),
+        }
     }
     Ok(())
 }
@@ -218,6 +219,24 @@ fn each_form_is_read(rt: HostRuntime) -> Result<(), Fail> {
         holds(&rt, rt.alloc(), &wide, big, form, text)?;
     }
     Ok(())
+}
+
+/// The form that an indirect one names, its value, and the offset after that.
+#[test]
+fn an_indirect_form_is_the_named_one(rt: HostRuntime) {
+    let ctx = context(&[0x0b, 7], Order::Little, 4);
+    let spec = Spec {
+        attribute: 3,
+        form: 0x16,
+        implicit: 0,
+    };
+    match value(&ctx, &spec, 0) {
+        Ok((given, end)) => {
+            assert_eq!(rt; (given.form, end), (0x0b, 2));
+            assert_eq!(rt; constant_of(3, &given), Ok(7));
+        }
+        Err(fault) => assert!(rt; false, "{fault}"),
+    }
 }
 
 #[test]

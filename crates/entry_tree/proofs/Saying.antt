@@ -40,22 +40,22 @@ not_over false true e h = absurd (cc)
 not_over false false e h = refl
 
 module _ (c : Within) (declarations : List Declaration) (first at lists : ℕ) where
-  abbrev finish : Declaration → ℕ → Result Standing WalkFault
+  abbrev pub finish : Declaration → ℕ → Result Standing WalkFault
   finish d from = of_form at (ends_at c d.specs from) >>= λ (end : ℕ). Ok (entry d from end)
 
-  abbrev rooted : Declaration → ℕ → Result Standing WalkFault
+  abbrev pub rooted : Declaration → ℕ → Result Standing WalkFault
   rooted d from = if at == first && not (is_root d.tag) then Err (UnitRoot at d.tag) else finish d from
 
-  abbrev named : ℕ → ℕ → Result Standing WalkFault
+  abbrev pub named : ℕ → ℕ → Result Standing WalkFault
   named code from = or_missing at code (declaration_with code declarations) >>= λ (d : Declaration). rooted d from
 
-  abbrev coded : ℕ → ℕ → Result Standing WalkFault
+  abbrev pub coded : ℕ → ℕ → Result Standing WalkFault
   coded code from =
       if code == 0
       then (if at == first then Err (UnitRoot at 0) else Ok (null from))
       else (if not (at == first) && lists == 0 then Err (AfterRoot at) else named code from)
 
-  abbrev last : Result Standing WalkFault
+  abbrev pub last : Result Standing WalkFault
   last = if at == first then Err (UnitRoot at 0) else (if lists == 0 then Ok nothing else Err (TreeOpen at))
 
   abbrev Say : Result Standing WalkFault → Type 0
@@ -123,11 +123,11 @@ module _ (c : Within) (declarations : List Declaration) (first at lists : ℕ) w
   unfolding item_at
   end_item le ne zero = rw (le-leb (length c.unit) at le, ne_eqb at first ne, eq-eqb lists 0 zero) refl
 
-  root_test : (d : Declaration) → (at ≡ first → is_root d.tag ≡ true) → (b : Bool) → (at == first) ≡ b → (b && not (is_root d.tag)) ≡ false
+  pub root_test : (d : Declaration) → (at ≡ first → is_root d.tag ≡ true) → (b : Bool) → (at == first) ≡ b → (b && not (is_root d.tag)) ≡ false
   root_test d root true is = rw (root (eqb-true at first is)) refl
   root_test d root false is = refl
 
-  over_test : (at ≢ first → lists ≢ 0) → (b : Bool) → (at == first) ≡ b → (not b && lists == 0) ≡ false
+  pub over_test : (at ≢ first → lists ≢ 0) → (b : Bool) → (at == first) ≡ b → (not b && lists == 0) ≡ false
   over_test inside true is = refl
   over_test inside false is = ne_eqb lists 0 (inside (eqb-false at first is))
 

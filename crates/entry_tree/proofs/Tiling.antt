@@ -9,7 +9,7 @@ use Rattle.dwarf_forms.specs.Values.{Shown, Within}
 use Rattle.entry_tree.specs.Reads.{values_at, end_of_values}
 use Rattle.entry_tree.specs.Items.{Given, Coming, Standing, item_at, coming, coming_from, after_item, with_first, opened, listed, is_root}
 use Rattle.entry_tree.specs.Items.Standing.{nothing, null, entry}
-use Rattle.entry_tree.specs.Tree.{Found, Item, opening, opened_by, closing, closed_by, open_behind, MayStand, IsFound, IsItem, Follow, entry_of, entries_among, IsTree, EntriesAreTree, FaultsAreFirst}
+use Rattle.entry_tree.specs.Tree.{Found, Item, opening, opened_by, closing, closed_by, open_behind, MayStand, IsFound, IsItem, Follow, entry_of, entries_among, IsTree, EntriesAreTree}
 use Rattle.entry_tree.specs.declared.fault.WalkFault.{WalkFault}
 use Rattle.entry_tree.proofs.Ends.{ends_grow}
 use Rattle.entry_tree.proofs.Ahead.{one_item}
@@ -51,20 +51,20 @@ few_closed first at (i ∷ is) begun inside =
     let lt : first < at = begun.later (omega arith) in
     let some : open_behind (i ∷ is) ≢ 0 = inside (λ (e : at ≡ first). omega arith) in omega arith
 
-may_stand : (first at : ℕ) (before : List Item) (d : Declaration) → Begun first at before → (at ≡ first → is_root d.tag ≡ true) → (at ≢ first → open_behind before ≢ 0) → MayStand before d
+pub may_stand : (first at : ℕ) (before : List Item) (d : Declaration) → Begun first at before → (at ≡ first → is_root d.tag ≡ true) → (at ≢ first → open_behind before ≢ 0) → MayStand before d
 may_stand first at [] d begun root inside = root (begun.fresh refl)
 may_stand first at (i ∷ is) d begun root inside =
     let lt : first < at = begun.later (omega arith) in
     let some : open_behind (i ∷ is) ≢ 0 = inside (λ (e : at ≡ first). omega arith) in omega arith
 
-not_first : (first at : ℕ) (before : List Item) → Begun first at before → 0 < length before → at ≢ first
+pub not_first : (first at : ℕ) (before : List Item) → Begun first at before → 0 < length before → at ≢ first
 not_first first at before begun some e = let lt : first < at = begun.later some in omega arith
 
-some_before : (first at : ℕ) (before : List Item) → Begun first at before → at ≢ first → 0 < length before
+pub some_before : (first at : ℕ) (before : List Item) → Begun first at before → at ≢ first → 0 < length before
 some_before first at [] begun ne = absurd (ne (begun.fresh refl))
 some_before first at (i ∷ is) begun ne = omega arith
 
-begun_on : (first at end : ℕ) (before : List Item) (i : Item) → Begun first at before → at < end → Begun first end (before ++ i ∷ [])
+pub begun_on : (first at end : ℕ) (before : List Item) (i : Item) → Begun first at before → at < end → Begun first end (before ++ i ∷ [])
 begun_on first at end before i begun lt =
     let n : length (before ++ i ∷ []) ≡ length before + 1 = length-append before (i ∷ []) in
     record {
@@ -82,7 +82,7 @@ read_values c d from end (Err f) h e = absurd (cc)
 
 module _ (c : Within) (declarations : List Declaration) (first : ℕ) where
   -- how a walk ends
-  abbrev Ending : Option WalkFault → ℕ → List Item → Type 0
+  abbrev pub Ending : Option WalkFault → ℕ → List Item → Type 0
   Ending None end all = (length c.unit ≤ end) × (open_behind all ≡ 0) × (0 < length all)
   Ending (Some f) end all = item_at c declarations first end (open_behind all) ≡ Err f
 
@@ -135,7 +135,7 @@ module _ (c : Within) (declarations : List Declaration) (first : ℕ) where
       comes_by before at (item_at c declarations first at (open_behind before)) (λ (next more : ℕ). coming c declarations first n next more) refl (item_says c declarations first at (open_behind before)) begun
       (λ (end : ℕ) (i : Item) (within : at < length c.unit) (lt : at < end). comes n end (before ++ i ∷ []) (omega arith) (omega arith) (begun_on first at end before i begun lt))
 
-  starts : Begun first first []
+  pub starts : Begun first first []
   starts = record { fresh = λ _. refl; later = λ (some : 0 < 0). absurd (omega arith) }
 
   pub walked : Comes [] first (coming_from c declarations first first 0)
@@ -177,7 +177,7 @@ module _ (c : Within) (declarations : List Declaration) (first : ℕ) where
       one_item c declarations first at (open_behind before) ∙ ap (λ (r : Result Standing WalkFault). after_item c at (open_behind before) (λ (next more : ℕ). coming_from c declarations first next more) r) is
       ∙ rw (listed_is, k) refl
 
-  item_end : (before : List Item) (i : Item) (end : ℕ) → IsItem c declarations before i end → i.at < end
+  pub item_end : (before : List Item) (i : Item) (end : ℕ) → IsItem c declarations before i end → i.at < end
   item_end before i end item = by i.entry item.1
     where
       by : (o : Option Found) → IsFound c declarations before i.at o end → i.at < end
@@ -186,29 +186,35 @@ module _ (c : Within) (declarations : List Declaration) (first : ℕ) where
           let grows : f.1 ≤ end = ends_grow c e.declaration.specs f.1 end (ap end_of_values f.5) in
           let after : i.at < f.1 = (uleb_after c.unit i.at f.0 f.1 f.2).0 in omega arith
 
-  one_step : (before : List Item) (at mid : ℕ) (o : Option Found) (rest : List Given) → Begun first at before → at < length c.unit → IsFound c declarations before at o mid
-      → coming_from c declarations first mid (open_behind (before ++ record { at = at; entry = o } ∷ [])) ≡ record { entries = rest; ending = None }
-      → coming_from c declarations first at (open_behind before) ≡ record { entries = entry_of before at o ++ rest; ending = None }
-  one_step before at mid None rest begun lt f ih = null_step before at mid begun lt f.0 f.1 ∙ ih
-  one_step before at mid (Some e) rest begun lt f ih =
+  one_step : (before : List Item) (at mid : ℕ) (o : Option Found) (rest : List Given) (ending : Option WalkFault) → Begun first at before → at < length c.unit → IsFound c declarations before at o mid
+      → coming_from c declarations first mid (open_behind (before ++ record { at = at; entry = o } ∷ [])) ≡ record { entries = rest; ending = ending }
+      → coming_from c declarations first at (open_behind before) ≡ record { entries = entry_of before at o ++ rest; ending = ending }
+  one_step before at mid None rest ending begun lt f ih = null_step before at mid begun lt f.0 f.1 ∙ ih
+  one_step before at mid (Some e) rest ending begun lt f ih =
       entry_step before at f.0 f.1 mid e begun lt f.2 f.3 f.4 f.5 f.6
       ∙ ap (λ (r : Coming). with_first (record { at = at; depth = open_behind before; tag = e.declaration.tag; values = e.values }) r) ih
 
-  tree_walked : (items before : List Item) (at end : ℕ) → Begun first at before → Follow c declarations before at items end → length c.unit ≤ end → open_behind (before ++ items) ≡ 0 → 0 < length (before ++ items)
-      → coming_from c declarations first at (open_behind before) ≡ record { entries = entries_among before items; ending = None }
-  tree_walked [] before at end begun follow whole closed rooted =
+  -- items that follow one another are walked, and then what comes behind them
+  pub items_walked : (items before : List Item) (at end : ℕ) (ending : Option WalkFault) → Begun first at before → Follow c declarations before at items end
+      → (Begun first end (before ++ items) → coming_from c declarations first end (open_behind (before ++ items)) ≡ record { entries = []; ending = ending })
+      → coming_from c declarations first at (open_behind before) ≡ record { entries = entries_among before items; ending = ending }
+  items_walked [] before at end ending begun follow last =
       let here : before ++ [] ≡ before = append-nil before in
-      let zero : open_behind before ≡ 0 = ap open_behind (sym here) ∙ closed in
-      let some : 0 < length before = rw here at rooted in
-      let le : length c.unit ≤ at = omega (arith, follow) in
-      one_item c declarations first at (open_behind before)
-      ∙ ap (λ (r : Result Standing WalkFault). after_item c at (open_behind before) (λ (next more : ℕ). coming_from c declarations first next more) r) (end_item c declarations first at (open_behind before) le (not_first first at before begun some) zero)
-  tree_walked (i ∷ is) before at end begun follow whole closed rooted =
+      let there : Begun first end (before ++ []) = subst (λ (js : List Item). Begun first end js) (sym here) (subst (λ (k : ℕ). Begun first k before) follow begun) in
+      subst (λ (k : ℕ). coming_from c declarations first k (open_behind before) ≡ record { entries = []; ending = ending }) (sym follow)
+      (subst (λ (js : List Item). coming_from c declarations first end (open_behind js) ≡ record { entries = []; ending = ending }) here (last there))
+  items_walked (i ∷ is) before at end ending begun follow last =
       let more : (before ++ i ∷ []) ++ is ≡ before ++ i ∷ is = append_assoc before (i ∷ []) is in
       let after : i.at < follow.1 = item_end before i follow.1 follow.2 in
       let here : Begun first i.at before = rw follow.0 begun in
-      let ih = tree_walked is (before ++ i ∷ []) follow.1 end (begun_on first i.at follow.1 before i here after) follow.3 whole (ap open_behind more ∙ closed) (rw (← more) at rooted) in
-      rw (← follow.0) (one_step before i.at follow.1 i.entry (entries_among (before ++ i ∷ []) is) here follow.2.0 follow.2.1 ih)
+      let ih = items_walked is (before ++ i ∷ []) follow.1 end ending (begun_on first i.at follow.1 before i here after) follow.3 (subst (λ (js : List Item). Begun first end js → coming_from c declarations first end (open_behind js) ≡ record { entries = []; ending = ending }) (sym more) last) in
+      rw (← follow.0) (one_step before i.at follow.1 i.entry (entries_among (before ++ i ∷ []) is) ending here follow.2.0 follow.2.1 ih)
+
+  -- a tree is walked to its end
+  pub tree_ends : (all : List Item) (end : ℕ) → Begun first end all → length c.unit ≤ end → open_behind all ≡ 0 → 0 < length all → coming_from c declarations first end (open_behind all) ≡ record { entries = []; ending = None }
+  tree_ends all end begun whole closed some =
+      one_item c declarations first end (open_behind all)
+      ∙ ap (λ (r : Result Standing WalkFault). after_item c end (open_behind all) (λ (next more : ℕ). coming_from c declarations first next more) r) (end_item c declarations first end (open_behind all) whole (not_first first end all begun some) closed)
 
 pub entries_are : EntriesAreTree
 entries_are c declarations first es = (forth, back)
@@ -223,12 +229,6 @@ entries_are c declarations first es = (forth, back)
 
     back : (items : List Item) × IsTree c declarations first items × (es ≡ entries_among [] items) → coming_from c declarations first first 0 ≡ record { entries = es; ending = None }
     back h =
-        tree_walked c declarations first h.0 [] first h.1.end (starts c declarations first) h.1.follow h.1.whole h.1.closed h.1.rooted
+        items_walked c declarations first h.0 [] first h.1.end None (starts c declarations first) h.1.follow
+        (λ (begun : Begun first h.1.end h.0). tree_ends c declarations first h.0 h.1.end begun h.1.whole h.1.closed h.1.rooted)
         ∙ ap (λ (vs : List Given). record { entries = vs; ending = None }) (sym h.2)
-
-pub faults_are : FaultsAreFirst
-faults_are c declarations first es f e =
-    let w = walked c declarations first in
-    let ends : (coming_from c declarations first first 0).ending ≡ Some f = ap (λ (r : Coming). r.ending) e in
-    let given : (coming_from c declarations first first 0).entries ≡ es = ap (λ (r : Coming). r.entries) e in
-    (w.items, w.end, w.follow, sym given ∙ w.entries, subst (λ (o : Option WalkFault). Ending c declarations first o w.end w.items) ends w.ending)

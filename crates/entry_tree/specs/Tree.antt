@@ -4,13 +4,12 @@
 -- code of an abbreviation and one value for each of its pairs. The lists open before an item are the entries with children
 -- before it, less the nulls before it. The first item is the root. Behind it there are entries only as long as a list is open;
 -- after that all items are nulls. The depth of an entry is the number of lists open before it.
-use Rattle.std.specs.Prelude.{ℕ, ◌≡◌, ◌≢◌, ◌+◌, ◌-◌, ◌<◌, ◌≤◌, ◌↔◌, true, List, [], ◌∷◌, ◌++◌, length, Option, None, Some, Ok, Err, if◌then◌else◌}
+use Rattle.std.specs.Prelude.{ℕ, ◌≡◌, ◌≢◌, ◌+◌, ◌-◌, ◌<◌, ◌≤◌, ◌↔◌, true, List, [], ◌∷◌, ◌++◌, length, Option, None, Some, Ok, if◌then◌else◌}
 use Rattle.dw_base.specs.Leb128.{uleb_of}
 use Rattle.dwarf_abbrev.specs.Declarations.{Declaration, declaration_with}
 use Rattle.dwarf_forms.specs.Values.{Shown, Within}
 use Rattle.entry_tree.specs.Reads.{values_at}
-use Rattle.entry_tree.specs.Items.{Given, item_at, coming_from, is_root}
-use Rattle.entry_tree.specs.declared.fault.WalkFault.{WalkFault}
+use Rattle.entry_tree.specs.Items.{Given, coming_from, is_root}
 
 -- an entry, by its abbreviation and its values; or a null
 pub record Found : Type 0 where
@@ -85,10 +84,3 @@ abbrev pub EntriesAreTree : Type 0
 EntriesAreTree =
     (c : Within) (declarations : List Declaration) (first : ℕ) (es : List Given)
     → (coming_from c declarations first first 0 ≡ record { entries = es; ending = None }) ↔ ((items : List Item) × IsTree c declarations first items × (es ≡ entries_among [] items))
-
--- where a walk ends with a fault, it gave the entries of items that follow one another, and the next item is refused with that fault
-abbrev pub FaultsAreFirst : Type 0
-FaultsAreFirst =
-    (c : Within) (declarations : List Declaration) (first : ℕ) (es : List Given) (f : WalkFault)
-    → coming_from c declarations first first 0 ≡ record { entries = es; ending = Some f }
-    → (items : List Item) × (at : ℕ) × Follow c declarations [] first items at × (es ≡ entries_among [] items) × (item_at c declarations first at (open_behind items) ≡ Err f)

@@ -300,19 +300,23 @@ fn damaged_units(rt: HostRuntime) -> Result<(), Fail> {
     Ok(())
 }
 
-/// Headers of 8-byte lengths, padded nulls, lists left open, and no unit at all.
+/// Headers of 8-byte lengths, padded nulls, also behind the root's end, lists left open, and no unit at all.
 #[test]
 fn units_by_hand(rt: HostRuntime) -> Result<(), Fail> {
     let alloc = rt.alloc();
-    let long =
+    let long: &[u8] =
         b"\xff\xff\xff\xff\x17\0\0\0\0\0\0\0\x05\0\x03\x08\0\0\0\0\0\0\0\0\x01\x1d\x02int\0\x04\x05\x80\0";
-    let file = file_of(alloc, long, &PLAIN_ABBREV, &[], &[])?;
-    match walked(alloc, &file) {
-        Ok(entries) => assert_eq!(rt;
-            entries.as_slice(),
-            [(24, 0, 0x11), (26, 1, 0x24)].as_slice()
-        ),
-        Err(fault) => assert!(rt; false, "{fault:?}"),
+    let padded: &[u8] =
+        b"\x17\0\0\0\x05\0\x01\x08\0\0\0\0\x01\x1d\x02int\0\x04\x05\x80\0\0\x80\x80\0";
+    for (info, first) in [(long, 24), (padded, 12)] {
+        let file = file_of(alloc, info, &PLAIN_ABBREV, &[], &[])?;
+        match walked(alloc, &file) {
+            Ok(entries) => assert_eq!(rt;
+                entries.as_slice(),
+                [(first, 0, 0x11), (first + 2, 1, 0x24)].as_slice()
+            ),
+            Err(fault) => assert!(rt; false, "{fault:?}"),
+        }
     }
     let open = b"\x11\0\0\0\x05\0\x01\x08\0\0\0\0\x01\x1d\x02int\0\x04\x05";
     let none: &[u8] = &[];
