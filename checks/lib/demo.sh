@@ -8,6 +8,7 @@ root=$(cd "$(dirname "$0")/../.." && pwd)
 . "$root/checks/lib/hex.sh"
 work=$(mktemp -d)
 trap 'rm -rf "$work"' EXIT
+cp -r "$root/demo" "$work/demo"
 cd "$work"
 
 # what FILE: how long a file is
@@ -27,7 +28,7 @@ od -An -tx1 -v int.btf
 
 if ! command -v cc >/dev/null; then exit 0; fi
 echo "\$ cc -g -gdwarf-5 -o registry demo/registry.c demo/main.c"
-cc -g -gdwarf-5 -o registry "$root/demo/registry.c" "$root/demo/main.c"
+cc -g -gdwarf-5 -o registry demo/registry.c demo/main.c
 tell registry ELF
 pahole --btf_encode_detached=registry.btf registry
 tell registry.btf BTF

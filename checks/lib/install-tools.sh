@@ -10,5 +10,5 @@ apt-get install -y --no-install-recommends \
   gcc-powerpc64-linux-gnu libc6-dev-ppc64-cross \
   gcc-s390x-linux-gnu libc6-dev-s390x-cross \
   gcc-mips-linux-gnu libc6-dev-mips-cross \
-  clang lld \
+  clang lld dwz \
   groff mandoc

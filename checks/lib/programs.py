@@ -19,6 +19,12 @@ ACCEPTED = {
     "mips-linux-gnu-gcc": ["", "-static", "-gdwarf64"],
     "clang": ["-glldb", "-glldb -flto -fuse-ld=lld", "-glldb -m32"],
 }
+# how a file is built, and what a tool then makes of it that is still accepted
+TREATED = [
+    ("", ["dwz"]),
+    ("", ["objcopy", "--only-keep-debug"]),
+    ("-gz", ["objcopy", "--decompress-debug-sections"]),
+]
 # flags that change how the types lie
 OF_LAYOUT = {"-m32", "-fshort-enums", "-fpack-struct=2"}
 DEBUG_SECTIONS = [".debug_info", ".debug_abbrev", ".debug_str", ".debug_line_str", ".debug_str_offsets"]
@@ -26,6 +32,10 @@ DEBUG_SECTIONS = [".debug_info", ".debug_abbrev", ".debug_str", ".debug_line_str
 
 def run(words):
     return subprocess.run(words, capture_output=True, timeout=120)
+
+
+def sources_of(demo):
+    return [f"{demo}/registry.c", f"{demo}/main.c"]
 
 
 def contents(path):
@@ -99,10 +109,8 @@ def fault_of_readers(readers, told):
     return None
 
 
-def accepted(program, demo, readers, compiler, flags):
-    sources = [f"{demo}/registry.c", f"{demo}/main.c"]
-    if not build(compiler, flags, "a", sources):
-        return "skipped", "the compiler can't build it"
+def verdict_on(program, demo, readers, compiler, flags):
+    """Whether the file `a`, which a compiler built, is encoded and shown as it has to be."""
     told = says(compiler, demo, [flag for flag in flags if flag in OF_LAYOUT])
     if told is None:
         return "skipped", "the compiler can't build what it is asked for sizes by"
@@ -114,6 +122,21 @@ def accepted(program, demo, readers, compiler, flags):
     if not fault and encoded(program, "-j1", ("a", "a"))[2] != one[2]:
         fault = "the file given twice stores other bytes"
     return ("failed", fault) if fault else ("passed", f"{os.path.getsize('a')} bytes of ELF, {len(one[2])} bytes of BTF")
+
+
+def accepted(program, demo, readers, compiler, flags):
+    if not build(compiler, flags, "a", sources_of(demo)):
+        return "skipped", "the compiler can't build it"
+    return verdict_on(program, demo, readers, compiler, flags)
+
+
+def treated(program, demo, readers, flags, words):
+    """A file that a tool changed after it was linked."""
+    if not shutil.which(words[0]):
+        return "skipped", f"{words[0]} is not installed"
+    if not build("cc", flags, "a", sources_of(demo)) or run([*words, "a"]).returncode != 0:
+        return "skipped", "it can't be made"
+    return verdict_on(program, demo, readers, "cc", flags)
 
 
 def compressed():
@@ -144,33 +167,42 @@ REFUSED = [
 
 
 def refused(program, demo, flags, wanted):
-    if not build("cc", flags, "a", [f"{demo}/registry.c", f"{demo}/main.c"]):
+    if not build("cc", flags, "a", sources_of(demo)):
         return "skipped", "the compiler can't build it"
-    return is_refused(program, ("a",), f"pahole: a: {wanted()}\n")
+    return is_refused(program, ("a",), re.escape(f"pahole: a: {wanted()}\n"))
 
 
 def is_refused(program, files, line):
     status, complaint, stored = encoded(program, "-j1", files)
-    if status != 1 or stored is not None or complaint.decode() != line:
+    if status != 1 or stored is not None or not re.fullmatch(line, complaint.decode()):
         return "failed", f"status {status}, {complaint!r}, wanted {line!r}"
-    return "passed", line.strip()
+    return "passed", complaint.decode().strip()
 
 
 def mixed(program, demo):
     """Two files of different classes."""
-    sources = [f"{demo}/registry.c", f"{demo}/main.c"]
-    if not build("cc", [], "a", sources) or not build("cc", ["-m32"], "b", sources):
+    if not build("cc", [], "a", sources_of(demo)) or not build("cc", ["-m32"], "b", sources_of(demo)):
         return "skipped", "the compiler can't build them"
     return is_refused(program, ("a", "b"), "pahole: b: image 4: error 16\n")
 
 
-def decompressed(program, demo):
-    """What docs/REFUSALS.md says of 13 helps."""
-    if not shutil.which("objcopy") or not build("cc", ["-gz"], "z", [f"{demo}/registry.c", f"{demo}/main.c"]):
-        return "skipped", "objcopy is not installed, or the compiler can't build it"
-    run(["objcopy", "--decompress-debug-sections", "z", "a"])
-    status, complaint, _ = encoded(program, "-j1")
-    return ("passed", "it is encoded") if status == 0 else ("failed", f"status {status}, {complaint!r}")
+def without_strings(program, demo):
+    """A file without its section of strings."""
+    if not build("cc", [], "a", sources_of(demo)) or run(["objcopy", "-R", ".debug_str", "a"]).returncode != 0:
+        return "skipped", "it can't be made"
+    return is_refused(program, ("a",), r"pahole: a: \.debug_info \d+: error 42 \d+\n")
+
+
+def supplementary(program, demo):
+    """A file whose types refer to a supplementary file."""
+    with open("more.c", "w") as file:
+        file.write(f'#include "{demo}/registry.h"\nstruct more {{ struct packet packet; union word *word; }} more;\n')
+    for out, sources in (("a", [*sources_of(demo), "more.c"]), ("b", sources_of(demo))):
+        if not build("cc", [], out, sources):
+            return "skipped", "the compiler can't build it"
+    if not shutil.which("dwz") or run(["dwz", "-m", "common", "a", "b"]).returncode != 0:
+        return "skipped", "dwz is not installed, or can't make it"
+    return is_refused(program, ("a",), r"pahole: a: \.debug_info \d+: error 44 \d+\n")
 
 
 def found_readers(folder):
@@ -202,10 +234,13 @@ def main():
             continue
         for way in ways:
             say(f"{compiler} {way}".strip(), accepted(program, demo, readers, compiler, way.split()))
+    for flags, words in TREATED:
+        say(f"cc {flags} {' '.join(words)}".replace("  ", " "), treated(program, demo, readers, flags.split(), words))
     for way, wanted in REFUSED:
         say(f"cc {way}", refused(program, demo, way.split(), wanted))
     say("of two classes", mixed(program, demo))
-    say("decompressed", decompressed(program, demo))
+    say("without strings", without_strings(program, demo))
+    say("with a supplementary file", supplementary(program, demo))
 
 
 main()
