@@ -36,11 +36,12 @@ def main():
     for page in pages:
         for command, wanted in examples(page):
             words = command.split(" ")[1:]
-            if any(word.startswith("--btf_encode_detached=") for word in words):
-                continue
             done = subprocess.run([program, *words], cwd=folder, capture_output=True, text=True, timeout=120)
             had = done.stdout.expandtabs().rstrip()
             name = f"{os.path.basename(page)}: {command}"
+            # what an encoding run leaves is told by others
+            if any(word.startswith("--btf_encode_detached=") for word in words):
+                had = wanted = ""
             if done.returncode == 0 and had == wanted.expandtabs():
                 print(f"passed examples {name}")
             else:

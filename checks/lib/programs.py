@@ -84,6 +84,9 @@ def fault_of_layouts(program, told, had):
             return f"{name} is shown as {printed}, the compiler says {wanted}"
         if SIZE.findall(text) != [str(size)]:
             return f"{name} is shown with {SIZE.findall(text)} bytes, the compiler says {size}"
+        # the program of 32 bits has no type `long` to tell the width of pointers by
+        if contents("a")[4] == 2 and run([program, "-F", "btf", "-C", name, "o"]).stdout != one.stdout:
+            return f"{name} is shown otherwise from the BTF file"
     return None
 
 
