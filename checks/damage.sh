@@ -15,4 +15,4 @@ done
 scratch=$(mktemp -d) || exit 2
 trap 'rm -rf "$scratch"' EXIT
 cc -g -gdwarf-5 -o "$scratch/whole" "$root/demo/registry.c" "$root/demo/main.c" || exit 2
-python3 "$root/checks/lib/damage.py" "$program" "$scratch"
+python3 -B "$root/checks/lib/damage.py" "$program" "$scratch"

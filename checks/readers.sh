@@ -3,7 +3,7 @@
 # compares with the program's): bpftool, and a small C program over libbpf's btf__parse. A reader that isn't
 # installed is skipped by name.
 set -u
-export LC_ALL=C
+export LC_ALL=C PATH=$PATH:/usr/sbin:/sbin
 root=$(cd "$(dirname "$0")/.." && pwd) || exit 2
 . "$root/checks/lib/hex.sh"
 

@@ -59,7 +59,11 @@ struct registry {
 	report_fn report;
 	const volatile uint32_t *restrict mapped;
 	_Atomic int users;
+#ifdef __SIZEOF_INT128__
 	unsigned __int128 digest;
+#else
+	unsigned long long digest[2];
+#endif
 	int grid[3][4];
 	_Bool ready : 1;
 	unsigned level : 5;

@@ -1,13 +1,20 @@
 """A small reader of BTF (the Linux kernel's BTF documentation): structures and unions with their sizes and members."""
+import collections
 import struct
 
 # the words behind the first three of a type, by kind: so many, and so many for each of vlen
 FIXED = {1: 1, 3: 3, 14: 1, 17: 1}
 EACH = {4: 3, 5: 3, 6: 2, 13: 2, 15: 3, 19: 3}
+STRUCTURES = (4, 5)
+TYPEDEF = 8
+
+Type = collections.namedtuple("Type", "kind name last rows")
+# a member's bit offset from the structure's beginning, and its number of bits where it is a bit field, else 0
+Member = collections.namedtuple("Member", "bit bits")
 
 
-def structures(data):
-    """The structures and unions with a name: name -> (size, {member: bit offset})."""
+def types(data):
+    """All types of a table, by id; a structure's rows are the names, types and Members of its members."""
     order = "<" if data[:2] == b"\x9f\xeb" else ">"
     _, version, flags, length, type_at, type_len, text_at, text_len = struct.unpack_from(order + "HBBIIIII", data)
     assert (version, flags, length, type_at, text_at) == (1, 0, 24, 0, type_len)
@@ -20,11 +27,40 @@ def structures(data):
 
     found, at = {}, 0
     while at < len(words):
-        name, info, size = words[at:at + 3]
-        kind, vlen, flag = info >> 24 & 0x1F, info & 0xFFFF, info >> 31
-        if kind in (4, 5) and name:
-            rows = [words[at + 3 + 3 * i:at + 6 + 3 * i] for i in range(vlen)]
-            found[text(name)] = (size, {text(n): place & 0xFFFFFF if flag else place for n, _, place in rows if n})
+        name, info, last = words[at:at + 3]
+        kind, vlen, flag, rows = info >> 24 & 0x1F, info & 0xFFFF, info >> 31, []
+        if kind in STRUCTURES:
+            for i in range(at + 3, at + 3 + 3 * vlen, 3):
+                place = words[i + 2]
+                rows.append((text(words[i]), words[i + 1], Member(place & 0xFFFFFF, place >> 24) if flag else Member(place, 0)))
+        found[len(found) + 1] = Type(kind, text(name), last, rows)
         at += 3 + FIXED.get(kind, 0) + EACH.get(kind, 0) * vlen
     assert at == len(words)
+    return found
+
+
+def structures(data):
+    """The structures and unions with a name, and those that a typedef names: name -> (size, {member: Member}, inner).
+    Members of a structure without a name inside another one count as the other one's, and are `inner`."""
+    table, named = types(data), {}
+    for one in table.values():
+        if one.kind in STRUCTURES and one.name:
+            named[one.name] = one
+        elif one.kind == TYPEDEF and one.last in table:
+            target = table[one.last]
+            if target.kind in STRUCTURES and not target.name:
+                named[one.name] = target
+
+    def members(one, start):
+        for name, inner, place in one.rows:
+            if name:
+                yield name, Member(start + place.bit, place.bits), start == 0
+            elif table[inner].kind in STRUCTURES:
+                for nested, at, _ in members(table[inner], start + place.bit):
+                    yield nested, at, False
+
+    found = {}
+    for name, one in named.items():
+        rows = list(members(one, 0))
+        found[name] = (one.last, {member: place for member, place, _ in rows}, {member for member, _, own in rows if not own})
     return found

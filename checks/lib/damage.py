@@ -3,9 +3,10 @@ import collections
 import os
 import random
 import re
-import struct
 import subprocess
 import sys
+
+from elf import sections
 
 RUNS = 1000
 SECONDS = 20
@@ -15,15 +16,8 @@ LINE = re.compile(
 
 
 def debug_ranges(elf):
-    """The places of the sections `.debug_*` of a 64-bit little-endian file, as pairs of begin and end."""
-    table, size, count, names = struct.unpack_from("<Q", elf, 40)[0], *struct.unpack_from("<HHH", elf, 58)
-    headers = [struct.unpack_from("<IIQQQQ", elf, table + i * size) for i in range(count)]
-    texts = headers[names][4]
-    ranges = []
-    for name, _, _, _, offset, length in headers:
-        if elf[texts + name:].startswith(b".debug_") and length:
-            ranges.append((offset, offset + length))
-    return ranges
+    """The places of the sections `.debug_*`, as pairs of begin and end."""
+    return [(one.offset, one.offset + one.size) for one in sections(elf) if one.name.startswith(".debug_") and one.size]
 
 
 def damaged(elf, ranges, dice):

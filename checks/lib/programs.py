@@ -1,106 +1,249 @@
-"""programs.py PROGRAM DEMO FOLDER: encodes programs that the compiler builds of DEMO's sources in FOLDER."""
+"""programs.py PROGRAM DEMO FOLDER: encodes and shows programs that compilers build of DEMO's sources in FOLDER."""
 import os
 import re
+import shutil
 import subprocess
 import sys
 
-from btf import structures
+from btf import Member, structures
+from compiler import build, says
+from elf import sections, units
 
-ACCEPTED = [[], ["-static"], ["-m32"], ["-gdwarf64"], ["-g3"], ["-flto"], ["-O2"], ["-shared", "-fPIC"]]
-REFUSED = [
-    (["-gz"], rb"error 13 1\n"),
-    (["-gdwarf-4"], rb"error 21 4\n"),
-    (["-gsplit-dwarf"], rb"error 22 4\n"),
-    (["-fdebug-types-section"], rb"error 22 2\n"),
-]
-# members that are no bit fields, by structure
-MEMBERS = {
-    "struct list_head": ["next", "prev"],
-    "union word": ["whole", "halves", "low", "high", "rest"],
-    "struct packet": ["sequence", "reply", "payload"],
-    "struct registry": ["tag", "count", "entries", "store", "state", "bound", "compare", "report", "mapped", "users", "digest", "grid"],
+# compilers, each with the ways in which it builds the program: for this machine, for others with big-endian numbers of 64 bits (two) and
+# of 32 bits, and clang, which places bit fields as DWARF 5 has it with -glldb alone
+ACCEPTED = {
+    "cc": ["", "-static", "-static-pie", "-m32", "-m32 -static", "-gdwarf64", "-m32 -gdwarf64", "-g3", "-flto", "-O2", "-shared -fPIC",
+           "-fshort-enums -fpack-struct=2"],
+    "powerpc64-linux-gnu-gcc": ["", "-static", "-gdwarf64", "-g3", "-flto"],
+    "s390x-linux-gnu-gcc": ["", "-static"],
+    "mips-linux-gnu-gcc": ["", "-static", "-gdwarf64"],
+    "clang": ["-glldb", "-glldb -flto -fuse-ld=lld", "-glldb -m32"],
 }
+# how a file is built, and what a tool then makes of it that is still accepted
+TREATED = [
+    ("", ["dwz"]),
+    ("", ["objcopy", "--only-keep-debug"]),
+    ("-gz", ["objcopy", "--decompress-debug-sections"]),
+]
+# flags that change how the types lie
+OF_LAYOUT = {"-m32", "-fshort-enums", "-fpack-struct=2"}
+DEBUG_SECTIONS = [".debug_info", ".debug_abbrev", ".debug_str", ".debug_line_str", ".debug_str_offsets"]
 
 
-def compiled(flags, out, sources):
-    done = subprocess.run(["cc", "-g", "-gdwarf-5", "-w", *flags, "-o", out, *sources], capture_output=True)
-    return done.returncode == 0
+def run(words):
+    return subprocess.run(words, capture_output=True, timeout=120)
 
 
-def says(demo, flags):
-    """What the compiler says: name -> (size, {member: bit offset}); nothing where its program can't be built or run."""
-    with open("says.c", "w") as file:
-        file.write('#include "registry.h"\n#include <stdio.h>\nint main(void)\n{\n')
-        for name, members in MEMBERS.items():
-            file.write(f'\tprintf("%zu", sizeof({name}));\n')
-            for member in members:
-                file.write(f'\tprintf(" {member}=%zu", 8 * offsetof({name}, {member}));\n')
-            file.write('\tputs("");\n')
-        file.write("\treturn 0;\n}\n")
-    wide = [flag for flag in flags if flag == "-m32"]
-    if not compiled([*wide, "-I", demo], "says", ["says.c"]):
-        return None
-    lines = subprocess.run(["./says"], capture_output=True, text=True).stdout.splitlines()
-    told = {}
-    for name, line in zip(MEMBERS, lines):
-        size, *places = line.split(" ")
-        told[name.split(" ")[1]] = (int(size), {m: int(p) for m, p in (place.split("=") for place in places)})
-    return told
+def sources_of(demo):
+    return [f"{demo}/registry.c", f"{demo}/main.c"]
 
 
-def encoded(program, jobs):
+def contents(path):
+    with open(path, "rb") as file:
+        return file.read()
+
+
+def encoded(program, jobs, files=("a",)):
+    """A run's status, complaint and stored bytes."""
     if os.path.exists("o"):
         os.remove("o")
-    done = subprocess.run([program, "--btf_encode_detached=o", jobs, "a"], capture_output=True, timeout=120)
-    stored = open("o", "rb").read() if os.path.exists("o") else None
-    return done.returncode, done.stderr, stored
+    done = run([program, "--btf_encode_detached=o", jobs, *files])
+    return done.returncode, done.stderr, contents("o") if os.path.exists("o") else None
 
 
-def differs(told, had):
-    for name, (size, places) in told.items():
+def fault_of_table(told, had):
+    """What differs between the table and what the compiler says."""
+    for name, (size, places, _) in told.items():
         if name not in had:
             return f"no {name}"
-        if had[name][0] != size:
-            return f"{name} has {had[name][0]} bytes, the compiler says {size}"
-        for member, place in places.items():
-            # members of an anonymous one stand inside it
-            if member in had[name][1] and had[name][1][member] != place:
-                return f"{name}.{member} at {had[name][1][member]}, the compiler says {place}"
+        if had[name][:2] != (size, places):
+            return f"{name} is {had[name][:2]}, the compiler says {(size, places)}"
     return None
 
 
-def accepted(program, demo, sources, flags):
-    if not compiled(flags, "a", sources):
-        return "skipped", "the compiler can't build it"
+# a member's line: its name, behind which may stand brackets or the bits of a bit field, and its place
+LINE = re.compile(r"\t.*?(\w+)(?:\[\d*\])*(?::\d+)?; */\* +(\d+)(?::(\d+))? +(\d+) \*/")
+SIZE = re.compile(r"\t/\* size: (\d+),")
+
+
+def fault_of_layouts(program, told, had):
+    """What differs between the printed layouts and what the compiler says; inner members are not printed."""
+    for name, (size, places, sizes) in told.items():
+        one, four = run([program, "-C", name, "a"]), run([program, "-j4", "-C", name, "a"])
+        if one.returncode != 0 or one.stdout != four.stdout:
+            return f"-C {name}: status {one.returncode}, {one.stderr!r}; equal texts: {one.stdout == four.stdout}"
+        text = one.stdout.decode()
+        printed = {}
+        for member, byte, bit, count in LINE.findall(text):
+            field = places[member].bits != 0
+            printed[member] = Member(8 * int(byte) + int(bit or 0), int(count) if field else 0)
+            if not field and int(count) != sizes[member]:
+                return f"{name}.{member} is shown with {count} bytes, the compiler says {sizes[member]}"
+        wanted = {member: place for member, place in places.items() if member not in had[name][2]}
+        if printed != wanted:
+            return f"{name} is shown as {printed}, the compiler says {wanted}"
+        if SIZE.findall(text) != [str(size)]:
+            return f"{name} is shown with {SIZE.findall(text)} bytes, the compiler says {size}"
+        # the program of 32 bits has no type `long` to tell the width of pointers by
+        if contents("a")[4] == 2 and run([program, "-F", "btf", "-C", name, "o"]).stdout != one.stdout:
+            return f"{name} is shown otherwise from the BTF file"
+    return None
+
+
+def fault_of_readers(readers, told):
+    """What other readers of BTF, where they are installed, make of the stored file."""
+    for form in ("raw", "c"):
+        if "bpftool" in readers and run([readers["bpftool"], "btf", "dump", "file", "o", "format", form]).returncode != 0:
+            return f"bpftool refuses it as {form}"
+    if "libbpf" not in readers:
+        return None
+    done = run([readers["libbpf"], "o"])
+    if done.returncode != 0:
+        return "libbpf refuses it"
+    read = {}
+    for line in done.stdout.decode().splitlines():
+        name, size, *members = line.split(" ")
+        rows = (re.match(r"(.*)=(\d+):(\d+)", member).groups() for member in members)
+        read[name] = (int(size), {member: Member(int(bit), int(bits)) for member, bit, bits in rows})
+    for name in read.keys() & told.keys():
+        size, places, _ = told[name]
+        if read[name][0] != size or not read[name][1].items() <= places.items():
+            return f"libbpf reads {name} as {read[name]}, the compiler says {(size, places)}"
+    return None
+
+
+def verdict_on(program, demo, readers, compiler, flags):
+    """Whether the file `a`, which a compiler built, is encoded and shown as it has to be."""
+    told = says(compiler, demo, [flag for flag in flags if flag in OF_LAYOUT])
+    if told is None:
+        return "skipped", "the compiler can't build what it is asked for sizes by"
     one, four = encoded(program, "-j1"), encoded(program, "-j4")
     if one[0] != 0 or one != four:
         return "failed", f"one worker: {one[:2]}, four: {four[:2]}, equal bytes: {one[2] == four[2]}"
-    told = says(demo, flags)
-    if told is None:
-        return "skipped", "the compiler can't build the program that tells sizes"
-    fault = differs(told, structures(one[2]))
+    had = structures(one[2])
+    fault = fault_of_table(told, had) or fault_of_readers(readers, told) or fault_of_layouts(program, told, had)
+    if not fault and encoded(program, "-j1", ("a", "a"))[2] != one[2]:
+        fault = "the file given twice stores other bytes"
     return ("failed", fault) if fault else ("passed", f"{os.path.getsize('a')} bytes of ELF, {len(one[2])} bytes of BTF")
 
 
-def refused(program, sources, flags, wanted):
-    if not compiled(flags, "a", sources):
+def accepted(program, demo, readers, compiler, flags):
+    if not build(compiler, flags, "a", sources_of(demo)):
         return "skipped", "the compiler can't build it"
-    status, complaint, stored = encoded(program, "-j1")
-    if status != 1 or stored is not None or not re.search(wanted, complaint):
-        return "failed", f"status {status}, {complaint!r}"
+    return verdict_on(program, demo, readers, compiler, flags)
+
+
+def treated(program, demo, readers, flags, words):
+    """A file that a tool changed after it was linked."""
+    if not shutil.which(words[0]):
+        return "skipped", f"{words[0]} is not installed"
+    if not build("cc", flags, "a", sources_of(demo)) or run([*words, "a"]).returncode != 0:
+        return "skipped", "it can't be made"
+    return verdict_on(program, demo, readers, "cc", flags)
+
+
+def compressed():
+    """The first section of debugging information that is compressed."""
+    for section in sections(contents("a")):
+        if section.name in DEBUG_SECTIONS and section.flags & 0x800:
+            return f"image {section.header}: error 13 {DEBUG_SECTIONS.index(section.name) + 1}"
+    return "a compressed section"
+
+
+def other_unit():
+    """The first unit that is neither a compilation unit nor a partial unit."""
+    for at, unit_type in units(contents("a")):
+        if unit_type not in (1, 3):
+            return f".debug_info {at}: error 22 {unit_type}"
+    return "a unit of another type"
+
+
+# how a file is built that is refused, and its refusal
+REFUSED = [
+    ("-gz", compressed),
+    ("-gdwarf-4", lambda: ".debug_info 0: error 21 4"),
+    ("-gsplit-dwarf", other_unit),
+    ("-fdebug-types-section", other_unit),
+    ("-s", lambda: "image 0: error 14"),
+    ("-r -nostdlib", lambda: "image 16: error 12 1"),
+]
+
+
+def refused(program, demo, flags, wanted):
+    if not build("cc", flags, "a", sources_of(demo)):
+        return "skipped", "the compiler can't build it"
+    return is_refused(program, ("a",), re.escape(f"pahole: a: {wanted()}\n"))
+
+
+def is_refused(program, files, line):
+    status, complaint, stored = encoded(program, "-j1", files)
+    if status != 1 or stored is not None or not re.fullmatch(line, complaint.decode()):
+        return "failed", f"status {status}, {complaint!r}, wanted {line!r}"
     return "passed", complaint.decode().strip()
+
+
+def mixed(program, demo):
+    """Two files of different classes."""
+    if not build("cc", [], "a", sources_of(demo)) or not build("cc", ["-m32"], "b", sources_of(demo)):
+        return "skipped", "the compiler can't build them"
+    return is_refused(program, ("a", "b"), "pahole: b: image 4: error 16\n")
+
+
+def without_strings(program, demo):
+    """A file without its section of strings."""
+    if not build("cc", [], "a", sources_of(demo)) or run(["objcopy", "-R", ".debug_str", "a"]).returncode != 0:
+        return "skipped", "it can't be made"
+    return is_refused(program, ("a",), r"pahole: a: \.debug_info \d+: error 42 \d+\n")
+
+
+def supplementary(program, demo):
+    """A file whose types refer to a supplementary file."""
+    with open("more.c", "w") as file:
+        file.write(f'#include "{demo}/registry.h"\nstruct more {{ struct packet packet; union word *word; }} more;\n')
+    for out, sources in (("a", [*sources_of(demo), "more.c"]), ("b", sources_of(demo))):
+        if not build("cc", [], out, sources):
+            return "skipped", "the compiler can't build it"
+    if not shutil.which("dwz") or run(["dwz", "-m", "common", "a", "b"]).returncode != 0:
+        return "skipped", "dwz is not installed, or can't make it"
+    return is_refused(program, ("a",), r"pahole: a: \.debug_info \d+: error 44 \d+\n")
+
+
+def found_readers(folder):
+    """Other readers of BTF: bpftool, and a program over libbpf."""
+    readers = {}
+    tool = shutil.which("bpftool", path=f"{os.environ.get('PATH', '')}:/usr/sbin:/sbin")
+    if tool:
+        readers["bpftool"] = tool
+    else:
+        print("skipped programs bpftool: it is not installed")
+    if run(["cc", "-o", "structures", f"{folder}/structures.c", "-lbpf"]).returncode == 0:
+        readers["libbpf"] = "./structures"
+    else:
+        print("skipped programs libbpf: its headers are not installed")
+    return readers
 
 
 def main():
     program, demo, folder = (os.path.abspath(word) for word in sys.argv[1:4])
-    sources = [f"{demo}/registry.c", f"{demo}/main.c"]
     os.chdir(folder)
-    for flags in ACCEPTED:
-        verdict, why = accepted(program, demo, sources, flags)
-        print(f"{verdict} programs {' '.join(flags) or 'plain'}: {why}")
-    for flags, wanted in REFUSED:
-        verdict, why = refused(program, sources, flags, wanted)
-        print(f"{verdict} programs {' '.join(flags)}: {why}")
+    readers = found_readers(os.path.dirname(os.path.abspath(__file__)))
+
+    def say(name, verdict):
+        print(f"{verdict[0]} programs {name}: {verdict[1]}", flush=True)
+
+    for compiler, ways in ACCEPTED.items():
+        if not shutil.which(compiler):
+            print(f"skipped programs {compiler}: it is not installed")
+            continue
+        for way in ways:
+            say(f"{compiler} {way}".strip(), accepted(program, demo, readers, compiler, way.split()))
+    for flags, words in TREATED:
+        say(f"cc {flags} {' '.join(words)}".replace("  ", " "), treated(program, demo, readers, flags.split(), words))
+    for way, wanted in REFUSED:
+        say(f"cc {way}", refused(program, demo, way.split(), wanted))
+    say("of two classes", mixed(program, demo))
+    say("without strings", without_strings(program, demo))
+    say("with a supplementary file", supplementary(program, demo))
 
 
 main()

@@ -1,0 +1,11 @@
+#!/usr/bin/env bash
+# The pages README.md and docs/: each path and each definition's file that they name exists, the map has each crate and each file of
+# its definitions, and the page on refusals has exactly the program's numbers.
+set -u
+export LC_ALL=C.UTF-8
+root=$(cd "$(dirname "$0")/.." && pwd) || exit 2
+if ! command -v python3 >/dev/null; then
+  echo "skipped docs: python3 is not installed"
+  exit 0
+fi
+python3 -B "$root/checks/lib/docs.py" "$root"

@@ -1,0 +1,20 @@
+#!/usr/bin/env bash
+# The examples of the README and of the manual page: the built program prints of the program of demo/ what they show.
+set -u
+export LC_ALL=C.UTF-8
+. "$(dirname "$0")/lib/program.sh"
+
+for tool in cc python3; do
+  if ! command -v "$tool" >/dev/null; then
+    echo "skipped examples: $tool is not installed"
+    exit 0
+  fi
+done
+case "$(cc -dumpmachine)" in
+  x86_64*) ;;
+  *) echo "skipped examples: they are of another machine" && exit 0 ;;
+esac
+scratch=$(mktemp -d) || exit 2
+trap 'rm -rf "$scratch"' EXIT
+cc -g -gdwarf-5 -o "$scratch/registry" "$root/demo/registry.c" "$root/demo/main.c" || exit 2
+python3 -B "$root/checks/lib/examples.py" "$program" "$scratch" "$root/README.md" "$root/docs/man/pahole.1"
