@@ -31,8 +31,8 @@ def named(c, members):
     return {"c": c, "name": c.split()[-1], "members": [(m and m.rstrip(":"), bool(m) and m.endswith(":")) for m in members]}
 
 
-def made_member(dice, place, earlier):
-    """A member as C writes it, its name, and whether it is a bit field."""
+def made_member(dice, place, flat):
+    """A member as C writes it, its name, and whether it is a bit field. `flat` are types that hold no other one."""
     name, sort = f"m{place}", dice.random()
     if sort < 0.35:
         base = dice.choice(list(FIELDS))
@@ -41,7 +41,7 @@ def made_member(dice, place, earlier):
         return f"{dice.choice(['int', 'long long'])} : {dice.choice([0, 0, 3])};", None, True
     if sort < 0.5:
         return f"union {{ char a{place}; {dice.choice(['short', 'int', 'double'])} b{place}[{dice.randint(1, 3)}]; }};", None, False
-    base = dice.choice(earlier) if earlier and sort < 0.65 else dice.choice(WHOLE)
+    base = dice.choice(flat) if flat and sort < 0.65 else dice.choice(WHOLE)
     bounds = "".join(f"[{dice.randint(1, 4)}]" for _ in range(dice.choice([0, 0, 0, 1, 2])))
     if "{}" in base:
         return base.format(name + bounds) + ";", name, False
@@ -50,11 +50,11 @@ def made_member(dice, place, earlier):
 
 def made_types(dice):
     """The text of a C file, and its types."""
-    lines, types = ["enum two { ONE, TWO };"], []
+    lines, types, flat = ["enum two { ONE, TWO };"], [], []
     for number in range(MADE):
         word, members, rows = dice.choice(["struct"] * 3 + ["union"]), [], []
         for place in range(dice.randint(1, 12)):
-            text, name, field = made_member(dice, place, [t["c"] for t in types[-20:]])
+            text, name, field = made_member(dice, place, flat)
             rows.append("\t" + text)
             # a bit field without a name is no member
             if name or not field:
@@ -71,6 +71,8 @@ def made_types(dice):
             c = f"{word} {tag}"
         lines.append(f"{c} kept{number};")
         types.append({"c": c, "name": tag, "members": members})
+        if not any("made" in row for row in rows):
+            flat.append(c)
     return "\n".join(lines) + "\nint main(void) { return 0; }\n", types
 
 
