@@ -1,6 +1,7 @@
-pub mod Scaling
 pub mod Holes
 pub mod Chains
+pub mod Ways
+pub mod Knowing
 pub mod Placed
 pub mod Adding
 pub mod Declaring

@@ -1,6 +1,7 @@
 pub mod Sizes
 pub mod Layout
 pub mod Measuring
+pub mod Finding
 pub mod Pieces
 pub mod Declarations
 pub mod Text

@@ -1,5 +1,5 @@
 -- Sizes of types, in bytes.
-use Rattle.std.specs.Prelude.{ℕ, zero, suc, ◌*◌, ◌^◌, ◌==◌, ◌&&◌, ◌||◌, nat_le, List, [], ◌∷◌, Bool, Option, Some, None, codes, find, length, slice_get, if◌then◌else◌}
+use Rattle.std.specs.Prelude.{◌≡◌, ℕ, zero, suc, ◌*◌, ◌^◌, ◌<◌, ◌==◌, ◌&&◌, ◌||◌, nat_le, List, [], ◌∷◌, Bool, Option, Some, None, codes, find, length, slice_get, if◌then◌else◌}
 use Rattle.std.specs.Option.{option_and_then, option_map, option_map_or}
 use Rattle.std.specs.List.{list_any}
 use Rattle.std.specs.Str.{bytes_eq}
@@ -8,6 +8,7 @@ use Rattle.c_model.specs.declared.graph.Ref.{Ref}
 use Rattle.c_model.specs.declared.graph.Ref.TheVariants.{Void, Node}
 use Rattle.btf_codec.specs.Fields.{target_at}
 use Rattle.layout_printer.specs.declared.sizes.SizeRule.{SizeRule}
+use Rattle.layout_printer.specs.declared.sizes.Sizes.{Sizes}
 use Rattle.layout_printer.specs.declared.sizes.SizeRule.TheVariants.{Stated, Pointer, Elements, Target, Unsized}
 
 -- the reference of an id: 0 is void
@@ -66,6 +67,11 @@ size_in (suc n) types pointer r = size_from (size_in n types pointer) types poin
 -- as many types as there are is a cycle, and has none
 abbrev pub size_of : List CType → ℕ → Ref → Option ℕ
 size_of types pointer r = size_in (length types) types pointer r
+
+-- the sizes of a table are those of its types, in their order
+pub record AreSizes (types : List CType) (sizes : Sizes) : Type 0 where
+  pub covers : length sizes.items.items ≡ length types
+  pub each : (x : ℕ) → x < length types → slice_get sizes.items.items x ≡ Some (size_of types sizes.pointer (Node x))
 
 -- an INT of 4 or 8 bytes by one of C's names for `long`
 abbrev pub is_long : CType → Bool

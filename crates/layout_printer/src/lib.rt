@@ -5,6 +5,7 @@
 #![tactic(auto)]
 
 mod declaration;
+mod finding;
 pub mod laws;
 mod lines;
 mod lookups;
@@ -20,6 +21,6 @@ pub mod texts;
 
 pub use laws::bits_add_up;
 pub use placing::layout;
-pub use sizes::pointer_of;
+pub use sizes::{Sizes, pointer_of, sizes_of};
 pub use slots::{LayoutFault, Slot, Slots, TypeLayout};
 pub use texts::{sizes_line, text};

@@ -1,16 +1,17 @@
 //! Sizes of types.
-ghost use Rattle.std.specs.Prelude.{◌≡◌, ◌<◌, ◌≤◌, ◌*◌, ◌^◌, ℕ, IfSome, Option, Some};
-ghost use Rattle.layout_printer.specs.Sizes.{fitting, is_long, pointer_of, size_by, size_from, size_of, size_rule};
-ghost use Rattle.layout_printer.specs.Measuring.{AreFitting, HasElements, measured, scaled};
-ghost use Rattle.std.specs.Option.{option_and_then};
-ghost use Rattle.c_model.specs.declared.graph.Ref.{Ref};
+ghost use Rattle.std.specs.Prelude.{◌≡◌, ◌<◌, ◌≤◌, ◌^◌, List, IfOk, IfSome, length, map};
+ghost use Rattle.std.specs.Option.{option_flatten};
+ghost use Rattle.c_model.specs.declared.graph.CType.{CType};
+ghost use Rattle.layout_printer.specs.Finding.{kept_at};
+ghost use Rattle.layout_printer.specs.Sizes.{AreSizes, fitting, is_long, pointer_of, size_of, size_rule};
 
-use crate::lookups::{target_at, type_of};
+use crate::finding::find;
 use btf_codec::Table;
 use c_model::{CType, Ref};
+use std::alloc::{AllocError, Global};
 
 /// The largest size in bytes, 2^60.
-const MOST: u64 = 1 << 60;
+const MOST: u128 = 1 << 60;
 
 /// What gives a type its size.
 #[derive(Clone, Copy, Debug, PartialEq, Eq)]
@@ -27,22 +28,36 @@ pub enum SizeRule {
     Unsized,
 }
 
-/// The arrays that are passed on the way to a size.
-#[derive(Clone, Copy, Debug)]
-pub struct Scale {
-    /// The product of their numbers of elements, from the last empty one on; 2^60 + 1 where it passes 2^60.
-    pub product: u64,
-    /// Whether one of them has no elements.
-    pub empty: bool,
+/// The sizes of the types of a table, in bytes.
+#[derive(Debug, Drop)]
+pub struct Sizes {
+    /// How many bytes pointers have.
+    pub pointer: u32,
+    /// The size of each type, in the order of the types; `None` where it has none.
+    pub items: Vec<Option<u64>>,
 }
 
-/// A step towards a size.
-#[derive(Clone, Copy, Debug)]
-pub enum Measure {
-    /// The size is known, or that there is none.
-    Known(Option<u64>),
-    /// It is that of another type, scaled.
-    Inward(Scale, Ref),
+impl Sizes {
+    /// The size of what a reference is to; `None` where it has none.
+    pub fn of(&self, r: Ref) -> Option<u64>
+        ensures value { (types : List CType) → AreSizes types self.now → result ≡ size_of types self.now.pointer r }
+        ensures fits { (types : List CType) → AreSizes types self.now → IfSome result (λ s. s ≤ 2 ^ 60) }
+    {
+        kept_at(&self.items, r)
+    }
+}
+
+/// The size of what a reference is to, among those of all types.
+fn kept_at(sizes: &[Option<u64>], r: Ref) -> Option<u64>
+    ensures { result ≡ kept_at sizes.now r }
+{
+    match r {
+        Ref::Void => None,
+        Ref::Node(x) => match sizes.get(x as usize) {
+            Some(size) => *size,
+            None => None,
+        },
+    }
 }
 
 /// How many bytes the pointers of a table have: the size of its first INT of 4 or 8 bytes that is named `long`, `long int`,
@@ -70,7 +85,8 @@ fn is_long(t: &CType<'_>) -> bool
             || name == b"long unsigned int".as_slice())
 }
 
-fn size_rule(kind: u8) -> SizeRule
+/// What gives a type of a kind its size.
+pub fn size_rule(kind: u8) -> SizeRule
     ensures { result ≡ size_rule kind }
 {
     match kind {
@@ -82,82 +98,35 @@ fn size_rule(kind: u8) -> SizeRule
     }
 }
 
-/// The size in bytes of what a reference is to. It takes at most as many steps as there are types; where no types form a
-/// cycle, as many as typedefs, qualifiers and arrays stand before the type that states a size.
-pub fn size_of(types: &[CType<'_>], pointer: u32, r: Ref) -> Option<u64>
-    ensures value { result ≡ size_of types.now pointer r }
-    ensures fits { IfSome result (λ s. s ≤ 2 ^ 60) }
+/// The sizes of all types of a table, where pointers have `pointer` bytes. It takes as many steps as there are types.
+pub fn sizes_of(alloc: Global, table: &Table<'_>, pointer: u32) -> Result<Sizes, AllocError>
+    requires { length table.now.types < 2 ^ 32 }
+    ensures pointer { IfOk result (λ s. s.pointer ≡ pointer) }
+    ensures sizes { IfOk result (AreSizes table.now.types) }
 {
-    let mut scale = Scale {
-        product: 1,
-        empty: false,
-    };
-    let mut at = r;
-    for _ in 0..types.len() {
-        match step(types, pointer, scale, at) {
-            Measure::Known(size) => return size,
-            Measure::Inward(inner, next) => {
-                scale = inner;
-                at = next;
-            }
-        }
+    let types = table.types.items();
+    let mut found = vec![in alloc; None; types.len()]?;
+    for x in 0..types.len() as u32 {
+        find(alloc, types, pointer, &mut found, x)?;
     }
-    None
+    let items = known(alloc, &found)?;
+    Ok(Sizes { pointer, items })
 }
 
-/// One step: a type gives the size, or passes on to another.
-#[inline(always)]
-fn step(types: &[CType<'_>], pointer: u32, scale: Scale, r: Ref) -> Measure
-    requires { 0 < scale.product }
-    ensures same { (rest : Ref → Option ℕ) → AreFitting rest →
-        measured rest result ≡ scaled scale (size_from rest types.now pointer r) }
-    ensures elements { HasElements result }
+/// The sizes that are found.
+fn known(alloc: Global, found: &[Option<Option<u64>>]) -> Result<Vec<Option<u64>>, AllocError>
+    ensures { IfOk result (λ v. v.items ≡ map option_flatten found.now) }
 {
-    match type_of(types, r) {
-        None => Measure::Known(None),
-        Some(t) => match size_rule(t.label.kind) {
-            SizeRule::Stated => Measure::Known(scaled(scale, u64::from(t.label.size))),
-            SizeRule::Pointer => Measure::Known(scaled(scale, u64::from(pointer))),
-            SizeRule::Elements => {
-                let inner = times(scale, u64::from(t.label.extra));
-                Measure::Inward(inner, target_at(t.targets.items(), 0))
-            }
-            SizeRule::Target => Measure::Inward(scale, target_at(t.targets.items(), 0)),
-            SizeRule::Unsized => Measure::Known(None),
-        },
+    let mut items = Vec::with_capacity(alloc, found.len())?;
+    for size in found {
+        items.push(size.flatten())?;
     }
+    Ok(items)
 }
 
-/// The size of so many elements of a size.
-fn scaled(scale: Scale, size: u64) -> Option<u64>
-    requires { 0 < scale.product }
-    ensures { result ≡ scaled scale (fitting size) }
+/// A size, where it does not pass 2^60.
+pub fn fitting(size: u128) -> Option<u64>
+    ensures { result ≡ fitting size }
 {
-    let bytes = scale.product.saturating_mul(size);
-    if bytes > MOST {
-        None
-    } else if scale.empty {
-        Some(0)
-    } else {
-        Some(bytes)
-    }
-}
-
-/// The scale behind an array of so many elements.
-fn times(scale: Scale, count: u64) -> Scale
-    requires { 0 < scale.product }
-    ensures same { (s : ℕ) → s ≤ 2 ^ 60 → scaled result (Some s) ≡ scaled scale (fitting (count * s)) }
-    ensures elements { 0 < result.product }
-{
-    if count == 0 {
-        Scale {
-            product: 1,
-            empty: true,
-        }
-    } else {
-        Scale {
-            product: scale.product.saturating_mul(count).min(MOST + 1),
-            empty: scale.empty,
-        }
-    }
+    if size > MOST { None } else { Some(size as u64) }
 }

@@ -5,8 +5,8 @@ ghost use Rattle.layout_printer.specs.Layout.{IsStructure};
 
 use crate::lookups::{ref_of, type_of};
 use crate::placing::layout;
-use crate::sizes::pointer_of;
-use crate::slots::{LayoutFault, TypeLayout};
+use crate::sizes::{pointer_of, sizes_of};
+use crate::slots::{LayoutFault, Slot, TypeLayout};
 use crate::texts::{sizes_line, text};
 use btf_codec::Table;
 use c_model::{CType, Label, Nodes, Part, Parts, Ref, Refs};
@@ -135,7 +135,8 @@ fn placed(
     if types.len() > 1000 || !is_structure(types, id) || !are_within(types.len(), types) {
         return Err(Fail::from("no structure"));
     }
-    Ok(layout(alloc, table, id, 8))
+    let sizes = sizes_of(alloc, table, 8)?;
+    Ok(layout(alloc, table, &sizes, id))
 }
 
 /// The lines of an id whose structure is another one.
@@ -405,5 +406,281 @@ fn a_member_without_a_size(rt: HostRuntime) -> Result<(), Fail> {
     let parts = [(b"p".as_slice(), 0), (b"x".as_slice(), 64)];
     let table = table_of(alloc, &all, &parts)?;
     assert!(rt; matches!(&placed(alloc, &table, 1)?, Err(LayoutFault::NoSize(2))));
+    Ok(())
+}
+
+#[test]
+fn sizes_of_each_kind(rt: HostRuntime) -> Result<(), Fail> {
+    let alloc = rt.alloc();
+    let cases = [
+        (typed(1, b"int", false, 4, 32, 0, &[]), Some(4)),
+        (typed(2, b"", false, 0, 0, 0, &[7]), Some(8)),
+        (typed(3, b"", false, 0, 10, 0, &[1, 1]), Some(40)),
+        (typed(4, b"s", false, 12, 0, 0, &[]), Some(12)),
+        (typed(5, b"u", false, 6, 0, 0, &[]), Some(6)),
+        (typed(6, b"e", false, 2, 0, 0, &[]), Some(2)),
+        (typed(7, b"f", false, 0, 0, 0, &[]), None),
+        (typed(8, b"t", false, 0, 0, 0, &[9]), Some(40)),
+        (typed(9, b"", false, 0, 0, 0, &[3]), Some(40)),
+        (typed(10, b"", false, 0, 0, 0, &[11]), Some(8)),
+        (typed(11, b"", false, 0, 0, 0, &[2]), Some(8)),
+        (typed(12, b"call", false, 0, 1, 0, &[13]), None),
+        (typed(13, b"", false, 0, 0, 0, &[1]), None),
+        (typed(14, b"v", false, 0, 1, 0, &[4]), Some(12)),
+        (typed(15, b".data", false, 16, 0, 0, &[]), Some(16)),
+        (typed(16, b"double", false, 8, 0, 0, &[]), Some(8)),
+        (typed(17, b"tag", false, 0, 0, 0, &[4]), None),
+        (typed(18, b"user", false, 0, 0, 0, &[5]), Some(6)),
+        (typed(19, b"wide", false, 8, 0, 0, &[]), Some(8)),
+        // Two cycles, and what leads into one.
+        (typed(8, b"a", false, 0, 0, 0, &[21]), None),
+        (typed(10, b"", false, 0, 0, 0, &[20]), None),
+        (typed(3, b"", false, 0, 0, 0, &[20, 1]), None),
+        (typed(8, b"b", false, 0, 0, 0, &[22]), None),
+        (typed(8, b"c", false, 0, 0, 0, &[24]), None),
+        // Arrays up to 2^60 bytes and past them.
+        (typed(3, b"", false, 0, 1 << 31, 0, &[1, 1]), Some(1 << 33)),
+        (typed(3, b"", false, 0, 1 << 27, 0, &[25, 1]), Some(1 << 60)),
+        (typed(3, b"", false, 0, 2, 0, &[26, 1]), None),
+        (typed(3, b"", false, 0, 0, 0, &[27, 1]), None),
+        (typed(3, b"", false, 0, 0, 0, &[26, 1]), Some(0)),
+        // Void, no target, and none that is there.
+        (typed(10, b"", false, 0, 0, 0, &[0]), None),
+        (typed(3, b"", false, 0, 1, 0, &[]), None),
+        (typed(8, b"d", false, 0, 0, 0, &[3000]), None),
+    ];
+    let mut all = Vec::new(alloc);
+    let mut wanted: Vec<Option<u64>> = Vec::new(alloc);
+    for (shown, size) in cases {
+        all.push(shown)?;
+        wanted.push(size)?;
+    }
+    let sizes = sizes_of(alloc, &table_of(alloc, &all, &[])?, 8)?;
+    assert_eq!(rt; sizes.items, wanted);
+    assert_eq!(rt; sizes.of(Ref::Void), None);
+    assert_eq!(rt; sizes.of(Ref::Node(2)), Some(40));
+    Ok(())
+}
+
+/// A slot by its first bit, its bits, whether it is a bit field, and the hole before it.
+fn slot(start: u64, bits: u64, field: bool, hole: u64) -> Slot {
+    Slot {
+        start,
+        bits,
+        field,
+        hole,
+    }
+}
+
+#[test]
+fn members_in_any_order(rt: HostRuntime) -> Result<(), Fail> {
+    let alloc = rt.alloc();
+    // The size of the structure, its flag, two members of an `int`, their slots, and the padding.
+    let cases = [
+        // In order, with a hole and padding.
+        (
+            16,
+            false,
+            [0, 64],
+            [slot(0, 32, false, 0), slot(64, 32, false, 32)],
+            32,
+        ),
+        // Out of order: the second is before the first, and no hole.
+        (
+            16,
+            false,
+            [64, 0],
+            [slot(64, 32, false, 64), slot(0, 32, false, 0)],
+            32,
+        ),
+        // They overlap.
+        (
+            8,
+            false,
+            [0, 16],
+            [slot(0, 32, false, 0), slot(16, 32, false, 0)],
+            16,
+        ),
+        // The size is smaller than where they end.
+        (
+            4,
+            false,
+            [0, 32],
+            [slot(0, 32, false, 0), slot(32, 32, false, 0)],
+            0,
+        ),
+        // A bit field ends in a byte, and the next member is none.
+        (
+            8,
+            true,
+            [0x0300_0000, 32],
+            [slot(0, 3, true, 0), slot(32, 32, false, 29)],
+            0,
+        ),
+        // The last bit field that an offset word has.
+        (
+            4,
+            true,
+            [0, 0xffff_ffff],
+            [slot(0, 32, false, 0), slot(0xff_ffff, 255, true, 0xff_ffdf)],
+            0,
+        ),
+        // Without the flag the whole word is the first bit.
+        (
+            4,
+            false,
+            [0, 0xffff_ffff],
+            [
+                slot(0, 32, false, 0),
+                slot(0xffff_ffff, 32, false, 0xffff_ffdf),
+            ],
+            0,
+        ),
+    ];
+    for (size, flag, values, slots, padding) in cases {
+        let all = [
+            typed(1, b"int", false, 4, 0, 0, &[]),
+            typed(4, b"s", flag, size, 0, 2, &[1, 1]),
+        ];
+        let parts = [(b"a".as_slice(), values[0]), (b"b".as_slice(), values[1])];
+        let placed = placed(alloc, &table_of(alloc, &all, &parts)?, 2)??;
+        assert_eq!(rt; placed.slots.items(), slots.as_slice());
+        assert_eq!(rt; placed.padding, padding);
+    }
+    Ok(())
+}
+
+#[test]
+fn boundaries_of_cache_lines(rt: HostRuntime) -> Result<(), Fail> {
+    let alloc = rt.alloc();
+    let all = [
+        typed(1, b"int", false, 4, 0, 0, &[]),
+        typed(1, b"char", false, 1, 0, 0, &[]),
+        typed(3, b"", false, 0, 126, 0, &[2, 1]),
+        typed(4, b"s", false, 256, 0, 3, &[3, 1, 3]),
+    ];
+    let parts = [
+        (b"a".as_slice(), 0),
+        (b"b".as_slice(), 8 * 126),
+        (b"c".as_slice(), 8 * 130),
+    ];
+    let table = table_of(alloc, &all, &parts)?;
+    let cases = [
+        (
+            16,
+            b"\t/* --- cacheline 7 boundary (112 bytes) was 14 bytes ago --- */\n".as_slice(),
+            b"\t/* --- cacheline 8 boundary (128 bytes) was 2 bytes ago --- */\n".as_slice(),
+            b"\t/* size: 256, cachelines: 16, members: 3 */\n".as_slice(),
+        ),
+        (
+            64,
+            b"\t/* --- cacheline 1 boundary (64 bytes) was 62 bytes ago --- */\n".as_slice(),
+            b"\t/* --- cacheline 2 boundary (128 bytes) was 2 bytes ago --- */\n".as_slice(),
+            b"\t/* size: 256, cachelines: 4, members: 3 */\n".as_slice(),
+        ),
+        (
+            128,
+            b"".as_slice(),
+            b"\t/* --- cacheline 1 boundary (128 bytes) was 2 bytes ago --- */\n".as_slice(),
+            b"\t/* size: 256, cachelines: 2, members: 3 */\n".as_slice(),
+        ),
+    ];
+    for (line, before_b, before_c, size) in cases {
+        let lines = [
+            b"struct s {\n".as_slice(),
+            b"\tchar                       a[126];               /*     0   126 */\n".as_slice(),
+            before_b,
+            b"\tint                        b;                    /*   126     4 */\n".as_slice(),
+            before_c,
+            b"\tchar                       c[126];               /*   130   126 */\n".as_slice(),
+            b"\n".as_slice(),
+            size,
+            b"};\n".as_slice(),
+        ];
+        assert_eq!(rt; text_of(alloc, &table, 4, 4, line)?, joined(alloc, &lines)?);
+    }
+    Ok(())
+}
+
+fn type_of_kind(alloc: Global, kind: u8, size: u32, target: Ref) -> Result<CType<'static>, Fail> {
+    Ok(CType {
+        label: Label {
+            kind,
+            name: Name::new(b"t"),
+            flag: false,
+            size,
+            extra: 0,
+            parts: Parts::new(Vec::new(alloc)),
+        },
+        targets: Refs::new(vec![in alloc; target]?),
+    })
+}
+
+/// A structure of 100 members of a type of 4 bytes.
+fn hundred(alloc: Global, target: Ref) -> Result<CType<'static>, Fail> {
+    let mut parts = Vec::new(alloc);
+    for k in 0..100u64 {
+        parts.push(Part {
+            name: Name::new(b"m"),
+            value: 32 * k,
+        })?;
+    }
+    let mut t = type_of_kind(alloc, 4, 400, target)?;
+    t.label.parts = Parts::new(parts);
+    t.targets = Refs::new(vec![in alloc; target; 100]?);
+    Ok(t)
+}
+
+/// A type, 100,000 typedefs of it behind each other, and 1,000 structures with members of the last.
+fn long_chain(alloc: Global, first: CType<'static>) -> Result<Table<'static>, Fail> {
+    let mut types = vec![in alloc; first]?;
+    for x in 0..100_000 {
+        types.push(type_of_kind(alloc, 8, 0, Ref::Node(x))?)?;
+    }
+    for _ in 0..1_000 {
+        types.push(hundred(alloc, Ref::Node(100_000))?)?;
+    }
+    Ok(Table {
+        order: Order::Little,
+        base: 0,
+        types: Nodes::new(types),
+        names: b"",
+    })
+}
+
+/// Whether all structures of a long chain have a layout without padding (`true`), or none has one. Following the chain for each
+/// member takes ten thousand million steps.
+fn are_whole(alloc: Global, table: &Table<'_>) -> Result<bool, Fail> {
+    let types = table.types.items();
+    if types.len() > 1_000_000 || !are_within(types.len(), types) {
+        return Err(Fail::from("no long chain"));
+    }
+    let sizes = sizes_of(alloc, table, 8)?;
+    let mut whole = true;
+    for id in 100_002..101_002 {
+        if !is_structure(types, id) {
+            return Err(Fail::from("no structure"));
+        }
+        whole = whole && is_whole(layout(alloc, table, &sizes, id))?;
+    }
+    Ok(whole)
+}
+
+/// Whether a layout is there, without padding.
+fn is_whole(placed: Result<TypeLayout, LayoutFault>) -> Result<bool, Fail> {
+    match placed {
+        Ok(shown) => Ok(shown.padding == 0),
+        Err(LayoutFault::NoSize(100_001)) => Ok(false),
+        Err(_) => Err(Fail::from("another fault")),
+    }
+}
+
+#[test]
+fn long_chains_and_many_members(rt: HostRuntime) -> Result<(), Fail> {
+    let alloc = rt.alloc();
+    let int = type_of_kind(alloc, 1, 4, Ref::Void)?;
+    assert!(rt; are_whole(alloc, &long_chain(alloc, int)?)?);
+    let cycle = type_of_kind(alloc, 8, 0, Ref::Node(100_000))?;
+    assert!(rt; !are_whole(alloc, &long_chain(alloc, cycle)?)?);
     Ok(())
 }

@@ -2,6 +2,7 @@
 ghost use Rattle.std.specs.Prelude.{◌≡◌, ◌-◌, ◌⊎◌, ◌<◌, ◌^◌, IsTrue, All, length, IfOk, IfSome};
 ghost use Rattle.std.specs.Option.{option_copied};
 ghost use Rattle.c_model.specs.Graph.{RefersWithin};
+ghost use Rattle.layout_printer.specs.Sizes.{AreSizes};
 ghost use Rattle.layout_printer.specs.Text.{byte_holes};
 ghost use Rattle.shown_types.specs.Listed.{is_listed};
 ghost use Rattle.shown_types.specs.Shown.{separator, piece, PutsPiece, LaysOut, ShowsPlaces, Shows};
@@ -12,7 +13,7 @@ use crate::listed::structure_at;
 use btf_codec::Table;
 use command_line::Text;
 use dw_base::Bytes;
-use layout_printer::{LayoutFault, Slot, TypeLayout, layout, sizes_line, text};
+use layout_printer::{LayoutFault, Sizes, Slot, TypeLayout, layout, sizes_line, sizes_of, text};
 use std::alloc::{AllocError, Global};
 
 /// How types are shown.
@@ -46,28 +47,29 @@ pub fn show(
     ensures { Shows table.now.types table.now.base pointer (option_copied names.entry) style result }
 {
     let places = choose(alloc, table.types.items(), table.base, names)?;
-    show_places(alloc, table, pointer, style, places.as_slice())
+    let sizes = sizes_of(alloc, table, pointer)?;
+    show_places(alloc, table, &sizes, style, places.as_slice())
 }
 
 /// The text of the types in some places, each of which can be shown.
 fn show_places(
     alloc: Global,
     table: &Table<'_>,
-    pointer: u32,
+    sizes: &Sizes,
     style: Style,
     places: &[u32],
 ) -> Result<Bytes, ShowFault>
     requires few { length table.now.types < 2 ^ 32 }
     requires within { RefersWithin (length table.now.types) table.now.types }
-    requires pointer { (pointer ≡ 4) ⊎ (pointer ≡ 8) }
+    requires sizes { AreSizes table.now.types sizes.now }
     requires line { 0 < style.line }
     requires listed { All (λ x. IsTrue (is_listed table.now.types x)) places.now }
-    ensures { ShowsPlaces table.now.types pointer style places.now result }
+    ensures { ShowsPlaces table.now.types sizes.now.pointer style places.now result }
 {
     let mut out = Vec::new(alloc);
     let mut started = false;
     for i in 0..places.len() {
-        let shown = layout_at(alloc, table, pointer, places[i])?;
+        let shown = layout_at(alloc, table, sizes, places[i])?;
         started = put_shown(alloc, &mut out, table, style, places[i], &shown, started)?;
     }
     Ok(Bytes::new(out))
@@ -77,17 +79,17 @@ fn show_places(
 fn layout_at(
     alloc: Global,
     table: &Table<'_>,
-    pointer: u32,
+    sizes: &Sizes,
     x: u32,
 ) -> Result<TypeLayout, ShowFault>
     requires few { length table.now.types < 2 ^ 32 }
     requires within { RefersWithin (length table.now.types) table.now.types }
-    requires pointer { (pointer ≡ 4) ⊎ (pointer ≡ 8) }
+    requires sizes { AreSizes table.now.types sizes.now }
     requires listed { IsTrue (is_listed table.now.types x) }
-    ensures { LaysOut table.now.types pointer x result }
+    ensures { LaysOut table.now.types sizes.now.pointer x result }
 {
     let structure = structure_at(table.types.items(), x).unwrap();
-    match layout(alloc, table, structure + 1, pointer) {
+    match layout(alloc, table, sizes, structure + 1) {
         Ok(shown) => Ok(shown),
         Err(LayoutFault::NoSize(id)) => Err(ShowFault::NoSize(id)),
         Err(LayoutFault::Memory) => Err(ShowFault::Memory),

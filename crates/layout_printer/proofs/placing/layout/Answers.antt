@@ -12,8 +12,8 @@ returns-clause-ok c = record {
   found = type_read c.args.table.now.types c.items-types.result.now c.args.id c.requires.structure.t c.index-types-id.result c.items-types.ensures c.requires.structure.found c.index-types-id.is;
   same = refl;
   size = refl;
-  slots = subst (λ (ss : List Slot). AreSlots c.args.table.now.types c.args.pointer c.index-types-id.result ss) (sym c.new.ensures)
-      (subst (λ ts. AreSlots ts c.args.pointer c.index-types-id.result c.in_ok-slots.slots.items) c.items-types.ensures c.in_ok-slots.ensures.ok);
+  slots = subst (λ (ss : List Slot). AreSlots c.args.table.now.types c.args.sizes.now.pointer c.index-types-id.result ss) (sym c.new.ensures)
+      (c.in_ok-slots.ensures.ok c.args.table.now.types c.requires.sizes);
   padding = hole_is c.new.result c.saturating_sub-padding.result (8 * c.from.result) (8 * c.index-types-id.result.label.size) c.farthest-end.result
       c.saturating_sub-padding.ensures (ap (λ n. 8 * n) c.from.ensures) (c.farthest-end.ensures ∙ ap farthest (c.deref.ensures.value ∙ sym c.new.ensures));
 }

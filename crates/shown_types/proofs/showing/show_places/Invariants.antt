@@ -3,4 +3,4 @@ use Rattle.shown_types.proofs.showing.show_places.Given as goal
 
 -- so many places are shown
 abbrev pub invariant-loop-i : goal.invariant-loop-i
-invariant-loop-i l = ShownSoFar l.table.types l.pointer l.style l.places l.i l.out.items l.started
+invariant-loop-i l = ShownSoFar l.table.types l.sizes.pointer l.style l.places l.i l.out.items l.started
