@@ -6,7 +6,8 @@ ghost use Rattle.unit_encoder.specs.Sources.{IsReadable, Gives};
 ghost use Rattle.unit_encoder.specs.Graph.{graph_of};
 
 use crate::fault::EncodeFault;
-use crate::links::{link_nodes, number_all};
+use crate::links::link_nodes;
+use crate::places::place_all;
 use crate::sources::{UnitAt, read_sources};
 use crate::tags::find_tag;
 use c_model::Graph;
@@ -45,8 +46,8 @@ pub fn encode<'a, G: Gate>(
     if count > u64::from(most) {
         return Err(EncodeFault::NodesTooMany(count));
     }
-    let numbers = number_all(alloc, sources.as_slice())?;
-    match link_nodes(alloc, &numbers, sources)? {
+    let rows = place_all(alloc, sources.as_slice())?;
+    match link_nodes(alloc, rows.as_slice(), sources)? {
         Ok(nodes) => Ok(Graph::new(0, nodes)),
         Err(out) => match find_tag(alloc, units, out.file, out.to) {
             Ok(tag) => Err(EncodeFault::TypeRefOut {

@@ -4,6 +4,7 @@
 pub mod fault;
 pub mod graph;
 mod links;
+mod places;
 mod shared;
 pub mod sources;
 mod tags;

@@ -15,14 +15,16 @@ returns-in-Err c =
     let s = c.in-Some.source in
     let all = c.args.sources.items in
     let linked = rw c.in-Err.is at (c.in_ok-refs.ensures all c.requires.numbers (sym c.args.sources.ok.0 ∙ sym c.len-count.ensures)) in
-    nodes_stop all c.loop-source.nodes.items s (into_iter_items c.loop-source.source-iterator) (into_iter_items c.next.new.self) c.in-Err.out (nodes_from all [] all) c.in-Some.ensures.steps.0 (linked ∙ ap (refs_from all s.file s.index []) c.items.ensures) c.loop-source.invariant
+    let here = rw (c.unit_of-unit.ensures.file, c.unit_of-unit.ensures.index) at linked in
+    nodes_stop all c.loop-source.nodes.items s (into_iter_items c.loop-source.source-iterator) (into_iter_items c.next.new.self) c.in-Err.out (nodes_from all [] all) c.in-Some.ensures.steps.0 (here ∙ ap (refs_from all s.file s.index []) c.items.ensures) c.loop-source.invariant
 
 pub loop-source-preserved : goal.loop-source-preserved
 loop-source-preserved c =
     let s = c.in-Some.source in
     let all = c.args.sources.items in
     let linked = rw c.in-Ok.is at (c.in_ok-refs.ensures all c.requires.numbers (sym c.args.sources.ok.0 ∙ sym c.len-count.ensures)) in
-    nodes_go_on all c.loop-source.nodes.items c.push.new.self.items s (into_iter_items c.loop-source.source-iterator) (into_iter_items c.next.new.self) c.in-Ok.refs (nodes_from all [] all) c.in-Some.ensures.steps.0 (linked ∙ ap (refs_from all s.file s.index []) c.items.ensures) c.in_ok-push-in-Ok.ensures.items c.loop-source.invariant
+    let here = rw (c.unit_of-unit.ensures.file, c.unit_of-unit.ensures.index) at linked in
+    nodes_go_on all c.loop-source.nodes.items c.push.new.self.items s (into_iter_items c.loop-source.source-iterator) (into_iter_items c.next.new.self) c.in-Ok.refs (nodes_from all [] all) c.in-Some.ensures.steps.0 (here ∙ ap (refs_from all s.file s.index []) c.items.ensures) c.in_ok-push-in-Ok.ensures.items c.loop-source.invariant
 
 pub returns : goal.returns
 returns c =
