@@ -12,6 +12,7 @@ pub mod Lengths
 pub mod Numbers
 pub mod Parts
 pub mod References
+pub mod Skips
 pub mod Structures
 pub mod Taking
 pub mod Types

@@ -1,5 +1,5 @@
 //! The types of one unit.
-ghost use Rattle.std.specs.Prelude.{◌≡◌, ◌++◌, ◌||◌, ◌==◌, ◌+◌, ◌<◌, ◌^◌, OnOk, IfOk};
+ghost use Rattle.std.specs.Prelude.{◌≡◌, ◌++◌, ◌||◌, ◌==◌, ◌+◌, ◌<◌, ◌-◌, ◌^◌, OnOk, IfOk};
 ghost use Rattle.dwarf_forms.specs.Values.{IsContext};
 ghost use Rattle.dwarf_forms.specs.Meanings.{sections};
 ghost use Rattle.elf_sections.specs.Images.{file_of};
@@ -9,14 +9,17 @@ ghost use Rattle.entry_tree.specs.Contexts.{IsUnitOf, within_of};
 ghost use Rattle.entry_tree.specs.Roots.{root_of};
 ghost use Rattle.entry_tree.specs.Walks.{given_entry};
 ghost use Rattle.c_types.specs.Faults.{noted};
+ghost use Rattle.c_types.specs.Skips.{AreRight, DoOffsetsRise};
 ghost use Rattle.c_types.specs.Types.{plain_row_of, row_of, made_in, listed, refused_in, or_least, unit_types, types_in, is_passed_over, of_abbrev, after_root, types_of_unit_of, Gives};
 
 use crate::arrays::array;
 use crate::base::{base_type, unspecified_type};
+use crate::children::Children;
 use crate::enumerations::enumeration;
 use crate::fault::TypeFault;
 use crate::functions::function;
 use crate::references::{reference, typedef};
+use crate::skips::Skips;
 use crate::source::{SourceType, SourceTypes, UnitTypes};
 use crate::structures::structure;
 use crate::tags::{
@@ -59,23 +62,26 @@ fn read_plain_type<'a>(
 }
 
 /// The type of an entry, where it has one, for a walk that stands behind it.
-fn read_type<'a>(
+fn read_type<'w, 'a>(
     alloc: Global,
     ctx: &FormCtx<'a>,
-    entry: &Entry<'_, 'a>,
-    walk: Walk<'_, 'a>,
+    entry: &Entry<'w, 'a>,
+    walk: Walk<'w, 'a>,
+    skips: &Skips<'w, 'a>,
     least: &mut Option<TypeFault>,
 ) -> Result<Option<SourceType<'a>>, AllocError>
-    requires { IsContext ctx.now }
+    requires context { IsContext ctx.now }
+    requires right { AreRight skips.now walk }
     ensures made { IfOk result (λ o. o ≡ made_in (row_of (sections ctx.now) (given_entry entry.now) walk.entry.entries)) }
     ensures noted { OnOk result (least.new ≡ noted least.old (refused_in (row_of (sections ctx.now) (given_entry entry.now) walk.entry.entries))) }
 {
+    let children = Children::new(walk, entry.depth, skips);
     match entry.tag {
-        ARRAY_TYPE => Ok(Some(array(alloc, ctx, entry, walk, least)?)),
-        ENUMERATION_TYPE => Ok(Some(enumeration(alloc, ctx, entry, walk, least)?)),
-        STRUCTURE_TYPE => Ok(Some(structure(alloc, ctx, entry, walk, false, least)?)),
-        SUBROUTINE_TYPE => Ok(Some(function(alloc, ctx, entry, walk, least)?)),
-        UNION_TYPE => Ok(Some(structure(alloc, ctx, entry, walk, true, least)?)),
+        ARRAY_TYPE => Ok(Some(array(alloc, ctx, entry, children, least)?)),
+        ENUMERATION_TYPE => Ok(Some(enumeration(alloc, ctx, entry, children, least)?)),
+        STRUCTURE_TYPE => Ok(Some(structure(alloc, ctx, entry, children, false, least)?)),
+        SUBROUTINE_TYPE => Ok(Some(function(alloc, ctx, entry, children, least)?)),
+        UNION_TYPE => Ok(Some(structure(alloc, ctx, entry, children, true, least)?)),
         _ => read_plain_type(alloc, ctx, entry, least),
     }
 }
@@ -101,20 +107,22 @@ fn take_type<'a>(
 }
 
 /// One entry more, for a walk that stands behind it.
-fn take_entry<'a>(
+fn take_entry<'w, 'a>(
     alloc: Global,
     ctx: &FormCtx<'a>,
-    entry: &Entry<'_, 'a>,
-    walk: Walk<'_, 'a>,
+    entry: &Entry<'w, 'a>,
+    walk: Walk<'w, 'a>,
+    skips: &Skips<'w, 'a>,
     found: &mut Found<'a>,
     least: &mut Option<TypeFault>,
 ) -> Result<(), AllocError>
-    requires { IsContext ctx.now }
+    requires context { IsContext ctx.now }
+    requires right { AreRight skips.now walk }
     ensures types { OnOk result (found.new.types.items ≡ found.old.types.items ++ listed (made_in (row_of (sections ctx.now) (given_entry entry.now) walk.entry.entries))) }
     ensures arrays { OnOk result (found.new.has_array ≡ (found.old.has_array || (given_entry entry.now).tag == 0x01)) }
     ensures noted { OnOk result (least.new ≡ noted least.old (refused_in (row_of (sections ctx.now) (given_entry entry.now) walk.entry.entries))) }
 {
-    let one = read_type(alloc, ctx, entry, walk, least)?;
+    let one = read_type(alloc, ctx, entry, walk, skips, least)?;
     take_type(&mut found.types, one)?;
     found.has_array = found.has_array || entry.tag == ARRAY_TYPE;
     Ok(())
@@ -134,13 +142,65 @@ fn finish<'a>(found: Found<'a>, least: Option<TypeFault>) -> Result<UnitTypes<'a
     }
 }
 
+/// Whether the row of a tag reads children.
+fn has_parts(tag: u64) -> bool {
+    tag == ARRAY_TYPE
+        || tag == ENUMERATION_TYPE
+        || tag == STRUCTURE_TYPE
+        || tag == SUBROUTINE_TYPE
+        || tag == UNION_TYPE
+}
+
+/// Where a walk over a unit stands among entries whose rows read children.
+#[derive(Drop)]
+struct Surroundings<'w, 'a> {
+    /// The depth of the outermost one that the walk is in.
+    outermost: Option<u32>,
+    /// The places behind the lists of children in that one, once they are read.
+    skips: Skips<'w, 'a>,
+    is_read: bool,
+}
+
+/// Goes on to the next entry, for a walk that stands behind it. The first entry that is no direct child of the
+/// outermost one has its places read, since from there on the same entries would be walked over again.
+fn go_on<'w, 'a>(
+    alloc: Global,
+    around: &mut Surroundings<'w, 'a>,
+    entry: &Entry<'w, 'a>,
+    walk: &Walk<'w, 'a>,
+) -> Result<(), AllocError>
+    requires rising { DoOffsetsRise walk.now.entries }
+    requires right { AreRight around.old.skips walk.now }
+    ensures { OnOk result (AreRight around.new.skips walk.now) }
+{
+    match around.outermost {
+        Some(depth) if depth < entry.depth => {
+            if !around.is_read && entry.depth - depth > 1 {
+                around.skips = Skips::read(alloc, walk.copy(), depth)?;
+                around.is_read = true;
+            }
+        }
+        _ => {
+            around.outermost = if has_parts(entry.tag) {
+                Some(entry.depth)
+            } else {
+                None
+            };
+            around.skips = Skips::none(alloc);
+            around.is_read = false;
+        }
+    }
+    Ok(())
+}
+
 /// The types of all entries of a walk.
-fn read_types<'a>(
+fn read_types<'w, 'a>(
     alloc: Global,
     ctx: &FormCtx<'a>,
-    walk: Walk<'_, 'a>,
+    walk: Walk<'w, 'a>,
 ) -> Result<UnitTypes<'a>, TypeFault>
-    requires { IsContext ctx.now }
+    requires context { IsContext ctx.now }
+    requires rising { DoOffsetsRise walk.entries }
     ensures { Gives result (types_in (sections ctx.now) walk.entry) }
 {
     let mut walk = walk;
@@ -149,12 +209,27 @@ fn read_types<'a>(
         types: Vec::new(alloc),
         has_array: false,
     };
+    let mut around = Surroundings {
+        outermost: None,
+        skips: Skips::none(alloc),
+        is_read: false,
+    };
     'entries: loop {
         match walk.next() {
             Err(fault) => return Err(TypeFault::Walk(fault)),
             Ok(None) => return finish(found, least),
             Ok(Some(entry)) => {
-                take_entry(alloc, ctx, &entry, walk.copy(), &mut found, &mut least)?
+                go_on(alloc, &mut around, &entry, &walk)?;
+                let behind = walk.copy();
+                take_entry(
+                    alloc,
+                    ctx,
+                    &entry,
+                    behind,
+                    &around.skips,
+                    &mut found,
+                    &mut least,
+                )?
             }
         }
     }
