@@ -106,8 +106,3 @@ coming c declarations first (suc n) at lists = after_item c at lists (λ next mo
 
 abbrev pub coming_from : Within → List Declaration → ℕ → ℕ → ℕ → Coming
 coming_from c declarations first at lists = coming c declarations first (length c.unit + 1) at lists
-
--- what a search for the next entry found, and what comes after that
-abbrev pub left_of : Option WalkFault → Coming → Coming
-left_of None c = c
-left_of (Some f) c = record { entries = []; ending = Some f }
