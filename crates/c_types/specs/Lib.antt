@@ -10,6 +10,7 @@ pub mod Labels
 pub mod Laws
 pub mod Lengths
 pub mod Numbers
+pub mod Ordered
 pub mod Parts
 pub mod References
 pub mod Skips

@@ -1,5 +1,5 @@
 -- Places behind lists of children, by the offsets of their first entries.
-use Rattle.std.specs.Prelude.{ℕ, ◌≡◌, ◌≤◌, ◌<◌, nat_eq, List, [], ◌∷◌, ◌++◌, All, Option, None, Some, ⊤}
+use Rattle.std.specs.Prelude.{ℕ, ◌≡◌, ◌≤◌, nat_eq, List, [], ◌∷◌, ◌++◌, All, Option, None, Some, ⊤}
 use Rattle.std.specs.Option.{option_map}
 use Rattle.std.specs.HashMap.{get}
 use Rattle.entry_tree.specs.declared.fault.WalkFault.{WalkFault}
@@ -47,15 +47,6 @@ AreRightAmong behind (e ∷ es) ending = IsBehind e.depth es ending (behind e.at
 
 abbrev pub AreRight : Skips → Coming → Type 0
 AreRight s walk = AreRightAmong (behind_in s) walk.entries walk.ending
-
--- the offsets of entries rise
-abbrev pub ComeAfter : ℕ → List Given → Type 0
-ComeAfter at [] = ⊤
-ComeAfter at (e ∷ es) = (at < e.at) × ComeAfter at es
-
-abbrev pub DoOffsetsRise : List Given → Type 0
-DoOffsetsRise [] = ⊤
-DoOffsetsRise (e ∷ es) = ComeAfter e.at es × DoOffsetsRise es
 
 -- a list of children that begins among all entries, and isn't at its end where the last of them come
 abbrev pub IsOpened : List Given → List Given → Opened → Type 0

@@ -3,9 +3,10 @@
 ghost use Rattle.std.specs.Prelude.{◌≡◌, ◌≤◌, ◌<◌, ◌++◌, ◌∷◌, [], ◌⊎◌, List, All, OnOk, IfOk, IfSome};
 ghost use Rattle.std.specs.Option.{option_map};
 ghost use Rattle.entry_tree.specs.Items.{Given, Coming};
+ghost use Rattle.entry_tree.specs.Rising.{Rises};
 ghost use Rattle.entry_tree.specs.Walks.{given_entry};
 ghost use Rattle.c_types.specs.declared.skips.Opened.{Opened};
-ghost use Rattle.c_types.specs.Skips.{coming_with, coming_from, behind_in, AreRightAmong, AreRight, Reads, DoOffsetsRise, IsOpened, AreNested};
+ghost use Rattle.c_types.specs.Skips.{coming_with, coming_from, behind_in, AreRightAmong, AreRight, Reads, IsOpened, AreNested};
 
 use entry_tree::{Entry, Walk};
 use std::alloc::{AllocError, Global};
@@ -61,7 +62,7 @@ fn close_lists<'w, 'a>(
     walk: &Walk<'w, 'a>,
 ) -> Result<(), AllocError>
     requires { AreNested lists.old.items }
-    ensures right { OnOk result ((all : List Given) → DoOffsetsRise all → All (IsOpened all (coming_with (option_map given_entry next.now) walk.now).entries) lists.old.items → AreRightAmong (behind_in skips.old) all walk.now.ending → AreRightAmong (behind_in skips.new) all walk.now.ending) }
+    ensures right { OnOk result ((all : List Given) → Rises all → All (IsOpened all (coming_with (option_map given_entry next.now) walk.now).entries) lists.old.items → AreRightAmong (behind_in skips.old) all walk.now.ending → AreRightAmong (behind_in skips.new) all walk.now.ending) }
     ensures fewer { OnOk result ((closed : List Opened) × (lists.old.items ≡ lists.new.items ++ closed)) }
     ensures nested { OnOk result (AreNested lists.new.items) }
     ensures shallow { OnOk result (All (λ o. o.depth ≤ depth) lists.new.items) }
@@ -133,7 +134,7 @@ impl<'w, 'a> Skips<'w, 'a> {
         walk: Walk<'w, 'a>,
         depth: u32,
     ) -> Result<Skips<'w, 'a>, AllocError>
-        requires { DoOffsetsRise walk.entries }
+        requires { Rises walk.entries }
         ensures { IfOk result (λ s. AreRight s walk.entry) }
     {
         let mut walk = walk;

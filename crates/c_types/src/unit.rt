@@ -6,10 +6,11 @@ ghost use Rattle.elf_sections.specs.Images.{file_of};
 ghost use Rattle.elf_sections.specs.Sections.{section_bytes};
 ghost use Rattle.elf_sections.specs.declared.fault.Kind.TheVariants.{Abbrev as AbbrevSection};
 ghost use Rattle.entry_tree.specs.Contexts.{IsUnitOf, within_of};
+ghost use Rattle.entry_tree.specs.Rising.{Rises};
 ghost use Rattle.entry_tree.specs.Roots.{root_of};
 ghost use Rattle.entry_tree.specs.Walks.{given_entry};
 ghost use Rattle.c_types.specs.Faults.{noted};
-ghost use Rattle.c_types.specs.Skips.{AreRight, DoOffsetsRise};
+ghost use Rattle.c_types.specs.Skips.{AreRight};
 ghost use Rattle.c_types.specs.Types.{plain_row_of, row_of, made_in, listed, refused_in, or_least, unit_types, types_in, is_passed_over, of_abbrev, after_root, types_of_unit_of, Gives};
 
 use crate::arrays::array;
@@ -169,7 +170,7 @@ fn go_on<'w, 'a>(
     entry: &Entry<'w, 'a>,
     walk: &Walk<'w, 'a>,
 ) -> Result<(), AllocError>
-    requires rising { DoOffsetsRise walk.now.entries }
+    requires rising { Rises walk.now.entries }
     requires right { AreRight around.old.skips walk.now }
     ensures { OnOk result (AreRight around.new.skips walk.now) }
 {
@@ -200,7 +201,7 @@ fn read_types<'w, 'a>(
     walk: Walk<'w, 'a>,
 ) -> Result<UnitTypes<'a>, TypeFault>
     requires context { IsContext ctx.now }
-    requires rising { DoOffsetsRise walk.entries }
+    requires rising { Rises walk.entries }
     ensures { Gives result (types_in (sections ctx.now) walk.entry) }
 {
     let mut walk = walk;

@@ -5,6 +5,7 @@ use Rattle.entry_tree.specs.Items.{Coming}
 use Rattle.entry_tree.specs.Walks.{given_entry}
 use Rattle.c_types.specs.declared.skips.Opened.{Opened}
 use Rattle.c_types.specs.declared.skips.Place.{Place}
+use Rattle.c_types.specs.declared.skips.Skips.{Skips}
 use Rattle.c_types.specs.Skips.{coming_with, coming_at, behind_in, IsOpened}
 use Rattle.c_types.proofs.Surveying.{map_cond, closed, nested_pop, same_ending, all_first}
 use Rattle.c_types.proofs.skips.close_lists.Goals as goal
@@ -27,7 +28,7 @@ deeper-preserved c =
     let found = option_map given_entry c.args.next.now in
     let place = coming_with (option_map given_entry c.args.next.now) c.args.walk.now in
     let old = c.deeper.skips in
-    let new = record { places = c.insert.new.self } in
+    let new : Skips = record { places = c.insert.new.self } in
     let items : c.deeper.lists.items ≡ c.pop.new.self.items ++ c.in-Some.list ∷ [] = c.in-Some.ensures.items in
     let low = nested_pop left list (rw items at c.deeper.invariant.nested) in
     let fewer = c.deeper.invariant.fewer in
