@@ -52,8 +52,8 @@ fn depth_of(next: &Option<Entry<'_, '_>>) -> u32
     }
 }
 
-/// Keeps the place of each list that is deeper than this depth, the place being that before an entry and the walk
-/// behind it.
+/// Closes the lists that are deeper than this depth, and keeps the place behind each: the next entry, if there is
+/// one, with the walk behind it.
 fn close_lists<'w, 'a>(
     skips: &mut Skips<'w, 'a>,
     lists: &mut Vec<Opened>,

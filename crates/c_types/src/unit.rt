@@ -6,6 +6,7 @@ ghost use Rattle.elf_sections.specs.Images.{file_of};
 ghost use Rattle.elf_sections.specs.Sections.{section_bytes};
 ghost use Rattle.elf_sections.specs.declared.fault.Kind.TheVariants.{Abbrev as AbbrevSection};
 ghost use Rattle.entry_tree.specs.Contexts.{IsUnitOf, within_of};
+ghost use Rattle.entry_tree.specs.Items.{Coming};
 ghost use Rattle.entry_tree.specs.Rising.{Rises};
 ghost use Rattle.entry_tree.specs.Roots.{root_of};
 ghost use Rattle.entry_tree.specs.Walks.{given_entry};
@@ -162,8 +163,24 @@ struct Surroundings<'w, 'a> {
     is_read: bool,
 }
 
-/// Goes on to the next entry, for a walk that stands behind it. The first entry that is no direct child of the
-/// outermost one has its places read, since from there on the same entries would be walked over again.
+/// Goes on to an entry that isn't in the outermost one.
+fn go_out(alloc: Global, around: &mut Surroundings<'_, '_>, entry: &Entry<'_, '_>)
+    ensures { (walk : Coming) → AreRight around.old.skips walk → AreRight around.new.skips walk }
+{
+    around.outermost = if has_parts(entry.tag) {
+        Some(entry.depth)
+    } else {
+        None
+    };
+    if around.is_read {
+        around.skips = Skips::none(alloc);
+        around.is_read = false;
+    }
+}
+
+/// Goes on to the next entry, for a walk that stands behind it. At the first entry that is in the outermost one and
+/// no direct child of it the places are read, since from there on entries would be walked over once for each list
+/// that they are in.
 fn go_on<'w, 'a>(
     alloc: Global,
     around: &mut Surroundings<'w, 'a>,
@@ -181,15 +198,7 @@ fn go_on<'w, 'a>(
                 around.is_read = true;
             }
         }
-        _ => {
-            around.outermost = if has_parts(entry.tag) {
-                Some(entry.depth)
-            } else {
-                None
-            };
-            around.skips = Skips::none(alloc);
-            around.is_read = false;
-        }
+        _ => go_out(alloc, around, entry),
     }
     Ok(())
 }
