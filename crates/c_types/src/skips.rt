@@ -1,5 +1,5 @@
-//! Places behind lists of children, so that what stands deep in a structure isn't walked over again for each of
-//! the structures round it.
+//! Places behind the lists of children of nested types, so that what stands deep in a structure isn't walked over
+//! again for each of the structures round it.
 ghost use Rattle.std.specs.Prelude.{◌≡◌, ◌≤◌, ◌<◌, ◌++◌, ◌∷◌, [], ◌⊎◌, List, All, OnOk, IfOk, IfSome};
 ghost use Rattle.std.specs.Option.{option_map};
 ghost use Rattle.entry_tree.specs.Items.{Given, Coming};
@@ -8,6 +8,7 @@ ghost use Rattle.entry_tree.specs.Walks.{given_entry};
 ghost use Rattle.c_types.specs.declared.skips.Opened.{Opened};
 ghost use Rattle.c_types.specs.Skips.{coming_with, coming_from, behind_in, AreRightAmong, AreRight, Reads, IsOpened, AreNested};
 
+use crate::tags::{ARRAY_TYPE, ENUMERATION_TYPE, STRUCTURE_TYPE, SUBROUTINE_TYPE, UNION_TYPE};
 use entry_tree::{Entry, Walk};
 use std::alloc::{AllocError, Global};
 use std::collections::HashMap;
@@ -19,7 +20,8 @@ struct Place<'w, 'a> {
     walk: Walk<'w, 'a>,
 }
 
-/// For lists of children the place behind each, by the offset of its first entry.
+/// For lists of children the place behind each, by the offset of its first entry. Only lists of entries whose rows
+/// read children are kept: what stands in other lists is walked over for the innermost of these entries alone.
 #[derive(Drop)]
 pub(crate) struct Skips<'w, 'a> {
     places: HashMap<u64, Place<'w, 'a>>,
@@ -85,20 +87,34 @@ fn close_lists<'w, 'a>(
     }
 }
 
-/// Opens the list that begins with an entry, unless the entry stands in the last one.
-fn open_list(lists: &mut Vec<Opened>, entry: &Entry<'_, '_>) -> Result<(), AllocError>
+/// The depth of an entry, where its row reads children.
+pub(crate) fn depth_with_parts(entry: &Entry<'_, '_>) -> Option<u32> {
+    match entry.tag {
+        ARRAY_TYPE | ENUMERATION_TYPE | STRUCTURE_TYPE | SUBROUTINE_TYPE | UNION_TYPE => {
+            Some(entry.depth)
+        }
+        _ => None,
+    }
+}
+
+/// Opens the list that begins with an entry, where it is the first child of the entry before it, whose depth this is.
+fn open_list(
+    lists: &mut Vec<Opened>,
+    before: Option<u32>,
+    entry: &Entry<'_, '_>,
+) -> Result<(), AllocError>
     ensures { OnOk result ((lists.new.items ≡ lists.old.items) ⊎ (lists.new.items ≡ lists.old.items ++ record { first = entry.now.at; depth = entry.now.depth } ∷ [])) }
 {
-    if let Some(last) = lists.last() {
-        if last.depth == entry.depth {
-            return Ok(());
+    match before {
+        Some(depth) if depth < entry.depth => {
+            lists.push(Opened {
+                first: entry.at,
+                depth: entry.depth,
+            })?;
+            Ok(())
         }
+        _ => Ok(()),
     }
-    lists.push(Opened {
-        first: entry.at,
-        depth: entry.depth,
-    })?;
-    Ok(())
 }
 
 impl<'w, 'a> Skips<'w, 'a> {
@@ -128,9 +144,10 @@ impl<'w, 'a> Skips<'w, 'a> {
         }
     }
 
-    /// The places behind all lists of children that begin in a walk, as far as its entries are deeper than this.
+    /// The places for a walk that stands behind an entry, as far as its entries are deeper than this depth.
     pub(crate) fn read(
         alloc: Global,
+        entry: &Entry<'w, 'a>,
         walk: Walk<'w, 'a>,
         depth: u32,
     ) -> Result<Skips<'w, 'a>, AllocError>
@@ -140,6 +157,7 @@ impl<'w, 'a> Skips<'w, 'a> {
         let mut walk = walk;
         let mut skips = Skips::none(alloc);
         let mut lists = Vec::new(alloc);
+        let mut before = depth_with_parts(entry);
         'entries: loop {
             let next = next_entry(&mut walk);
             close_lists(&mut skips, &mut lists, depth_of(&next), &next, &walk)?;
@@ -149,7 +167,8 @@ impl<'w, 'a> Skips<'w, 'a> {
                     if entry.depth <= depth {
                         return Ok(skips);
                     }
-                    open_list(&mut lists, &entry)?;
+                    open_list(&mut lists, before, &entry)?;
+                    before = depth_with_parts(&entry);
                 }
             }
         }

@@ -21,7 +21,7 @@ use crate::enumerations::enumeration;
 use crate::fault::TypeFault;
 use crate::functions::function;
 use crate::references::{reference, typedef};
-use crate::skips::Skips;
+use crate::skips::{Skips, depth_with_parts};
 use crate::source::{SourceType, SourceTypes, UnitTypes};
 use crate::structures::structure;
 use crate::tags::{
@@ -144,21 +144,12 @@ fn finish<'a>(found: Found<'a>, least: Option<TypeFault>) -> Result<UnitTypes<'a
     }
 }
 
-/// Whether the row of a tag reads children.
-fn has_parts(tag: u64) -> bool {
-    tag == ARRAY_TYPE
-        || tag == ENUMERATION_TYPE
-        || tag == STRUCTURE_TYPE
-        || tag == SUBROUTINE_TYPE
-        || tag == UNION_TYPE
-}
-
 /// Where a walk over a unit stands among entries whose rows read children.
 #[derive(Drop)]
 struct Surroundings<'w, 'a> {
     /// The depth of the outermost one that the walk is in.
     outermost: Option<u32>,
-    /// The places behind the lists of children in that one, once they are read.
+    /// The places in that one, once they are read.
     skips: Skips<'w, 'a>,
     is_read: bool,
 }
@@ -167,11 +158,7 @@ struct Surroundings<'w, 'a> {
 fn go_out(alloc: Global, around: &mut Surroundings<'_, '_>, entry: &Entry<'_, '_>)
     ensures { (walk : Coming) → AreRight around.old.skips walk → AreRight around.new.skips walk }
 {
-    around.outermost = if has_parts(entry.tag) {
-        Some(entry.depth)
-    } else {
-        None
-    };
+    around.outermost = depth_with_parts(entry);
     if around.is_read {
         around.skips = Skips::none(alloc);
         around.is_read = false;
@@ -194,7 +181,7 @@ fn go_on<'w, 'a>(
     match around.outermost {
         Some(depth) if depth < entry.depth => {
             if !around.is_read && entry.depth - depth > 1 {
-                around.skips = Skips::read(alloc, walk.copy(), depth)?;
+                around.skips = Skips::read(alloc, entry, walk.copy(), depth)?;
                 around.is_read = true;
             }
         }
