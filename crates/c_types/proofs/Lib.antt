@@ -1,6 +1,11 @@
+pub mod Accepted
 pub mod Counting
+pub mod Firsts
 pub mod Formed
 pub mod Gathering
 pub mod Lengthening
 pub mod Noting
+pub mod Passing
 pub mod Reading
+pub mod Standing
+pub mod Surveying

@@ -1,5 +1,6 @@
 -- Which of the refusals of a unit's types is the first: by the place of the entry, then the number, then what is kept.
-use Rattle.std.specs.Prelude.{ℕ, Bool, nat_lt, ◌==◌, List, [], ◌∷◌, Option, None, Some, if◌then◌else◌}
+use Rattle.std.specs.Prelude.{ℕ, Bool, ◌≡◌, ◌<◌, ◌≤◌, ◌⊎◌, nat_lt, ◌==◌, List, [], ◌∷◌, All, Option, None, Some, if◌then◌else◌}
+use Rattle.std.specs.List.{Contains}
 use Rattle.dwarf_forms.specs.declared.fault.FormFault.{FormFault}
 use Rattle.dwarf_forms.specs.declared.fault.FormFault.TheVariants.{LebWide, FormUnknown, ValueTruncated, StringOut, StrxOut, AltForm, WrongClass}
 use Rattle.c_types.specs.declared.fault.TypeFault.{TypeFault}
@@ -64,3 +65,15 @@ least fs = noted None fs
 -- a refusal on a condition
 abbrev pub refuse_if : Bool → TypeFault → List TypeFault
 refuse_if refused f = if refused then f ∷ [] else []
+
+-- one number is below another, or they are equal and the rest decides
+abbrev pub ThenBy : ℕ → ℕ → Type 0 → Type 0
+ThenBy a b rest = (a < b) ⊎ ((a ≡ b) × rest)
+
+-- by place, number and what is kept the first comes before the second, or they are equal
+abbrev pub IsNotAfter : Rank → Rank → Type 0
+IsNotAfter a b = ThenBy a.at b.at (ThenBy a.number b.number (ThenBy a.kept b.kept (a.more ≤ b.more)))
+
+-- one of some refusals, after none of which it comes
+abbrev pub IsFirstAmong : List TypeFault → TypeFault → Type 0
+IsFirstAmong fs f = Contains fs f × All (λ (g : TypeFault). IsNotAfter (rank_of f) (rank_of g)) fs

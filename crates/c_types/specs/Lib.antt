@@ -10,8 +10,10 @@ pub mod Labels
 pub mod Laws
 pub mod Lengths
 pub mod Numbers
+pub mod Ordered
 pub mod Parts
 pub mod References
+pub mod Skips
 pub mod Structures
 pub mod Taking
 pub mod Types

@@ -4,20 +4,19 @@ ghost use Rattle.dwarf_forms.specs.Meanings.{sections};
 ghost use Rattle.entry_tree.specs.Reads.{value_with};
 ghost use Rattle.entry_tree.specs.Walks.{given_entry};
 ghost use Rattle.c_types.specs.Faults.{noted};
-ghost use Rattle.c_types.specs.Children.{children_of};
 ghost use Rattle.c_types.specs.Taking.{made_if};
 ghost use Rattle.c_types.specs.Arrays.{bound_in, length_of_count, length_of_bound, subrange_length, is_long, lengths_of, is_refused, elements_in, array_row};
 ghost use Rattle.c_types.specs.Lengths.{extended, is_too_long, elements_from};
 
 use crate::attributes::{TYPE, attribute, is_given, type_target};
-use crate::children::next_child;
+use crate::children::Children;
 use crate::fault::{TypeFault, note_if};
 use crate::number::{Number, by_sign};
 use crate::source::{SourceType, Target, Targets};
 use c_model::{Label, Parts};
 use dw_base::Name;
 use dwarf_forms::{FormCtx, constant_of};
-use entry_tree::{Entry, Walk};
+use entry_tree::Entry;
 use std::alloc::{AllocError, Global};
 
 const SUBRANGE: u64 = 0x21;
@@ -133,19 +132,19 @@ fn with_child(lengths: Lengths, child: &Entry<'_, '_>) -> Lengths
     }
 }
 
-/// The lengths of an array's dimensions, for a walk that stands behind its entry.
-fn measure(walk: Walk<'_, '_>, depth: u32) -> Lengths
-    ensures refused { is_too_long result ≡ is_refused (lengths_of (children_of depth walk.entry.entries)) }
-    ensures elements { elements_from result ≡ elements_in (lengths_of (children_of depth walk.entry.entries)) }
+/// The lengths of the dimensions that an array's children give.
+fn measure(children: Children<'_, '_, '_>) -> Lengths
+    ensures refused { is_too_long result ≡ is_refused (lengths_of children.entry) }
+    ensures elements { elements_from result ≡ elements_in (lengths_of children.entry) }
 {
-    let mut walk = walk;
+    let mut children = children;
     let mut lengths = Lengths {
         product: 1,
         any: false,
         long: false,
     };
     'children: loop {
-        match next_child(&mut walk, depth) {
+        match children.next() {
             None => return lengths,
             Some(child) => lengths = with_child(lengths, &child),
         }
@@ -188,11 +187,11 @@ pub(crate) fn array<'a>(
     alloc: Global,
     ctx: &FormCtx<'a>,
     entry: &Entry<'_, 'a>,
-    walk: Walk<'_, 'a>,
+    children: Children<'_, '_, 'a>,
     least: &mut Option<TypeFault>,
 ) -> Result<SourceType<'a>, AllocError>
-    ensures made { IfOk result (λ t. t ≡ (array_row (sections ctx.now) (given_entry entry.now) (children_of entry.now.depth walk.entry.entries)).made) }
-    ensures noted { OnOk result (least.new ≡ noted least.old (array_row (sections ctx.now) (given_entry entry.now) (children_of entry.now.depth walk.entry.entries)).refused) }
+    ensures made { IfOk result (λ t. t ≡ (array_row (sections ctx.now) (given_entry entry.now) children.entry).made) }
+    ensures noted { OnOk result (least.new ≡ noted least.old (array_row (sections ctx.now) (given_entry entry.now) children.entry).refused) }
 {
     let target = type_target(ctx, entry, least);
     note_if(
@@ -200,7 +199,7 @@ pub(crate) fn array<'a>(
         !is_given(entry, TYPE),
         TypeFault::MissingType(entry.at),
     );
-    let lengths = measure(walk, entry.depth);
+    let lengths = measure(children);
     note_if(
         least,
         are_too_long(lengths),

@@ -4,14 +4,14 @@ ghost use Rattle.dwarf_forms.specs.Values.{IsContext};
 ghost use Rattle.dwarf_forms.specs.Meanings.{sections, Fits64};
 ghost use Rattle.entry_tree.specs.Walks.{given_entry};
 ghost use Rattle.c_types.specs.Faults.{noted};
-ghost use Rattle.c_types.specs.Children.{children_of, tagged};
+ghost use Rattle.c_types.specs.Children.{tagged};
 ghost use Rattle.c_types.specs.Parts.{refused_by, some_is, some_tagged};
 ghost use Rattle.c_types.specs.Taking.{made_if, refused_if};
 ghost use Rattle.c_types.specs.Enumerations.{negative, is_negative, top, is_in_range, value_refused, power, residue, residue_in, enumerator_part, enumerator_refused, is_size, fits_size, enum_size_refused, enumeration_label, enumerated_row, bare_row, enumeration_row};
 
 use crate::attributes::{constant, flag, name, signed_constant};
 use crate::base::BYTE_SIZE;
-use crate::children::next_child;
+use crate::children::Children;
 use crate::fault::{TypeFault, note, note_if};
 use crate::labels::{MOST, given_size, is_unnamed, no_targets};
 use crate::number::{Number, by_sign};
@@ -20,7 +20,7 @@ use crate::structures::DECLARATION;
 use c_model::{Label, Part, Parts};
 use dw_base::Name;
 use dwarf_forms::FormCtx;
-use entry_tree::{Entry, Walk};
+use entry_tree::Entry;
 use std::alloc::{AllocError, Global};
 
 const CONST_VALUE: u64 = 0x1c;
@@ -68,18 +68,18 @@ fn survey_with(survey: Survey, child: &Entry<'_, '_>) -> Survey
     }
 }
 
-/// What the enumerators are like, for a walk that stands behind the enumeration's entry.
-fn look_over(walk: Walk<'_, '_>, depth: u32) -> Survey
-    ensures any { result.any ≡ some_tagged 0x28 (children_of depth walk.entry.entries) }
-    ensures signed { result.signed ≡ some_is is_negative (tagged 0x28 (children_of depth walk.entry.entries)) }
+/// What the enumerators among an enumeration's children are like.
+fn look_over(children: Children<'_, '_, '_>) -> Survey
+    ensures any { result.any ≡ some_tagged 0x28 children.entry }
+    ensures signed { result.signed ≡ some_is is_negative (tagged 0x28 children.entry) }
 {
-    let mut walk = walk;
+    let mut children = children;
     let mut survey = Survey {
         any: false,
         signed: false,
     };
     'children: loop {
-        match next_child(&mut walk, depth) {
+        match children.next() {
             None => return survey,
             Some(child) => survey = survey_with(survey, &child),
         }
@@ -205,24 +205,23 @@ fn take_child<'a>(
     Ok(())
 }
 
-/// The enumerators of an enumeration, for a walk that stands behind its entry.
+/// The enumerators among an enumeration's children.
 fn read_enumerators<'a>(
     alloc: Global,
     ctx: &FormCtx<'a>,
-    walk: Walk<'_, 'a>,
-    depth: u32,
+    children: Children<'_, '_, 'a>,
     wide: bool,
     signed: bool,
     least: &mut Option<TypeFault>,
 ) -> Result<Vec<Part<'a>>, AllocError>
     requires { IsContext ctx.now }
-    ensures parts { IfOk result (λ ps. ps.items ≡ map (enumerator_part (sections ctx.now) wide) (tagged 0x28 (children_of depth walk.entry.entries))) }
-    ensures noted { OnOk result (least.new ≡ noted least.old (refused_by (enumerator_refused (sections ctx.now) wide signed) (tagged 0x28 (children_of depth walk.entry.entries)))) }
+    ensures parts { IfOk result (λ ps. ps.items ≡ map (enumerator_part (sections ctx.now) wide) (tagged 0x28 children.entry)) }
+    ensures noted { OnOk result (least.new ≡ noted least.old (refused_by (enumerator_refused (sections ctx.now) wide signed) (tagged 0x28 children.entry))) }
 {
-    let mut walk = walk;
+    let mut children = children;
     let mut found = Vec::new(alloc);
     'children: loop {
-        match next_child(&mut walk, depth) {
+        match children.next() {
             None => return Ok(found),
             Some(child) => take_child(ctx, &child, wide, signed, &mut found, least)?,
         }
@@ -285,20 +284,20 @@ fn enumerated<'a>(
     alloc: Global,
     ctx: &FormCtx<'a>,
     entry: &Entry<'_, 'a>,
-    walk: Walk<'_, 'a>,
+    children: Children<'_, '_, 'a>,
     name: Name<'a>,
     signed: bool,
     least: &mut Option<TypeFault>,
 ) -> Result<SourceType<'a>, AllocError>
     requires { IsContext ctx.now }
-    ensures made { IfOk result (λ t. t ≡ (enumerated_row name.entry (given_entry entry.now) (sections ctx.now) signed (tagged 0x28 (children_of entry.now.depth walk.entry.entries))).made) }
-    ensures noted { OnOk result (least.new ≡ noted least.old (enumerated_row name.entry (given_entry entry.now) (sections ctx.now) signed (tagged 0x28 (children_of entry.now.depth walk.entry.entries))).refused) }
+    ensures made { IfOk result (λ t. t ≡ (enumerated_row name.entry (given_entry entry.now) (sections ctx.now) signed (tagged 0x28 children.entry)).made) }
+    ensures noted { OnOk result (least.new ≡ noted least.old (enumerated_row name.entry (given_entry entry.now) (sections ctx.now) signed (tagged 0x28 children.entry)).refused) }
 {
     let size = constant(entry, BYTE_SIZE, least);
     note_enum_size(least, entry.at, size);
     let size = given_size(size);
     let wide = size == 8;
-    let parts = read_enumerators(alloc, ctx, walk, entry.depth, wide, signed, least)?;
+    let parts = read_enumerators(alloc, ctx, children, wide, signed, least)?;
     let count = parts.len() as u64;
     note_if(least, count > MOST, TypeFault::TooMany(entry.at, count));
     Ok(SourceType {
@@ -334,19 +333,19 @@ pub(crate) fn enumeration<'a>(
     alloc: Global,
     ctx: &FormCtx<'a>,
     entry: &Entry<'_, 'a>,
-    walk: Walk<'_, 'a>,
+    children: Children<'_, '_, 'a>,
     least: &mut Option<TypeFault>,
 ) -> Result<SourceType<'a>, AllocError>
     requires { IsContext ctx.now }
-    ensures made { IfOk result (λ t. t ≡ (enumeration_row (sections ctx.now) (given_entry entry.now) (children_of entry.now.depth walk.entry.entries)).made) }
-    ensures noted { OnOk result (least.new ≡ noted least.old (enumeration_row (sections ctx.now) (given_entry entry.now) (children_of entry.now.depth walk.entry.entries)).refused) }
+    ensures made { IfOk result (λ t. t ≡ (enumeration_row (sections ctx.now) (given_entry entry.now) children.entry).made) }
+    ensures noted { OnOk result (least.new ≡ noted least.old (enumeration_row (sections ctx.now) (given_entry entry.now) children.entry).refused) }
 {
     let declared = flag(entry, DECLARATION, least);
     let name = name(ctx, entry, least);
-    let survey = look_over(walk.copy(), entry.depth);
+    let survey = look_over(children.copy());
     if declared || (!survey.any && !is_unnamed(&name)) {
         Ok(bare(alloc, entry, name, declared, least))
     } else {
-        enumerated(alloc, ctx, entry, walk, name, survey.signed, least)
+        enumerated(alloc, ctx, entry, children, name, survey.signed, least)
     }
 }

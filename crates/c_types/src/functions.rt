@@ -4,20 +4,20 @@ ghost use Rattle.dwarf_forms.specs.Values.{IsContext};
 ghost use Rattle.dwarf_forms.specs.Meanings.{sections};
 ghost use Rattle.entry_tree.specs.Walks.{given_entry};
 ghost use Rattle.c_types.specs.Faults.{noted};
-ghost use Rattle.c_types.specs.Children.{children_of, tagged};
+ghost use Rattle.c_types.specs.Children.{tagged};
 ghost use Rattle.c_types.specs.Parts.{refused_by, some_tagged};
 ghost use Rattle.c_types.specs.Taking.{made_if, refused_if};
 ghost use Rattle.c_types.specs.Functions.{parameter_part, parameter_target, parameter_refused, rest_part, rest_target, function_row};
 
 use crate::attributes::{TYPE, is_given, name, type_target};
-use crate::children::next_child;
+use crate::children::Children;
 use crate::fault::{TypeFault, note_if};
 use crate::labels::MOST;
 use crate::source::{SourceType, Target, Targets};
 use c_model::{Label, Part, Parts};
 use dw_base::Name;
 use dwarf_forms::FormCtx;
-use entry_tree::{Entry, Walk};
+use entry_tree::Entry;
 use std::alloc::{AllocError, Global};
 
 const PARAMETER: u64 = 0x05;
@@ -80,22 +80,21 @@ fn take_child<'a>(
     Ok(())
 }
 
-/// The parameters of a subroutine type, for a walk that stands behind its entry.
+/// The parameters among a subroutine type's children.
 fn read_parameters<'a>(
     alloc: Global,
     ctx: &FormCtx<'a>,
-    walk: Walk<'_, 'a>,
-    depth: u32,
+    children: Children<'_, '_, 'a>,
     result_type: Target,
     least: &mut Option<TypeFault>,
 ) -> Result<Parameters<'a>, AllocError>
     requires { IsContext ctx.now }
-    ensures parts { IfOk result (λ p. p.parts.items ≡ map (parameter_part (sections ctx.now)) (tagged 0x05 (children_of depth walk.entry.entries))) }
-    ensures targets { IfOk result (λ p. p.targets.items ≡ result_type ∷ map (parameter_target (sections ctx.now)) (tagged 0x05 (children_of depth walk.entry.entries))) }
-    ensures variadic { IfOk result (λ p. p.variadic ≡ some_tagged 0x18 (children_of depth walk.entry.entries)) }
-    ensures noted { OnOk result (least.new ≡ noted least.old (refused_by (parameter_refused (sections ctx.now)) (tagged 0x05 (children_of depth walk.entry.entries)))) }
+    ensures parts { IfOk result (λ p. p.parts.items ≡ map (parameter_part (sections ctx.now)) (tagged 0x05 children.entry)) }
+    ensures targets { IfOk result (λ p. p.targets.items ≡ result_type ∷ map (parameter_target (sections ctx.now)) (tagged 0x05 children.entry)) }
+    ensures variadic { IfOk result (λ p. p.variadic ≡ some_tagged 0x18 children.entry) }
+    ensures noted { OnOk result (least.new ≡ noted least.old (refused_by (parameter_refused (sections ctx.now)) (tagged 0x05 children.entry))) }
 {
-    let mut walk = walk;
+    let mut children = children;
     let mut targets = Vec::with_capacity(alloc, 1)?;
     targets.push(result_type)?;
     let mut found = Parameters {
@@ -104,7 +103,7 @@ fn read_parameters<'a>(
         variadic: false,
     };
     'children: loop {
-        match next_child(&mut walk, depth) {
+        match children.next() {
             None => return Ok(found),
             Some(child) => take_child(ctx, &child, &mut found, least)?,
         }
@@ -132,15 +131,15 @@ pub(crate) fn function<'a>(
     alloc: Global,
     ctx: &FormCtx<'a>,
     entry: &Entry<'_, 'a>,
-    walk: Walk<'_, 'a>,
+    children: Children<'_, '_, 'a>,
     least: &mut Option<TypeFault>,
 ) -> Result<SourceType<'a>, AllocError>
     requires { IsContext ctx.now }
-    ensures made { IfOk result (λ t. t ≡ (function_row (sections ctx.now) (given_entry entry.now) (children_of entry.now.depth walk.entry.entries)).made) }
-    ensures noted { OnOk result (least.new ≡ noted least.old (function_row (sections ctx.now) (given_entry entry.now) (children_of entry.now.depth walk.entry.entries)).refused) }
+    ensures made { IfOk result (λ t. t ≡ (function_row (sections ctx.now) (given_entry entry.now) children.entry).made) }
+    ensures noted { OnOk result (least.new ≡ noted least.old (function_row (sections ctx.now) (given_entry entry.now) children.entry).refused) }
 {
     let result_type = type_target(ctx, entry, least);
-    let mut found = read_parameters(alloc, ctx, walk, entry.depth, result_type, least)?;
+    let mut found = read_parameters(alloc, ctx, children, result_type, least)?;
     end_parameters(&mut found)?;
     let count = found.parts.len() as u64;
     note_if(least, count > MOST, TypeFault::TooMany(entry.at, count));

@@ -13,6 +13,7 @@ pub mod laws;
 mod number;
 mod references;
 mod shared;
+mod skips;
 pub mod source;
 mod structures;
 mod tags;

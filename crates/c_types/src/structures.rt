@@ -5,7 +5,7 @@ ghost use Rattle.dwarf_forms.specs.Meanings.{sections, Fits64};
 ghost use Rattle.entry_tree.specs.Walks.{given_entry};
 ghost use Rattle.c_types.specs.Faults.{noted, refuse_if};
 ghost use Rattle.c_types.specs.Attributes.{has};
-ghost use Rattle.c_types.specs.Children.{children_of, tagged};
+ghost use Rattle.c_types.specs.Children.{tagged};
 ghost use Rattle.c_types.specs.Parts.{refused_by, some_is};
 ghost use Rattle.c_types.specs.Taking.{made_if, refused_if};
 ghost use Rattle.c_types.specs.Structures.{placed, placed_by_bits, placed_by_bytes, position_of, or_zero, bits_of, bits_in, bits_refused, is_bit_size, limit, near, word_of, member_word, far_refused, place_refused, member_part, member_target, member_refused, has_fields, forward_row, defined_row, structure_row};
@@ -14,14 +14,14 @@ use crate::attributes::{
     TYPE, constant, flag, is_given, name, offset, signed_constant, type_target,
 };
 use crate::base::{BIT_SIZE, BYTE_SIZE};
-use crate::children::next_child;
+use crate::children::Children;
 use crate::fault::{TypeFault, note, note_if};
 use crate::labels::{MOST, given_size, is_unnamed, no_targets, note_size};
 use crate::number::{Number, by_sign};
 use crate::source::{SourceType, Target, Targets};
 use c_model::{Label, Part, Parts};
 use dwarf_forms::FormCtx;
-use entry_tree::{Entry, Walk};
+use entry_tree::Entry;
 use std::alloc::{AllocError, Global};
 
 const MEMBER: u64 = 0x0d;
@@ -39,14 +39,14 @@ fn with_bit_field(fields: bool, child: &Entry<'_, '_>) -> bool
     fields || (child.tag == MEMBER && is_given(child, BIT_SIZE))
 }
 
-/// Whether a member is a bit field, for a walk that stands behind the structure's entry.
-fn has_bit_fields(walk: Walk<'_, '_>, depth: u32) -> bool
-    ensures { result ≡ has_fields (tagged 0x0d (children_of depth walk.entry.entries)) }
+/// Whether a member among a structure's children is a bit field.
+fn has_bit_fields(children: Children<'_, '_, '_>) -> bool
+    ensures { result ≡ has_fields (tagged 0x0d children.entry) }
 {
-    let mut walk = walk;
+    let mut children = children;
     let mut fields = false;
     'children: loop {
-        match next_child(&mut walk, depth) {
+        match children.next() {
             None => return fields,
             Some(child) => fields = with_bit_field(fields, &child),
         }
@@ -280,27 +280,26 @@ fn take_child<'a>(
     Ok(())
 }
 
-/// The members of a structure or union, for a walk that stands behind its entry.
+/// The members among the children of a structure or union.
 fn read_members<'a>(
     alloc: Global,
     ctx: &FormCtx<'a>,
-    walk: Walk<'_, 'a>,
-    depth: u32,
+    children: Children<'_, '_, 'a>,
     fields: bool,
     least: &mut Option<TypeFault>,
 ) -> Result<Members<'a>, AllocError>
     requires { IsContext ctx.now }
-    ensures parts { IfOk result (λ m. m.parts.items ≡ map (member_part (sections ctx.now) fields) (tagged 0x0d (children_of depth walk.entry.entries))) }
-    ensures targets { IfOk result (λ m. m.targets.items ≡ map (member_target (sections ctx.now)) (tagged 0x0d (children_of depth walk.entry.entries))) }
-    ensures noted { OnOk result (least.new ≡ noted least.old (refused_by (member_refused (sections ctx.now) fields) (tagged 0x0d (children_of depth walk.entry.entries)))) }
+    ensures parts { IfOk result (λ m. m.parts.items ≡ map (member_part (sections ctx.now) fields) (tagged 0x0d children.entry)) }
+    ensures targets { IfOk result (λ m. m.targets.items ≡ map (member_target (sections ctx.now)) (tagged 0x0d children.entry)) }
+    ensures noted { OnOk result (least.new ≡ noted least.old (refused_by (member_refused (sections ctx.now) fields) (tagged 0x0d children.entry))) }
 {
-    let mut walk = walk;
+    let mut children = children;
     let mut found = Members {
         parts: Vec::new(alloc),
         targets: Vec::new(alloc),
     };
     'children: loop {
-        match next_child(&mut walk, depth) {
+        match children.next() {
             None => return Ok(found),
             Some(child) => take_child(ctx, &child, fields, &mut found, least)?,
         }
@@ -353,19 +352,19 @@ fn defined<'a>(
     alloc: Global,
     ctx: &FormCtx<'a>,
     entry: &Entry<'_, 'a>,
-    walk: Walk<'_, 'a>,
+    children: Children<'_, '_, 'a>,
     is_union: bool,
     least: &mut Option<TypeFault>,
 ) -> Result<SourceType<'a>, AllocError>
     requires { IsContext ctx.now }
-    ensures made { IfOk result (λ t. t ≡ (defined_row (sections ctx.now) is_union (given_entry entry.now) (tagged 0x0d (children_of entry.now.depth walk.entry.entries))).made) }
-    ensures noted { OnOk result (least.new ≡ noted least.old (defined_row (sections ctx.now) is_union (given_entry entry.now) (tagged 0x0d (children_of entry.now.depth walk.entry.entries))).refused) }
+    ensures made { IfOk result (λ t. t ≡ (defined_row (sections ctx.now) is_union (given_entry entry.now) (tagged 0x0d children.entry)).made) }
+    ensures noted { OnOk result (least.new ≡ noted least.old (defined_row (sections ctx.now) is_union (given_entry entry.now) (tagged 0x0d children.entry)).refused) }
 {
     let name = name(ctx, entry, least);
     let size = constant(entry, BYTE_SIZE, least);
     note_size(least, entry.at, size);
-    let fields = has_bit_fields(walk.copy(), entry.depth);
-    let members = read_members(alloc, ctx, walk, entry.depth, fields, least)?;
+    let fields = has_bit_fields(children.copy());
+    let members = read_members(alloc, ctx, children, fields, least)?;
     let count = members.parts.len() as u64;
     note_if(least, count > MOST, TypeFault::TooMany(entry.at, count));
     Ok(SourceType {
@@ -388,17 +387,17 @@ pub(crate) fn structure<'a>(
     alloc: Global,
     ctx: &FormCtx<'a>,
     entry: &Entry<'_, 'a>,
-    walk: Walk<'_, 'a>,
+    children: Children<'_, '_, 'a>,
     is_union: bool,
     least: &mut Option<TypeFault>,
 ) -> Result<SourceType<'a>, AllocError>
     requires { IsContext ctx.now }
-    ensures made { IfOk result (λ t. t ≡ (structure_row (sections ctx.now) is_union (given_entry entry.now) (children_of entry.now.depth walk.entry.entries)).made) }
-    ensures noted { OnOk result (least.new ≡ noted least.old (structure_row (sections ctx.now) is_union (given_entry entry.now) (children_of entry.now.depth walk.entry.entries)).refused) }
+    ensures made { IfOk result (λ t. t ≡ (structure_row (sections ctx.now) is_union (given_entry entry.now) children.entry).made) }
+    ensures noted { OnOk result (least.new ≡ noted least.old (structure_row (sections ctx.now) is_union (given_entry entry.now) children.entry).refused) }
 {
     if flag(entry, DECLARATION, least) {
         Ok(forward(alloc, ctx, entry, is_union, least))
     } else {
-        defined(alloc, ctx, entry, walk, is_union, least)
+        defined(alloc, ctx, entry, children, is_union, least)
     }
 }

@@ -1,22 +1,27 @@
 //! The types of one unit.
-ghost use Rattle.std.specs.Prelude.{◌≡◌, ◌++◌, ◌||◌, ◌==◌, ◌+◌, ◌<◌, ◌^◌, OnOk, IfOk};
+ghost use Rattle.std.specs.Prelude.{◌≡◌, ◌++◌, ◌||◌, ◌==◌, ◌+◌, ◌<◌, ◌-◌, ◌^◌, OnOk, IfOk};
 ghost use Rattle.dwarf_forms.specs.Values.{IsContext};
 ghost use Rattle.dwarf_forms.specs.Meanings.{sections};
 ghost use Rattle.elf_sections.specs.Images.{file_of};
 ghost use Rattle.elf_sections.specs.Sections.{section_bytes};
 ghost use Rattle.elf_sections.specs.declared.fault.Kind.TheVariants.{Abbrev as AbbrevSection};
 ghost use Rattle.entry_tree.specs.Contexts.{IsUnitOf, within_of};
+ghost use Rattle.entry_tree.specs.Items.{Coming};
+ghost use Rattle.entry_tree.specs.Rising.{Rises};
 ghost use Rattle.entry_tree.specs.Roots.{root_of};
 ghost use Rattle.entry_tree.specs.Walks.{given_entry};
 ghost use Rattle.c_types.specs.Faults.{noted};
+ghost use Rattle.c_types.specs.Skips.{AreRight};
 ghost use Rattle.c_types.specs.Types.{plain_row_of, row_of, made_in, listed, refused_in, or_least, unit_types, types_in, is_passed_over, of_abbrev, after_root, types_of_unit_of, Gives};
 
 use crate::arrays::array;
 use crate::base::{base_type, unspecified_type};
+use crate::children::Children;
 use crate::enumerations::enumeration;
 use crate::fault::TypeFault;
 use crate::functions::function;
 use crate::references::{reference, typedef};
+use crate::skips::{Skips, depth_with_parts};
 use crate::source::{SourceType, SourceTypes, UnitTypes};
 use crate::structures::structure;
 use crate::tags::{
@@ -59,23 +64,26 @@ fn read_plain_type<'a>(
 }
 
 /// The type of an entry, where it has one, for a walk that stands behind it.
-fn read_type<'a>(
+fn read_type<'w, 'a>(
     alloc: Global,
     ctx: &FormCtx<'a>,
-    entry: &Entry<'_, 'a>,
-    walk: Walk<'_, 'a>,
+    entry: &Entry<'w, 'a>,
+    walk: Walk<'w, 'a>,
+    skips: &Skips<'w, 'a>,
     least: &mut Option<TypeFault>,
 ) -> Result<Option<SourceType<'a>>, AllocError>
-    requires { IsContext ctx.now }
+    requires context { IsContext ctx.now }
+    requires right { AreRight skips.now walk }
     ensures made { IfOk result (λ o. o ≡ made_in (row_of (sections ctx.now) (given_entry entry.now) walk.entry.entries)) }
     ensures noted { OnOk result (least.new ≡ noted least.old (refused_in (row_of (sections ctx.now) (given_entry entry.now) walk.entry.entries))) }
 {
+    let children = Children::new(walk, entry.depth, skips);
     match entry.tag {
-        ARRAY_TYPE => Ok(Some(array(alloc, ctx, entry, walk, least)?)),
-        ENUMERATION_TYPE => Ok(Some(enumeration(alloc, ctx, entry, walk, least)?)),
-        STRUCTURE_TYPE => Ok(Some(structure(alloc, ctx, entry, walk, false, least)?)),
-        SUBROUTINE_TYPE => Ok(Some(function(alloc, ctx, entry, walk, least)?)),
-        UNION_TYPE => Ok(Some(structure(alloc, ctx, entry, walk, true, least)?)),
+        ARRAY_TYPE => Ok(Some(array(alloc, ctx, entry, children, least)?)),
+        ENUMERATION_TYPE => Ok(Some(enumeration(alloc, ctx, entry, children, least)?)),
+        STRUCTURE_TYPE => Ok(Some(structure(alloc, ctx, entry, children, false, least)?)),
+        SUBROUTINE_TYPE => Ok(Some(function(alloc, ctx, entry, children, least)?)),
+        UNION_TYPE => Ok(Some(structure(alloc, ctx, entry, children, true, least)?)),
         _ => read_plain_type(alloc, ctx, entry, least),
     }
 }
@@ -101,20 +109,22 @@ fn take_type<'a>(
 }
 
 /// One entry more, for a walk that stands behind it.
-fn take_entry<'a>(
+fn take_entry<'w, 'a>(
     alloc: Global,
     ctx: &FormCtx<'a>,
-    entry: &Entry<'_, 'a>,
-    walk: Walk<'_, 'a>,
+    entry: &Entry<'w, 'a>,
+    walk: Walk<'w, 'a>,
+    skips: &Skips<'w, 'a>,
     found: &mut Found<'a>,
     least: &mut Option<TypeFault>,
 ) -> Result<(), AllocError>
-    requires { IsContext ctx.now }
+    requires context { IsContext ctx.now }
+    requires right { AreRight skips.now walk }
     ensures types { OnOk result (found.new.types.items ≡ found.old.types.items ++ listed (made_in (row_of (sections ctx.now) (given_entry entry.now) walk.entry.entries))) }
     ensures arrays { OnOk result (found.new.has_array ≡ (found.old.has_array || (given_entry entry.now).tag == 0x01)) }
     ensures noted { OnOk result (least.new ≡ noted least.old (refused_in (row_of (sections ctx.now) (given_entry entry.now) walk.entry.entries))) }
 {
-    let one = read_type(alloc, ctx, entry, walk, least)?;
+    let one = read_type(alloc, ctx, entry, walk, skips, least)?;
     take_type(&mut found.types, one)?;
     found.has_array = found.has_array || entry.tag == ARRAY_TYPE;
     Ok(())
@@ -134,13 +144,60 @@ fn finish<'a>(found: Found<'a>, least: Option<TypeFault>) -> Result<UnitTypes<'a
     }
 }
 
+/// Where a walk over a unit stands among entries whose rows read children.
+#[derive(Drop)]
+struct Surroundings<'w, 'a> {
+    /// The depth of the outermost one that the walk is in.
+    outermost: Option<u32>,
+    /// The places in that one, once they are read.
+    skips: Skips<'w, 'a>,
+    is_read: bool,
+}
+
+/// Goes on to an entry that isn't in the outermost one.
+fn go_out(alloc: Global, around: &mut Surroundings<'_, '_>, entry: &Entry<'_, '_>)
+    ensures { (walk : Coming) → AreRight around.old.skips walk → AreRight around.new.skips walk }
+{
+    around.outermost = depth_with_parts(entry);
+    if around.is_read {
+        around.skips = Skips::none(alloc);
+        around.is_read = false;
+    }
+}
+
+/// Goes on to the next entry, for a walk that stands behind it. At the first entry that is in the outermost one and
+/// no direct child of it the places are read, since from there on entries would be walked over once for each list
+/// that they are in.
+fn go_on<'w, 'a>(
+    alloc: Global,
+    around: &mut Surroundings<'w, 'a>,
+    entry: &Entry<'w, 'a>,
+    walk: &Walk<'w, 'a>,
+) -> Result<(), AllocError>
+    requires rising { Rises walk.now.entries }
+    requires right { AreRight around.old.skips walk.now }
+    ensures { OnOk result (AreRight around.new.skips walk.now) }
+{
+    match around.outermost {
+        Some(depth) if depth < entry.depth => {
+            if !around.is_read && entry.depth - depth > 1 {
+                around.skips = Skips::read(alloc, entry, walk.copy(), depth)?;
+                around.is_read = true;
+            }
+        }
+        _ => go_out(alloc, around, entry),
+    }
+    Ok(())
+}
+
 /// The types of all entries of a walk.
-fn read_types<'a>(
+fn read_types<'w, 'a>(
     alloc: Global,
     ctx: &FormCtx<'a>,
-    walk: Walk<'_, 'a>,
+    walk: Walk<'w, 'a>,
 ) -> Result<UnitTypes<'a>, TypeFault>
-    requires { IsContext ctx.now }
+    requires context { IsContext ctx.now }
+    requires rising { Rises walk.entries }
     ensures { Gives result (types_in (sections ctx.now) walk.entry) }
 {
     let mut walk = walk;
@@ -149,12 +206,27 @@ fn read_types<'a>(
         types: Vec::new(alloc),
         has_array: false,
     };
+    let mut around = Surroundings {
+        outermost: None,
+        skips: Skips::none(alloc),
+        is_read: false,
+    };
     'entries: loop {
         match walk.next() {
             Err(fault) => return Err(TypeFault::Walk(fault)),
             Ok(None) => return finish(found, least),
             Ok(Some(entry)) => {
-                take_entry(alloc, ctx, &entry, walk.copy(), &mut found, &mut least)?
+                go_on(alloc, &mut around, &entry, &walk)?;
+                let behind = walk.copy();
+                take_entry(
+                    alloc,
+                    ctx,
+                    &entry,
+                    behind,
+                    &around.skips,
+                    &mut found,
+                    &mut least,
+                )?
             }
         }
     }

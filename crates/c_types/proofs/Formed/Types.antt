@@ -1,13 +1,11 @@
 -- All types of a unit.
-use Rattle.std.proofs.Common.{◌≡◌, ◌==◌, true, false, List, [], ◌∷◌, length, Option, None, Some, Result, Ok, refl, subst}
+use Rattle.std.proofs.Common.{◌≡◌, ◌==◌, true, false, List, [], ◌∷◌, length, Option, None, Some, Ok, subst}
 use Rattle.std.specs.Prelude.{All}
 use Rattle.std.proofs.lemmas.List.Elements.{All-nil, All-cons, All-head, All-tail, All-append}
 use Rattle.dwarf_forms.specs.Meanings.{Sections}
 use Rattle.entry_tree.specs.Items.{Given, Coming}
-use Rattle.entry_tree.specs.declared.fault.WalkFault.{WalkFault}
 use Rattle.c_types.specs.declared.source.SourceType.{SourceType}
 use Rattle.c_types.specs.declared.source.UnitTypes.{UnitTypes}
-use Rattle.c_types.specs.declared.fault.TypeFault.{TypeFault}
 use Rattle.c_types.specs.Faults.{least}
 use Rattle.c_types.specs.Children.{children_of}
 use Rattle.c_types.specs.Labels.{Row}
@@ -16,8 +14,9 @@ use Rattle.c_types.specs.Arrays.{array_row}
 use Rattle.c_types.specs.Functions.{function_row}
 use Rattle.c_types.specs.Structures.{structure_row}
 use Rattle.c_types.specs.Enumerations.{enumeration_row}
-use Rattle.c_types.specs.Types.{plain_row_of, row_of, made_in, listed, refused_in, types_of, refusals_of, or_least, or_walk, unit_types, types_in}
+use Rattle.c_types.specs.Types.{plain_row_of, row_of, made_in, listed, refused_in, types_of, refusals_of, or_least, unit_types, types_in}
 use Rattle.c_types.specs.Formed.{IsFormed, AreFormed}
+use Rattle.c_types.proofs.Accepted.{walked, accepted}
 use Rattle.c_types.proofs.Formed.Refused.{least_none, first_empty, second_empty}
 use Rattle.c_types.proofs.Formed.Names.{IsNamedCleanly}
 use Rattle.c_types.proofs.Formed.Children.{children_all}
@@ -51,17 +50,6 @@ list_formed c (e ∷ es) clean none =
     All-append Formed (listed (made_in (row_of c e es))) (types_of c es)
     (one_formed (row_of c e es) (row_formed c e es (All-head IsNamedCleanly e es clean) later) (first_empty (refused_in (row_of c e es)) (refusals_of c es) none))
     (list_formed c es later (second_empty (refused_in (row_of c e es)) (refusals_of c es) none))
-
-walked : (o : Option WalkFault) (r : Result UnitTypes TypeFault) (t : UnitTypes) → or_walk o r ≡ Ok t → r ≡ Ok t
-walked None r t e = e
-walked (Some f) r t e = cc
-
-accepted : (u t : UnitTypes) (o : Option TypeFault) → or_least u o ≡ Ok t → (o ≡ None) × (u ≡ t)
-accepted u t None e = (refl, same e)
-  where
-    same : ◌≡◌ {A = Result UnitTypes TypeFault} (Ok u) (Ok t) → u ≡ t
-    same e = cc
-accepted u t (Some f) e = absurd (cc)
 
 pub types_in_formed : (c : Sections) (walk : Coming) (t : UnitTypes) → All IsNamedCleanly walk.entries → types_in c walk ≡ Ok t → AreFormed t.types
 types_in_formed c walk t clean e =

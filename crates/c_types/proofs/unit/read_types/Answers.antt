@@ -17,7 +17,7 @@ entries-preserved c =
     let new = c.next.new.self.entries in
     let step : c.entries.walk ≡ with_first (given_entry c.in-Ok-Some.entry) c.next.new.self = rw c.in-Ok-Some.field-0-is at c.in-Ok-Some.ensures in
     let taken : c.entries.walk.entries ≡ given_entry c.in-Ok-Some.entry ∷ c.next.new.self.entries = ap (λ (w : Coming). w.entries) step in
-    let copied : c.copy.result.entries ≡ c.next.new.self.entries = ap (λ (w : Coming). w.entries) c.copy.ensures in
+    let copied : c.copy-behind.result.entries ≡ c.next.new.self.entries = ap (λ (w : Coming). w.entries) c.copy-behind.ensures in
     let made = c.in_ok-take_entry-in-Ok-Some.ensures in
     record {
       types = types_step s e old new c.entries.found.types.items c.take_entry.new.found.types.items (types_of s c.args.walk.entries) taken
@@ -26,4 +26,6 @@ entries-preserved c =
       least = refusals_step s e old new c.entries.least c.take_entry.new.least (noted None (refusals_of s c.args.walk.entries)) taken
           (made.noted ∙ ap (λ (es : List Given). noted c.entries.least (refused_in (row_of (sections c.args.ctx.now) (given_entry c.in-Ok-Some.entry) es))) copied) c.entries.invariant.least;
       ending = sym (ap (λ (w : Coming). w.ending) step) ∙ c.entries.invariant.ending;
+      rising = (rw taken at c.entries.invariant.rising).1;
+      right = c.in_ok-go_on-in-Ok-Some.ensures;
     }

@@ -1,0 +1,91 @@
+-- The types of a unit stand where their entries do.
+use Rattle.std.proofs.Common.{◌≡◌, ℕ, ◌<◌, ◌≤◌, ◌==◌, Bool, true, false, List, [], ◌∷◌, ◌++◌, All, IfSome, Option, None, Some, Ok, if◌then◌else◌, refl, sym, subst}
+use Rattle.std.proofs.lemmas.List.Elements.{All-nil, All-cons, All-head, All-tail, All-append}
+use Rattle.dwarf_abbrev.specs.Declarations.{Declaration}
+use Rattle.dwarf_forms.specs.Meanings.{Sections}
+use Rattle.entry_tree.specs.Contexts.{sections_of}
+use Rattle.entry_tree.specs.Items.{Given, Coming}
+use Rattle.entry_tree.specs.Rising.{Rises, StandIn}
+use Rattle.entry_tree.specs.Walks.{entries_of}
+use Rattle.entry_tree.specs.declared.unit.Unit.{Unit}
+use Rattle.entry_tree.proofs.Rising.{entries_placed}
+use Rattle.c_types.specs.declared.source.SourceType.{SourceType}
+use Rattle.c_types.specs.declared.source.UnitTypes.{UnitTypes}
+use Rattle.c_types.specs.Faults.{least}
+use Rattle.c_types.specs.Children.{children_of}
+use Rattle.c_types.specs.Labels.{Row}
+use Rattle.c_types.specs.Parts.{some_tagged}
+use Rattle.c_types.specs.BaseTypes.{base_row, unspecified_row}
+use Rattle.c_types.specs.References.{atomic_name, reference_row, pointer_row, typedef_row}
+use Rattle.c_types.specs.Arrays.{array_row}
+use Rattle.c_types.specs.Functions.{function_row}
+use Rattle.c_types.specs.Structures.{structure_row}
+use Rattle.c_types.specs.Enumerations.{enumeration_row}
+use Rattle.c_types.specs.Types.{plain_row_of, row_of, made_in, listed, types_of, refusals_of, or_least, unit_types, types_in}
+use Rattle.c_types.specs.Ordered.{AreInOrder, LieIn}
+use Rattle.c_types.specs.Laws.{TypesRise}
+use Rattle.c_types.proofs.Accepted.{walked, accepted, in_unit}
+
+-- the type of a row, if there is one, stands at a place
+abbrev StandsAt : ℕ → Option Row → Type 0
+StandsAt at o = IfSome o (λ (r : Row). r.made.at ≡ at)
+
+if_tag : (at : ℕ) (t : Bool) (r : Row) (o : Option Row) → r.made.at ≡ at → StandsAt at o → StandsAt at (if t then Some r else o)
+if_tag at true r o h k = h
+if_tag at false r o h k = k
+
+one_of : (at : ℕ) (t : Bool) (r s : Row) → r.made.at ≡ at → s.made.at ≡ at → (if t then r else s).made.at ≡ at
+one_of at true r s h k = h
+one_of at false r s h k = k
+
+plain_stands : (c : Sections) (e : Given) → StandsAt e.at (plain_row_of c e)
+plain_stands c e =
+    if_tag e.at (e.tag == 0x0f) (pointer_row c e) _ refl
+    (if_tag e.at (e.tag == 0x16) (typedef_row c e) _ refl
+    (if_tag e.at (e.tag == 0x24) (base_row c e) _ refl
+    (if_tag e.at (e.tag == 0x26) (reference_row 10 [] c e) _ refl
+    (if_tag e.at (e.tag == 0x35) (reference_row 9 [] c e) _ refl
+    (if_tag e.at (e.tag == 0x37) (reference_row 11 [] c e) _ refl
+    (if_tag e.at (e.tag == 0x3b) (unspecified_row c e) _ refl
+    (if_tag e.at (e.tag == 0x47) (reference_row 8 atomic_name c e) None refl tt)))))))
+
+row_stands : (c : Sections) (e : Given) (after : List Given) → StandsAt e.at (row_of c e after)
+row_stands c e after =
+    let children = children_of e.depth after in
+    if_tag e.at (e.tag == 0x01) (array_row c e children) _ refl
+    (if_tag e.at (e.tag == 0x04) (enumeration_row c e children) _ (one_of e.at _ _ _ refl refl)
+    (if_tag e.at (e.tag == 0x13) (structure_row c false e children) _ (one_of e.at _ _ _ refl refl)
+    (if_tag e.at (e.tag == 0x15) (function_row c e children) _ refl
+    (if_tag e.at (e.tag == 0x17) (structure_row c true e children) (plain_row_of c e) (one_of e.at _ _ _ refl refl) (plain_stands c e)))))
+
+-- what holds of the places of all entries holds of those of the types
+one_stands : (P : ℕ → Type 0) (at : ℕ) (o : Option Row) → StandsAt at o → P at → All (λ (t : SourceType). P t.at) (listed (made_in o))
+one_stands P at None h p = All-nil (λ (t : SourceType). P t.at)
+one_stands P at (Some r) h p = All-cons (λ (t : SourceType). P t.at) r.made [] (subst P (sym h) p) (All-nil (λ (t : SourceType). P t.at))
+
+all_stand : (P : ℕ → Type 0) (c : Sections) (es : List Given) → All (λ (e : Given). P e.at) es → All (λ (t : SourceType). P t.at) (types_of c es)
+all_stand P c [] h = All-nil (λ (t : SourceType). P t.at)
+all_stand P c (e ∷ es) h =
+    All-append (λ (t : SourceType). P t.at) (listed (made_in (row_of c e es))) (types_of c es)
+    (one_stands P e.at (row_of c e es) (row_stands c e es) (All-head (λ (g : Given). P g.at) e es h)) (all_stand P c es (All-tail (λ (g : Given). P g.at) e es h))
+
+first_stands : (at : ℕ) (o : Option Row) (ts : List SourceType) → StandsAt at o → All (λ (t : SourceType). at < t.at) ts → AreInOrder ts → AreInOrder (listed (made_in o) ++ ts)
+first_stands at None ts h all rest = rest
+first_stands at (Some r) ts h all rest = (subst (λ (n : ℕ). All (λ (t : SourceType). n < t.at) ts) (sym h) all, rest)
+
+all_in_order : (c : Sections) (es : List Given) → Rises es → AreInOrder (types_of c es)
+all_in_order c [] h = tt
+all_in_order c (e ∷ es) h = first_stands e.at (row_of c e es) (types_of c es) (row_stands c e es) (all_stand (λ (n : ℕ). e.at < n) c es h.0) (all_in_order c es h.1)
+
+walk_rises : (c : Sections) (walk : Coming) (from end : ℕ) (t : UnitTypes) → Rises walk.entries → StandIn from end walk.entries → types_in c walk ≡ Ok t → AreInOrder t.types × LieIn from end t.types
+walk_rises c walk from end t rise stand e =
+    let u : UnitTypes = unit_types (some_tagged 0x01 walk.entries) (types_of c walk.entries) in
+    let a = accepted u t (least (refusals_of c walk.entries)) (walked walk.ending (or_least u (least (refusals_of c walk.entries))) t e) in
+    subst (λ (v : UnitTypes). AreInOrder v.types × LieIn from end v.types) a.1 (all_in_order c walk.entries rise, all_stand (λ (n : ℕ). (from ≤ n) × (n < end)) c walk.entries stand)
+
+pub types_in_order : TypesRise
+types_in_order file unit =
+    in_unit file unit (λ (t : UnitTypes). AreInOrder t.types × LieIn unit.first unit.end t.types) (tt, All-nil (λ (t : SourceType). (unit.first ≤ t.at) × (t.at < unit.end)))
+    (λ (declarations : List Declaration) (base : ℕ) (t : UnitTypes).
+    let placed = entries_placed file unit declarations in
+    walk_rises (sections_of file unit base) (entries_of file unit declarations) unit.first unit.end t placed.0 placed.1)

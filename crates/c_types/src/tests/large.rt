@@ -1,0 +1,130 @@
+//! Units with many parts and with deep nests. Each would take hours, were every structure to read all that stands
+//! deeper than its members.
+use super::{ABBREVIATIONS, file_of, info_of, types_in};
+use crate::fault::TypeFault;
+use std::alloc::{AllocError, Global};
+use std::test::Fail;
+
+/// Puts bytes behind others, so many times.
+fn put_times(entries: &mut Vec<u8>, bytes: &[u8], times: u32) -> Result<(), AllocError> {
+    for _ in 0..times {
+        entries.extend_from_slice(bytes)?;
+    }
+    Ok(())
+}
+
+/// How many types a unit of these entries has, and how many parts these have together; or its refusal.
+fn counts(alloc: Global, entries: &[u8]) -> Result<Result<(usize, usize), TypeFault>, Fail> {
+    let info = info_of(alloc, entries)?;
+    let file = file_of(alloc, info.as_slice(), ABBREVIATIONS, &[])?;
+    let found = match types_in(alloc, file.as_slice())? {
+        Ok(found) => found,
+        Err(fault) => return Ok(Err(fault)),
+    };
+    let mut types: usize = 0;
+    let mut parts: usize = 0;
+    for unit in &found {
+        for one in unit.types.items() {
+            types = types.wrapping_add(1);
+            parts = parts.wrapping_add(one.label.parts.items().len());
+        }
+    }
+    Ok(Ok((types, parts)))
+}
+
+/// A type has at most 65,535 parts. Too many of them are refused at the type, before a refusal of a part and
+/// before those of higher numbers.
+#[test]
+fn many_parts(rt: HostRuntime) -> Result<(), Fail> {
+    let member: &[u8] = &[33, 13];
+    let enumerator: &[u8] = &[16, 0x41, 0, 1];
+    let parameter: &[u8] = &[34, 13];
+    let structure: &[u8] = &[8, 0x73, 0, 4];
+    let enumeration: &[u8] = &[15, 0x65, 0, 4];
+    let rest: &[u8] = &[28, 0];
+    let cases: [(&[u8], &[u8], u32, &[u8], Result<(usize, usize), TypeFault>); 10] = [
+        (structure, member, 65_535, &[0], Ok((1, 65_535))),
+        (
+            structure,
+            member,
+            65_536,
+            &[0],
+            Err(TypeFault::TooMany(13, 65_536)),
+        ),
+        (enumeration, enumerator, 65_535, &[0], Ok((1, 65_535))),
+        (
+            enumeration,
+            enumerator,
+            65_536,
+            &[0],
+            Err(TypeFault::TooMany(13, 65_536)),
+        ),
+        (&[25], parameter, 65_535, &[0], Ok((1, 65_535))),
+        (
+            &[25],
+            parameter,
+            65_536,
+            &[0],
+            Err(TypeFault::TooMany(13, 65_536)),
+        ),
+        (&[25], parameter, 65_534, rest, Ok((1, 65_535))),
+        (
+            &[25],
+            parameter,
+            65_535,
+            rest,
+            Err(TypeFault::TooMany(13, 65_536)),
+        ),
+        (
+            structure,
+            &[10, 0x6d, 0],
+            65_536,
+            &[0],
+            Err(TypeFault::TooMany(13, 65_536)),
+        ),
+        (
+            &[35, 0x73, 0, 0x7f],
+            member,
+            65_536,
+            &[0],
+            Err(TypeFault::TooMany(13, 65_536)),
+        ),
+    ];
+    for (head, part, times, tail, wanted) in cases {
+        let mut entries = Vec::from_slice(rt.alloc(), &[1])?;
+        entries.extend_from_slice(head)?;
+        put_times(&mut entries, part, times)?;
+        entries.extend_from_slice(tail)?;
+        entries.push(0)?;
+        assert!(rt;
+            counts(rt.alloc(), entries.as_slice())? == wanted,
+            "{head:?} {times}"
+        );
+    }
+    Ok(())
+}
+
+/// 50,000 structures, each with a member and the next structure.
+#[test]
+fn nested_structures(rt: HostRuntime) -> Result<(), Fail> {
+    let mut entries = Vec::from_slice(rt.alloc(), &[1])?;
+    put_times(&mut entries, &[36, 33, 13], 50_000)?;
+    put_times(&mut entries, &[0], 50_001)?;
+    assert!(rt; counts(rt.alloc(), entries.as_slice())? == Ok((50_000, 50_000)));
+    Ok(())
+}
+
+/// 20,000 structures in each other, and in the innermost 300 members that hold 300 structures each.
+#[test]
+fn deep_and_wide(rt: HostRuntime) -> Result<(), Fail> {
+    let mut entries = Vec::from_slice(rt.alloc(), &[1])?;
+    put_times(&mut entries, &[36], 20_000)?;
+    for _ in 0..300u32 {
+        entries.extend_from_slice(&[37, 13])?;
+        put_times(&mut entries, &[36, 33, 13, 0], 300)?;
+        entries.push(0)?;
+    }
+    put_times(&mut entries, &[0], 20_001)?;
+    assert!(rt; counts(rt.alloc(), entries.as_slice())? == Ok((110_000, 90_300)));
+    Ok(())
+}
