@@ -7,6 +7,7 @@ use dwarf_abbrev::{AbbrevFault, Abbrevs};
 use dwarf_forms::{FormFault, Given, name_of};
 use elf_sections::{Image, Kind};
 use std::alloc::{AllocError, Global};
+use std::process::Abort;
 use std::test::Fail;
 
 const REAL_INFO: [u8; 342] =
@@ -85,6 +86,30 @@ const REAL_ENTRIES: [(u64, u32, u64, &str); 30] = [
     (270, 1, 0x34, "first"),
     (292, 1, 0x2e, "walk"),
     (322, 2, 0x5, "n"),
+];
+
+/// A value of an entry: the entry's offset, the attribute, its form, and the value.
+type Valued = (u64, u64, u64, &'static str);
+
+/// Values of that unit as the same listing has them, of each form that it uses.
+const REAL_VALUES: [Valued; 17] = [
+    (12, 0x25, 0x0e, "Strp(26)"),
+    (12, 0x13, 0x0b, "Unsigned(29)"),
+    (12, 0x1b, 0x1f, "LineStrp(0)"),
+    (12, 0x11, 0x01, "Address(4194572)"),
+    (12, 0x12, 0x07, "Unsigned(17)"),
+    (12, 0x10, 0x17, "SecOffset(0)"),
+    (46, 0x01, 0x13, "UnitRef(107)"),
+    (59, 0x3a, 0x21, "Signed(1)"),
+    (81, 0x6b, 0x0b, "Unsigned(128)"),
+    (158, 0x03, 0x08, "Text(Name { bytes: [105, 110, 116] })"),
+    (183, 0x1c, 0x0d, "Signed(-1)"),
+    (189, 0x1c, 0x0b, "Unsigned(2)"),
+    (270, 0x3f, 0x19, "Flag(true)"),
+    (270, 0x02, 0x18, "Expr([3, 0, 16, 64, 0, 0, 0, 0, 0])"),
+    (292, 0x40, 0x18, "Expr([156])"),
+    (322, 0x02, 0x17, "SecOffset(16)"),
+    (322, 0x2137, 0x17, "SecOffset(12)"),
 ];
 
 /// One unit with a base type `int`, and its abbreviations.
@@ -437,6 +462,63 @@ fn a_real_unit(rt: HostRuntime) -> Result<(), Fail> {
     for (found, (at, depth, tag, name)) in entries.iter().zip(REAL_ENTRIES) {
         assert_eq!(rt; (found.0, found.1, found.2), (at, depth, tag));
         assert_eq!(rt; found.3, name.as_bytes());
+    }
+    Ok(())
+}
+
+/// An entry of that unit has this value.
+fn has_value(
+    rt: &impl Abort,
+    alloc: Global,
+    image: &Image<'_>,
+    unit: &Unit,
+    wanted: Valued,
+) -> Result<(), Fail>
+    requires { IsUnitOf (bytes_of image.now) unit.now }
+{
+    let (at, attribute, form, text) = wanted;
+    let Ok(abbrevs) = Abbrevs::read(alloc, &REAL_ABBREV, unit.abbrev_at) else {
+        return Ok(assert!(rt; false, "no abbreviations"));
+    };
+    let Ok(first) = root(image, unit, &abbrevs) else {
+        return Ok(assert!(rt; false, "no root"));
+    };
+    if unit.end.saturating_sub(unit.at) >= 1 << 32 {
+        return Ok(assert!(rt; false, "too long"));
+    }
+    let mut walk = Walk::new(image, unit, &abbrevs, &first);
+    for _ in 0..unit.end {
+        let Ok(Some(entry)) = walk.next() else {
+            return Ok(assert!(rt; false, "no entry at {at}"));
+        };
+        if entry.at == at {
+            let Ok(Some(given)) = entry.attr(attribute) else {
+                return Ok(assert!(rt; false, "no attribute {attribute} at {at}"));
+            };
+            let found = format!(in alloc; "{:?}", given.value)?;
+            assert_eq!(rt; (given.form, found.as_str()), (form, text));
+            return Ok(());
+        }
+    }
+    Ok(())
+}
+
+/// Values of the entries of a unit of gcc, one or more of each form.
+#[test]
+fn the_values_of_a_real_unit(rt: HostRuntime) -> Result<(), Fail> {
+    let alloc = rt.alloc();
+    let file = file_of(alloc, &REAL_INFO, &REAL_ABBREV, &REAL_STR, &REAL_LINE_STR)?;
+    let Ok(image) = Image::read(&file) else {
+        return Ok(assert!(rt; false));
+    };
+    let Ok(list) = units(alloc, &image) else {
+        return Ok(assert!(rt; false));
+    };
+    let Some(unit) = list.items().first() else {
+        return Ok(assert!(rt; false, "no unit"));
+    };
+    for wanted in REAL_VALUES {
+        has_value(&rt, alloc, &image, unit, wanted)?;
     }
     Ok(())
 }
