@@ -1,5 +1,6 @@
-"""damage.py PROGRAM FOLDER: runs PROGRAM on a thousand damaged copies of FOLDER/whole."""
+"""damage.py PROGRAM FOLDER: runs PROGRAM on a thousand damaged copies of the files FOLDER/whole.*, in turn."""
 import collections
+import glob
 import os
 import random
 import re
@@ -47,13 +48,16 @@ def wrong(status, complaint, stored):
 
 def main():
     program, folder = os.path.abspath(sys.argv[1]), sys.argv[2]
-    with open(f"{folder}/whole", "rb") as file:
-        elf = file.read()
-    ranges, dice = debug_ranges(elf), random.Random(20261127)
+    wholes = []
+    for path in sorted(glob.glob(f"{folder}/whole.*")):
+        with open(path, "rb") as file:
+            elf = file.read()
+        wholes.append((elf, debug_ranges(elf)))
+    dice = random.Random(20261127)
     ends, bad = collections.Counter(), 0
     for run in range(RUNS):
         with open(f"{folder}/a", "wb") as file:
-            file.write(damaged(elf, ranges, dice))
+            file.write(damaged(*wholes[run % len(wholes)], dice))
         out = f"{folder}/o"
         if os.path.exists(out):
             os.remove(out)
@@ -68,7 +72,7 @@ def main():
             bad += 1
     if not bad:
         counts = ", ".join(f"{ends[status]} with status {status}" for status in sorted(ends))
-        print(f"passed damage: {RUNS} damaged files, {counts}")
+        print(f"passed damage: {RUNS} damaged copies of {len(wholes)} files, {counts}")
     return bad != 0
 
 

@@ -95,6 +95,11 @@ def fault_of_readers(readers, told):
     for form in ("raw", "c"):
         if "bpftool" in readers and run([readers["bpftool"], "btf", "dump", "file", "o", "format", form]).returncode != 0:
             return f"bpftool refuses it as {form}"
+    if "pahole" in readers:
+        for line in run([readers["pahole"], "-s", "a"]).stdout.decode().splitlines():
+            name, size, _ = line.split("\t")
+            if name in told and told[name][0] != int(size):
+                return f"pahole says that {name} has {size} bytes, the compiler says {told[name][0]}"
     if "libbpf" not in readers:
         return None
     done = run([readers["libbpf"], "o"])
@@ -209,13 +214,17 @@ def supplementary(program, demo):
 
 
 def found_readers(folder):
-    """Other readers of BTF: bpftool, and a program over libbpf."""
+    """Other readers: of BTF bpftool and a program over libbpf, of DWARF Debian's pahole."""
     readers = {}
     tool = shutil.which("bpftool", path=f"{os.environ.get('PATH', '')}:/usr/sbin:/sbin")
     if tool:
         readers["bpftool"] = tool
     else:
         print("skipped programs bpftool: it is not installed")
+    if shutil.which("pahole"):
+        readers["pahole"] = shutil.which("pahole")
+    else:
+        print("skipped programs pahole: it is not installed")
     if run(["cc", "-o", "structures", f"{folder}/structures.c", "-lbpf"]).returncode == 0:
         readers["libbpf"] = "./structures"
     else:
