@@ -201,7 +201,11 @@ fn shown(
 fn every_kind(alloc: Global, base: u32) -> Result<Table<'static>, Fail> {
     let int = Ref::Node(0);
     let two = [(b"x".as_slice(), 0u64), (b"y".as_slice(), 64)];
-    let three = [(b"x".as_slice(), 0u64), (b"y".as_slice(), 64), (b"z".as_slice(), 128)];
+    let three = [
+        (b"x".as_slice(), 0u64),
+        (b"y".as_slice(), 64),
+        (b"z".as_slice(), 128),
+    ];
     let types = [
         node(alloc, 1, b"int", 4, &[], &[])?,
         node(alloc, 4, b"a", 12, &two, &[int, int])?,
@@ -209,7 +213,14 @@ fn every_kind(alloc: Global, base: u32) -> Result<Table<'static>, Fail> {
         node(alloc, 8, b"t", 0, &[], &[Ref::Node(2)])?,
         node(alloc, 2, b"", 0, &[], &[Ref::Node(1)])?,
         node(alloc, 3, b"", 0, &[], &[int, int])?,
-        node(alloc, 5, b"a", 16, &[(b"p".as_slice(), 0), (b"q".as_slice(), 0)], &[Ref::Node(4), Ref::Node(5)])?,
+        node(
+            alloc,
+            5,
+            b"a",
+            16,
+            &[(b"p".as_slice(), 0), (b"q".as_slice(), 0)],
+            &[Ref::Node(4), Ref::Node(5)],
+        )?,
         node(alloc, 6, b"e", 4, &[], &[])?,
         node(alloc, 7, b"f", 0, &[], &[])?,
         node(alloc, 9, b"", 0, &[], &[int])?,
@@ -241,7 +252,12 @@ fn every_kind(alloc: Global, base: u32) -> Result<Table<'static>, Fail> {
 fn every_kind_by_names_and_holes(rt: HostRuntime) -> Result<(), Fail> {
     let alloc = rt.alloc();
     let cases = [
-        (0, None, 0, "a\t12\t1\nt\t4\t0\na\t16\t0\ntwo\t20\t2\nu\t4\t0\nt\t4\t0\n"),
+        (
+            0,
+            None,
+            0,
+            "a\t12\t1\nt\t4\t0\na\t16\t0\ntwo\t20\t2\nu\t4\t0\nt\t4\t0\n",
+        ),
         (0, None, 1, "a\t12\t1\ntwo\t20\t2\n"),
         (0, None, 2, "two\t20\t2\n"),
         (0, None, 3, ""),
@@ -250,7 +266,12 @@ fn every_kind_by_names_and_holes(rt: HostRuntime) -> Result<(), Fail> {
         (4, Some(["a"].as_slice()), 0, "a\t12\t1\na\t16\t0\n"),
         // Names that two types have, repeated ones, and all of them with a hole.
         (0, Some(["t"].as_slice()), 0, "t\t4\t0\nt\t4\t0\n"),
-        (0, Some(["two", "a", "two"].as_slice()), 0, "two\t20\t2\na\t12\t1\na\t16\t0\ntwo\t20\t2\n"),
+        (
+            0,
+            Some(["two", "a", "two"].as_slice()),
+            0,
+            "two\t20\t2\na\t12\t1\na\t16\t0\ntwo\t20\t2\n",
+        ),
         (0, Some(["u", "a"].as_slice()), 1, "a\t12\t1\n"),
     ];
     for (base, words, holes, text) in cases {
