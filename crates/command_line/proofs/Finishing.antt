@@ -1,5 +1,5 @@
 -- The job that is made.
-use Rattle.std.proofs.Common.{Bool, true, false, ◌≡◌, ℕ, ◌<◌, ◌≤◌, List, [], length, Some, None, Option, Result, Err, sym, refl, arith, unwrap_or, leb, drop, subst}
+use Rattle.std.proofs.Common.{Bool, true, false, ◌≡◌, ℕ, ◌-◌, ◌^◌, ◌<◌, ◌≤◌, List, [], length, Some, None, Option, Result, Err, sym, refl, arith, unwrap_or, leb, drop, subst}
 use Rattle.std.specs.Prelude.{if◌then◌else◌, ◌&&◌}
 use Rattle.std.specs.Option.{option_map, option_and_then}
 use Rattle.std.proofs.lemmas.Bool.Decides.{nat_tests}
@@ -8,9 +8,9 @@ use Rattle.command_line.specs.declared.job.Job.{Job}
 use Rattle.command_line.specs.declared.job.UsageFault.{UsageFault}
 use Rattle.command_line.specs.declared.job.JobFault.{JobFault}
 use Rattle.command_line.specs.declared.options.Setting.{Setting}
-use Rattle.command_line.specs.declared.options.Setting.TheVariants.{Out, Selfmade, Jobs}
-use Rattle.command_line.specs.Values.{number, is_decimal, jobs, made_number, file_name}
-use Rattle.command_line.specs.Words.{jobs_wanted, job_by, files_of, jobs_of, value_of, nothing, roles, word_fault, whole_fault, usage, job_with, job_unless, job_of_roles, job_of_words, read, Before, first_of, Gives}
+use Rattle.command_line.specs.declared.options.Setting.TheVariants.{Out, Selfmade, Jobs, Line}
+use Rattle.command_line.specs.Values.{number, is_decimal, jobs, line, made_number, file_name}
+use Rattle.command_line.specs.Words.{jobs_wanted, job_by, files_of, jobs_of, line_of, value_of, nothing, roles, word_fault, whole_fault, usage, job_with, job_unless, job_of_roles, job_of_words, read, Before, first_of, Gives}
 use Rattle.command_line.specs.Reading.{Reached, IsAt, ReadsOn}
 use Rattle.command_line.specs.declared.scan.Seen.{Seen}
 use Rattle.command_line.specs.declared.job.JobFault.TheVariants.{Usage, Memory}
@@ -43,6 +43,23 @@ files_few_of None None us fs k h = h
 pub jobs_in_range : (us : List (Setting × List ℕ)) (fs : List (List ℕ)) → (1 ≤ jobs_of (job_with us fs)) × (jobs_of (job_with us fs) ≤ 256)
 jobs_in_range us fs =
     rw (jobs_same (read made_number Selfmade us) (read file_name Out us) us fs) (jobs_range_of (value_of us Jobs))
+
+-- a cache line has at least 1 byte
+line_or : (o : Option ℕ) → ((n : ℕ) → o ≡ Some n → 1 ≤ n) → 1 ≤ unwrap_or o 64
+line_or None h = omega arith
+line_or (Some n) h = h n refl
+
+line_range_of : (o : Option (List ℕ)) → 1 ≤ unwrap_or (option_and_then line o) 64
+line_range_of None = omega arith
+line_range_of (Some v) = line_or (line v) (λ n e. (number_within 1 (2 ^ 32 - 1) (digits_value 10 v) n (is_decimal v) e).0)
+
+line_by : (n : Option ℕ) (o : Option (List ℕ)) (us : List (Setting × List ℕ)) (fs : List (List ℕ)) → 1 ≤ line_of (job_by n o us fs)
+line_by (Some n) o us fs = omega arith
+line_by None (Some out) us fs = omega arith
+line_by None None us fs = line_range_of (value_of us Line)
+
+pub line_above : (us : List (Setting × List ℕ)) (fs : List (List ℕ)) → 1 ≤ line_of (job_with us fs)
+line_above us fs = line_by (read made_number Selfmade us) (read file_name Out us) us fs
 
 -- a fault of a word
 pub job_refused : (ws : List (List ℕ)) (u : UsageFault) → word_fault [] (roles nothing ws) ≡ Some u → job_of_words ws ≡ Err u

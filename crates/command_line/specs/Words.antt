@@ -189,3 +189,15 @@ abbrev pub jobs_of : Job → ℕ
 jobs_of (Encode _ _ n _) = n
 jobs_of (Show _ _ _ _ _ _ n _) = n
 jobs_of (Made _ n) = n
+
+-- the names of the types that a job shows, and the size of a cache line; none, and 1, where it shows no layouts
+abbrev pub names_of : Job → List (List ℕ)
+names_of (Encode _ _ _ _) = []
+names_of (Show _ _ None _ _ _ _ _) = []
+names_of (Show _ _ (Some ns) _ _ _ _ _) = ns
+names_of (Made _ _) = []
+
+abbrev pub line_of : Job → ℕ
+line_of (Encode _ _ _ _) = 1
+line_of (Show _ _ _ _ _ l _ _) = l
+line_of (Made _ _) = 1

@@ -4,7 +4,7 @@ ghost use Rattle.std.specs.List.{list_any, slice_split};
 ghost use Rattle.std.specs.Option.{option_map};
 ghost use Rattle.command_line.specs.declared.options.Setting.TheVariants.{Out, Base, Selfmade, Names, Holes, Line, Sizes, Jobs};
 ghost use Rattle.command_line.specs.Values.{made_number, holes, line, file_name, names};
-ghost use Rattle.command_line.specs.Words.{Gives, read, is_used, is_btf, format_of, are_apart, whole_fault, jobs_wanted, job_with, job_unless, usage, files_of, jobs_of};
+ghost use Rattle.command_line.specs.Words.{Gives, read, is_used, is_btf, format_of, are_apart, whole_fault, jobs_wanted, job_with, job_unless, usage, files_of, jobs_of, line_of, names_of};
 
 use crate::job::{Format, Job, JobFault, Text, Texts, UsageFault};
 use crate::options::{SHOWING, Setting};
@@ -22,6 +22,8 @@ pub fn finished(
     ensures told { Gives result (job_unless (option_map (usage count) (whole_fault uses.now (length files.items))) (job_with uses.now files.items)) }
     ensures few { IfOk result (λ j. length (files_of j) < 2 ^ 32) }
     ensures jobs { IfOk result (λ j. (1 ≤ jobs_of j) × (jobs_of j ≤ 256)) }
+    ensures names { IfOk result (λ j. length (names_of j) < 2 ^ 32) }
+    ensures line { IfOk result (λ j. 1 ≤ line_of j) }
 {
     if let Some(code) = whole_fault(uses, files.len()) {
         return Err(JobFault::Usage(UsageFault { word: count, code }));
@@ -29,7 +31,24 @@ pub fn finished(
     if files.len() > u32::MAX as usize {
         return Err(JobFault::Memory);
     }
-    Ok(job_with(alloc, uses, Texts::new(files))?)
+    let job = job_with(alloc, uses, Texts::new(files))?;
+    if count_of_names(&job) > u32::MAX as usize {
+        return Err(JobFault::Memory);
+    }
+    Ok(job)
+}
+
+/// How many names of types a job has.
+fn count_of_names(job: &Job) -> usize
+    ensures { result ≡ length (names_of job.now) }
+{
+    match job {
+        Job::Show {
+            names: Some(names),
+            ..
+        } => names.items().len(),
+        _ => 0,
+    }
 }
 
 /// What is wrong with all words together, by the options and the number of files.

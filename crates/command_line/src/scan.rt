@@ -1,7 +1,7 @@
 //! The job of words.
 ghost use Rattle.std.specs.Prelude.{◌≡◌, ◌+◌, ◌<◌, ◌≤◌, ◌^◌, ◌∷◌, [], ◌++◌, map, drop, length, string_bytes, Some, IfOk, IfSome, OnOk, OnErr, false};
 ghost use Rattle.std.specs.Option.{option_copied};
-ghost use Rattle.command_line.specs.Words.{job_of_words, Gives, files_of, jobs_of, first_of, is_file, value_at};
+ghost use Rattle.command_line.specs.Words.{job_of_words, Gives, files_of, jobs_of, line_of, names_of, first_of, is_file, value_at};
 ghost use Rattle.command_line.specs.Reading.{ReadsOn, ReadsOption, width};
 ghost use Rattle.command_line.specs.Options.{row};
 
@@ -61,11 +61,13 @@ impl<'w> Seen<'w> {
 /// The job of the words that follow the program's name.
 ///
 /// It refuses exactly where the words give no job, and then with the fault that counts. It answers
-/// `Memory` where there is not enough, and where there are 2^32 files or more.
+/// `Memory` where there is not enough, and where there are 2^32 files or names or more.
 pub fn job_of(alloc: Global, words: &[String]) -> Result<Job, JobFault>
     ensures told { Gives result (job_of_words (map string_bytes words.now)) }
     ensures few { IfOk result (λ j. length (files_of j) < 2 ^ 32) }
     ensures jobs { IfOk result (λ j. (1 ≤ jobs_of j) × (jobs_of j ≤ 256)) }
+    ensures names { IfOk result (λ j. length (names_of j) < 2 ^ 32) }
+    ensures line { IfOk result (λ j. 1 ≤ line_of j) }
 {
     let mut seen = Seen::new(alloc);
     let mut at = 0;

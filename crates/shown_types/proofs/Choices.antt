@@ -1,10 +1,10 @@
 -- What is chosen can be shown.
-use Rattle.std.proofs.Common.{◌≡◌, ◌<◌, ◌-◌, ◌++◌, ◌&&◌, ℕ, Bool, true, false, List, [], ◌∷◌, Option, None, Some, All, IsTrue, refl, arith, length, get_or}
+use Rattle.std.proofs.Common.{◌≡◌, ◌-◌, ◌&&◌, ℕ, Bool, true, false, List, [], ◌∷◌, Option, None, Some, All, IsTrue, refl, arith, length, get_or}
 use Rattle.std.specs.List.{filter, flat_map, range_with_len}
 use Rattle.std.specs.Str.{bytes_eq}
 use Rattle.std.proofs.lemmas.List.Elements.{filter_passes, All-append}
 use Rattle.c_model.specs.declared.graph.CType.{CType}
-use Rattle.shown_types.specs.Listed.{is_listed, listed, name_at, has_name, places_named, chosen}
+use Rattle.shown_types.specs.Listed.{is_listed, name_at, has_name, places_named, chosen}
 
 and_first : (a b : Bool) → (a && b) ≡ true → a ≡ true
 and_first true b h = refl

@@ -1,7 +1,6 @@
 -- Structures that are shown, and their members without a size.
-use Rattle.std.proofs.Common.{◌≡◌, ◌+◌, ◌<◌, ◌≤◌, ◌⊎◌, ◌&&◌, ◌||◌, not, ℕ, suc, Bool, true, false, eqb, List, Option, None, Some, inl, inr, refl, sym, ap, ◌∙◌, subst, arith, length, get_or, IsTrue, is_none, if◌then◌else◌, take, slice_get}
+use Rattle.std.proofs.Common.{◌≡◌, ◌<◌, ◌⊎◌, ◌&&◌, ◌||◌, not, ℕ, suc, Bool, true, false, eqb, List, Option, None, Some, inl, inr, refl, sym, ap, ◌∙◌, subst, arith, length, get_or, is_none, if◌then◌else◌, slice_get}
 use Rattle.std.specs.Option.{option_and_then, option_map, option_map_or}
-use Rattle.std.specs.List.{find, range_with_len}
 use Rattle.std.proofs.lemmas.Bool.{eqb-true}
 use Rattle.std.proofs.lemmas.Option.{slice_get_within, slice_get-get_or}
 use Rattle.btf_codec.specs.Fields.{id_of, target_at}

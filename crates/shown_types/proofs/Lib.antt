@@ -2,3 +2,4 @@ pub mod Ranges
 pub mod Lacking
 pub mod Texts
 pub mod Choices
+pub mod Naming

@@ -1,5 +1,5 @@
 -- Texts one after another.
-use Rattle.std.proofs.Common.{◌≡◌, ◌+◌, ◌<◌, ◌≤◌, ◌++◌, ◌||◌, not, ℕ, suc, Bool, true, false, cond, eqb, List, [], ◌∷◌, Option, None, Some, Result, Ok, Err, All, refl, sym, ap, ◌∙◌, subst, arith, length, map, drop, get_or, drop-cons, if◌then◌else◌, append_assoc}
+use Rattle.std.proofs.Common.{◌≡◌, ◌+◌, ◌<◌, ◌≤◌, ◌++◌, ◌||◌, ℕ, suc, Bool, true, false, cond, List, [], ◌∷◌, Option, None, Ok, Err, All, refl, sym, ap, ◌∙◌, subst, arith, length, map, drop, get_or, drop-cons, if◌then◌else◌, append_assoc}
 use Rattle.std.proofs.lemmas.List.{append-nil, drop_all, map-append}
 use Rattle.std.proofs.lemmas.List.Elements.{All-append, filter-append}
 use Rattle.std.proofs.lemmas.Grind.{flat_map-append}
@@ -10,7 +10,7 @@ use Rattle.layout_printer.specs.declared.slots.TypeLayout.{TypeLayout}
 use Rattle.shown_types.specs.declared.fault.ShowFault.{ShowFault}
 use Rattle.shown_types.specs.declared.fault.ShowFault.TheVariants.{NoName, NoSize, Memory}
 use Rattle.shown_types.specs.declared.showing.Style.{Style}
-use Rattle.shown_types.specs.Shown.{no_size, first_no_size, IsShown, has_holes, piece, separator, joined_by, whole, IsText, PutsPiece, put_for, LaysOut, ShowsPlaces}
+use Rattle.shown_types.specs.Shown.{no_size, first_no_size, IsShown, has_holes, piece, separator, joined_by, whole, PutsPiece, put_for, LaysOut, ShowsPlaces}
 
 abbrev Pair : Type 0
 Pair = ℕ × TypeLayout

@@ -1,5 +1,5 @@
 -- The whole text of what is shown, and why nothing is. A place is a type's number from 0; its id is one more.
-use Rattle.std.specs.Prelude.{ℕ, suc, ◌≡◌, ◌++◌, ◌==◌, ◌||◌, not, nat_le, is_none, Bool, true, List, [], ◌∷◌, length, map, All, ⊤, slice_get, find, Option, None, Some, Result, Ok, Err, if◌then◌else◌}
+use Rattle.std.specs.Prelude.{ℕ, suc, ◌≡◌, ◌++◌, ◌||◌, nat_le, is_none, Bool, List, [], ◌∷◌, length, map, All, ⊤, slice_get, find, Option, None, Some, Result, Ok, Err, if◌then◌else◌}
 use Rattle.std.specs.Global.{Vec}
 use Rattle.std.specs.List.{filter, flat_map, range_with_len}
 use Rattle.std.specs.Option.{option_and_then, option_map, option_map_or, option_or}

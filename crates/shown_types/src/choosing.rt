@@ -3,8 +3,9 @@ ghost use Rattle.std.specs.Prelude.{◌≡◌, ◌<◌, ◌≤◌, ◌^◌, leng
 ghost use Rattle.std.specs.Option.{option_copied};
 ghost use Rattle.shown_types.specs.Shown.{Chooses};
 
+use crate::by_name::{by_name, push_named};
 use crate::fault::ShowFault;
-use crate::listed::{listed, push_named};
+use crate::listed::listed;
 use c_model::CType;
 use command_line::Text;
 use std::alloc::Global;
@@ -26,7 +27,7 @@ pub fn choose(
     }
 }
 
-/// Those of the names.
+/// Those of the names. It takes as many steps as there are types, names and places of them.
 fn choose_named(
     alloc: Global,
     types: &[CType<'_>],
@@ -38,10 +39,11 @@ fn choose_named(
     ensures { Chooses types.now from (Some names.now) result }
 {
     let _ = from;
+    let by_name = by_name(alloc, types)?;
     let mut all = Vec::new(alloc);
     for i in 0..names.len() {
         let before = all.len();
-        push_named(&mut all, types, names[i].as_str().as_bytes())?;
+        push_named(&mut all, types, &by_name, names[i].as_str().as_bytes())?;
         if all.len() == before {
             return Err(ShowFault::NoName(i as u32));
         }

@@ -3,6 +3,7 @@
 //! A structure or union is shown by its name, and one without a name by the typedefs of it.
 #![tactic(auto)]
 
+pub mod by_name;
 pub mod choosing;
 pub mod fault;
 pub mod listed;

@@ -1,8 +1,7 @@
 //! Which types can be shown.
 ghost use Rattle.std.specs.Prelude.{◌≡◌, ◌++◌, ◌<◌, ◌^◌, length, IfOk, OnOk, [], ◌∷◌, if◌then◌else◌};
 ghost use Rattle.btf_codec.specs.Fields.{target_at};
-ghost use Rattle.std.specs.Str.{bytes_eq};
-ghost use Rattle.shown_types.specs.Listed.{is_structure, is_named, nameless_at, structure_by, structure_at, is_listed, listed, name_at, has_name, places_named};
+ghost use Rattle.shown_types.specs.Listed.{is_structure, is_named, nameless_at, structure_by, structure_at, is_listed, listed};
 
 use c_model::{CType, Ref};
 use std::alloc::{AllocError, Global};
@@ -95,31 +94,4 @@ pub fn listed(alloc: Global, types: &[CType<'_>], from: u32) -> Result<Vec<u32>,
         push_if(&mut all, structure_at(types, x).is_some(), x)?;
     }
     Ok(all)
-}
-
-/// Whether the type in a place can be shown and has a name.
-fn has_name(types: &[CType<'_>], x: u32, name: &[u8]) -> bool
-    ensures { result ≡ has_name types.now name.now x }
-{
-    structure_at(types, x).is_some() && is_named_so(types, x, name)
-}
-
-fn is_named_so(types: &[CType<'_>], x: u32, name: &[u8]) -> bool
-    ensures { result ≡ bytes_eq (name_at types.now x) name.now }
-{
-    match types.get(x as usize) {
-        None => name.is_empty(),
-        Some(t) => t.label.name.bytes() == name,
-    }
-}
-
-/// Adds the places of all types of a name that can be shown.
-pub fn push_named(all: &mut Vec<u32>, types: &[CType<'_>], name: &[u8]) -> Result<(), AllocError>
-    requires { length types.now < 2 ^ 32 }
-    ensures { OnOk result (all.new.items ≡ all.old.items ++ places_named types.now name.now) }
-{
-    for x in 0..types.len() as u32 {
-        push_if(all, has_name(types, x, name), x)?;
-    }
-    Ok(())
 }

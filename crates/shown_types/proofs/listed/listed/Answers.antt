@@ -1,4 +1,4 @@
-use Rattle.std.proofs.Common.{◌≡◌, ap, ◌∙◌, Option, ℕ, is_some, arith, length}
+use Rattle.std.proofs.Common.{ap, ◌∙◌, Option, ℕ, is_some, arith, length}
 use Rattle.shown_types.specs.Listed.{is_listed, listed}
 use Rattle.shown_types.proofs.Ranges.{kept_more}
 use Rattle.shown_types.proofs.listed.listed.Goals as goal

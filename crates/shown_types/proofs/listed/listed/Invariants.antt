@@ -1,6 +1,5 @@
-use Rattle.std.proofs.Common.{◌≡◌, ◌++◌, ◌-◌, length}
-use Rattle.std.specs.List.{filter, range_with_len}
-use Rattle.shown_types.specs.Listed.{is_listed, listed}
+use Rattle.std.proofs.Common.{◌≡◌, ◌++◌}
+use Rattle.shown_types.specs.Listed.{listed}
 use Rattle.shown_types.proofs.listed.listed.Given as goal
 
 -- what is found so far leads on to the whole
