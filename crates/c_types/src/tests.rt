@@ -90,11 +90,11 @@ fn info_of(alloc: Global, entries: &[u8]) -> Result<Vec<u8>, AllocError> {
 }
 
 /// A file of 64 bits, little-endian, with a unit, its abbreviations and its strings.
-fn file_of(
+fn file_of<'x>(
     alloc: Global,
-    info: &[u8],
-    abbreviations: &[u8],
-    strings: &[u8],
+    info: &'x [u8],
+    abbreviations: &'x [u8],
+    strings: &'x [u8],
 ) -> Result<Vec<u8>, AllocError> {
     let names = b"\0.debug_info\0.debug_abbrev\0.debug_str\0";
     let mut file = Vec::new(alloc);
