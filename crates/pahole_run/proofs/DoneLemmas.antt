@@ -12,7 +12,7 @@ use Rattle.world_io.specs.declared.fault.OutFault.TheVariants.{Failed as OutFail
 use Rattle.command_line.specs.declared.job.Job.TheVariants.{Encode, Show}
 use Rattle.command_line.specs.declared.job.Format.{Format}
 use Rattle.command_line.specs.declared.job.Format.TheVariants.{Dwarf, Btf}
-use Rattle.pahole_run.specs.Tasks.{Display, Task, encode_task, show_task, shown_by, is_btf, task_of}
+use Rattle.pahole_run.specs.Tasks.{Display, Task, encode_task, show_task, shown_by, task_of}
 use Rattle.pahole_run.specs.declared.refusal.Refusal.{Refusal}
 use Rattle.pahole_run.specs.declared.refusal.Refusal.TheVariants.{Missing, NoName, Fault as Numbered}
 use Rattle.pahole_run.specs.declared.refusal.Fault.{Fault}
@@ -20,12 +20,11 @@ use Rattle.pahole_run.specs.declared.refusal.Ended.{Ended}
 use Rattle.pahole_run.specs.declared.refusal.Ended.TheVariants.{Refused, Read, Print, Store, Memory}
 use Rattle.pahole_run.specs.Layers.{of_store, of_print, of_whole}
 use Rattle.c_model.specs.declared.graph.CType.{CType}
-use Rattle.split_base.specs.Merged.{IsMerged}
-use Rattle.pahole_run.specs.Files.{alone, graph_in}
 use Rattle.shown_types.specs.declared.showing.Style.{Style}
-use Rattle.pahole_run.specs.Tables.{TheTable}
-use Rattle.pahole_run.specs.Refusals.{load_refusal, contents, nodes_unless, made_nodes, nodes_of, first, graph_checks, early_checks, late_checks, file_checks, first_refusal, MergeTo}
-use Rattle.pahole_run.specs.Steps.{LoadsAll, OnlyLoads, CalledAtMost, Counted, EndsAt, IsLoadEnd, Cause, PrintCause, Tells, IsOwn, Kept, Unstored, UnstoredBy, Unprinted, UnprintedBy, Holds, StoresOut, IsStoreEnd, Printed, PrintKept, PrintsOut, Knows, Makes, IsOutput, SpelledBy, Delivers, Done}
+use Rattle.pahole_run.specs.Tables.{Origin, ComesFrom, TheTable}
+use Rattle.pahole_run.specs.Tables.Origin.{OfNodes}
+use Rattle.pahole_run.specs.Refusals.{load_refusal, contents, origin_unless, made_origin, origin_of, first, source_checks, early_checks, late_checks, file_checks, first_refusal, HasTypes}
+use Rattle.pahole_run.specs.Steps.{LoadsAll, CalledAtMost, Counted, EndsAt, IsLoadEnd, Cause, PrintCause, Tells, IsOwn, Kept, Unstored, Unprinted, StoresOut, IsStoreEnd, Printed, PrintKept, PrintsOut, Knows, Makes, IsOutput, SpelledBy, Delivers, Done}
 use Rattle.pahole_run.proofs.LoadLemmas.{called_within, called_once, part_told}
 use Rattle.pahole_run.proofs.NoTypes.{no_table, first_more}
 
@@ -252,18 +251,25 @@ cause_of_err V W before after Print c = c
 cause_of_err V W before after Store c = c
 cause_of_err V W before after Memory c = c
 
--- where an early check refuses, a task has no nodes, and the table of none
+-- where a check refuses, files have the table of no nodes
+origin_refused :
+    (format : Format) (r : Refusal) (limits : Limits) (files : List (List ℕ))
+    → origin_unless format (Some r) limits files ≡ OfNodes []
+origin_refused Dwarf r limits files = refl
+origin_refused Btf r limits files = refl
+
 no_nodes :
     (limits : Limits) (held : List HeldFile) (task : Task) (r : Refusal)
-    → first (early_checks limits held task) ≡ Some r → nodes_of limits held task ≡ []
+    → first (early_checks limits held task) ≡ Some r → origin_of limits held task ≡ OfNodes []
 no_nodes limits held task r e =
-    ap (λ (o : Option Refusal). nodes_unless o (graph_in limits (contents held task.files))) e
+    ap (λ (o : Option Refusal). origin_unless task.format o limits (contents held task.files)) e
+    ∙ origin_refused task.format r limits (contents held task.files)
 
 -- the checks of a task in order: those up to the graph come first
 early_first :
     (limits : Limits) (held : List HeldFile) (task : Task) (types : List CType) (r : Refusal)
     → first (early_checks limits held task) ≡ Some r → first_refusal limits held task types ≡ Some r
-early_first limits held task types r e = first_more (early_checks limits held task) (late_checks task.display (contents held task.files) types) r e
+early_first limits held task types r e = first_more (early_checks limits held task) (late_checks task.format task.display (contents held task.files) types) r e
 
 -- a load that is refused is the first refusal of a task that is done
 load_first :
@@ -271,13 +277,13 @@ load_first :
     → task.later ≡ None → load_refusal limits held 0 0 task.files ≡ Some r
     → first (early_checks limits held task) ≡ Some r
 load_first limits held task r now at =
-    ap (λ (o : Option Refusal). option_or o (option_or (load_refusal limits held 0 0 task.files) (first (graph_checks limits (contents held task.files))))) now
-    ∙ ap (λ (o : Option Refusal). option_or o (first (graph_checks limits (contents held task.files)))) at
+    ap (λ (o : Option Refusal). option_or o (option_or (load_refusal limits held 0 0 task.files) (first (source_checks task.format limits (contents held task.files))))) now
+    ∙ ap (λ (o : Option Refusal). option_or o (first (source_checks task.format limits (contents held task.files)))) at
 
 knows_none :
-    (V W : Type 0) (nodes : List CType) (one : Option Refusal) (P : V → Type 0) (e : Ended)
-    → ((r : Refusal) → one ≡ Some r → nodes ≡ []) → IsLoadEnd {V = V} (Err e) → Tells one P (Err e)
-    → Knows {V = W} (TheTable nodes) (Err e)
+    (V W : Type 0) (origin : Origin) (one : Option Refusal) (P : V → Type 0) (e : Ended)
+    → ((r : Refusal) → one ≡ Some r → origin ≡ OfNodes []) → IsLoadEnd {V = V} (Err e) → Tells one P (Err e)
+    → Knows {V = W} (TheTable origin) (Err e)
 knows_none V W nodes one P (Refused r) none l h = subst TheTable (sym (none r h)) no_table
 knows_none V W nodes one P (Read i) none l h = tt
 knows_none V W nodes one P Print none l h = absurd l
@@ -308,10 +314,10 @@ done_unloaded limits task before after e now l =
           (λ (r : Refusal) (at : load_refusal limits held 0 0 task.files ≡ Some r).
           early_first limits held task types r (load_first limits held task r now at))
           (l.told held is);
-      sent = λ held is types m. delivers_load (Vec (List ℕ)) task (IsOutput task.display (contents held task.files) types) before after e l.loads;
+      sent = λ held is types m. delivers_load (Vec (List ℕ)) task (IsOutput task.format task.display (contents held task.files) types) before after e l.loads;
       table =
           λ held is.
-          knows_none (Vec (List ℕ)) (Unit {0}) (nodes_of limits held task) (load_refusal limits held 0 0 task.files)
+          knows_none (Vec (List ℕ)) (Unit {0}) (origin_of limits held task) (load_refusal limits held 0 0 task.files)
           (λ (v : Vec (List ℕ)). v.items ≡ contents held task.files) e
           (λ (r : Refusal) (at : load_refusal limits held 0 0 task.files ≡ Some r).
           no_nodes limits held task r (load_first limits held task r now at))
@@ -327,7 +333,7 @@ pub done_later :
 done_later limits task before f later =
     let early : (held : List HeldFile) → first (early_checks limits held task) ≡ Some (Numbered f) =
     λ held.
-    ap (λ (o : Option Refusal). option_or o (option_or (load_refusal limits held 0 0 task.files) (first (graph_checks limits (contents held task.files))))) later in
+    ap (λ (o : Option Refusal). option_or o (option_or (load_refusal limits held 0 0 task.files) (first (source_checks task.format limits (contents held task.files))))) later in
     record {
       rest = refl;
       calls = λ c e. (c, e, omega arith);
@@ -367,16 +373,6 @@ done_show_base limits before format None names sizes holes line jobs files h = a
 done_show_base limits before format (Some b) names sizes holes line jobs files h =
     done_later limits (task_of (Show format (Some b) names sizes holes line jobs files)) before _ refl
 
-pub done_show_btf :
-    (limits : Limits) (before : Meaning) (format : Format) (base : Option (List ℕ)) (names : Option (List (List ℕ)))
-    (sizes : Bool) (holes line jobs : ℕ) (files : List (List ℕ))
-    → is_some base ≡ false → is_btf format ≡ true
-    → Done limits (task_of (Show format base names sizes holes line jobs files)) before before (Err (of_whole 200 1))
-done_show_btf limits before format (Some b) names sizes holes line jobs files h f = absurd (cc)
-done_show_btf limits before Dwarf None names sizes holes line jobs files h f = absurd (cc)
-done_show_btf limits before Btf None names sizes holes line jobs files h f =
-    done_later limits (task_of (Show Btf None names sizes holes line jobs files)) before _ refl
-
 own_cause :
     (V W : Type 0) (before after : Meaning) (e : Ended)
     → IsOwn {V = V} (Err e) → after.loads ≡ before.loads → after.stores ≡ before.stores
@@ -395,32 +391,32 @@ after_load :
     → task.later ≡ None
     → load_refusal limits held 0 0 task.files ≡ None
     → files ≡ contents held task.files
-    → first_refusal limits held task types ≡ first (file_checks task.display limits files types)
+    → first_refusal limits held task types ≡ first (file_checks task.format task.display limits files types)
 after_load limits held task files types now none is =
-    ap (λ (o : Option Refusal). option_or o (option_or (load_refusal limits held 0 0 task.files) (first (file_checks task.display limits (contents held task.files) types)))) now
-    ∙ ap (λ (q : Option Refusal). option_or q (first (file_checks task.display limits (contents held task.files) types))) none
-    ∙ ap (λ (fs : List (List ℕ)). first (file_checks task.display limits fs types)) (sym is)
+    ap (λ (o : Option Refusal). option_or o (option_or (load_refusal limits held 0 0 task.files) (first (file_checks task.format task.display limits (contents held task.files) types)))) now
+    ∙ ap (λ (q : Option Refusal). option_or q (first (file_checks task.format task.display limits (contents held task.files) types))) none
+    ∙ ap (λ (fs : List (List ℕ)). first (file_checks task.format task.display limits fs types)) (sym is)
 
--- and so are the nodes
+-- and so is where their table comes from
 nodes_after :
     (limits : Limits) (held : List HeldFile) (task : Task) (files : List (List ℕ))
     → task.later ≡ None
     → load_refusal limits held 0 0 task.files ≡ None
     → files ≡ contents held task.files
-    → made_nodes limits files ≡ nodes_of limits held task
+    → made_origin task.format limits files ≡ origin_of limits held task
 nodes_after limits held task files now none is =
-    ap (made_nodes limits) is
+    ap (made_origin task.format limits) is
     ∙ sym
-    (ap (λ (o : Option Refusal). nodes_unless o (graph_in limits (contents held task.files)))
-    (ap (λ (o : Option Refusal). option_or o (option_or (load_refusal limits held 0 0 task.files) (first (graph_checks limits (contents held task.files))))) now
-    ∙ ap (λ (q : Option Refusal). option_or q (first (graph_checks limits (contents held task.files)))) none))
+    (ap (λ (o : Option Refusal). origin_unless task.format o limits (contents held task.files))
+    (ap (λ (o : Option Refusal). option_or o (option_or (load_refusal limits held 0 0 task.files) (first (source_checks task.format limits (contents held task.files))))) now
+    ∙ ap (λ (q : Option Refusal). option_or q (first (source_checks task.format limits (contents held task.files)))) none))
 
--- a task's files are merged as the loaded ones are
-merge_again :
+-- a task's files have the types of the loaded ones
+types_again :
     (limits : Limits) (held : List HeldFile) (task : Task) (files : List (List ℕ)) (types : List CType)
-    → made_nodes limits files ≡ nodes_of limits held task
-    → MergeTo limits held task types → IsMerged (alone (made_nodes limits files)) types
-merge_again limits held task files types same m = subst (λ (n : List CType). IsMerged (alone n) types) (sym same) m
+    → made_origin task.format limits files ≡ origin_of limits held task
+    → HasTypes limits held task types → ComesFrom (made_origin task.format limits files) types
+types_again limits held task files types same m = subst (λ (origin : Origin). ComesFrom origin types) (sym same) m
 
 knows_again :
     (V W P : Type 0) (e : Ended) → IsOwn {V = V} (Err e) → Knows {V = V} P (Err e) → Knows {V = W} P (Err e)
@@ -435,7 +431,7 @@ pub done_unmade :
     (limits : Limits) (task : Task) (before now : Meaning) (files : Vec (List ℕ)) (e : Ended)
     → task.later ≡ None
     → LoadsAll limits task.files before now (Ok files)
-    → Makes task.display limits files.items (Err e)
+    → Makes task.format task.display limits files.items (Err e)
     → Done limits task before now (Err e)
 done_unmade limits task before now files e done l m =
     let stored : now.stored ≡ before.stored = ap (λ (w : Meaning). w.stored) l.only.0 in
@@ -452,20 +448,20 @@ done_unmade limits task before now files e done l m =
           λ held is types of.
           let loaded : (load_refusal limits held 0 0 task.files ≡ None) × (files.items ≡ contents held task.files) =
           l.told held is in
-          part_told (List ℕ) (Unit {0}) (λ (v : List ℕ). IsOutput task.display files.items types v)
+          part_told (List ℕ) (Unit {0}) (λ (v : List ℕ). IsOutput task.format task.display files.items types v)
           (λ (u : Unit {0}). Unit {0})
-          (first (file_checks task.display limits files.items types)) (first_refusal limits held task types) e
-          (λ (r : Refusal) (at : first (file_checks task.display limits files.items types) ≡ Some r).
+          (first (file_checks task.format task.display limits files.items types)) (first_refusal limits held task types) e
+          (λ (r : Refusal) (at : first (file_checks task.format task.display limits files.items types) ≡ Some r).
           after_load limits held task files.items types done loaded.0 loaded.1 ∙ at)
           (m.told types
-          (merge_again limits held task files.items types (nodes_after limits held task files.items done loaded.0 loaded.1) of));
-      sent = λ held is types of. delivers_own (List ℕ) task (IsOutput task.display (contents held task.files) types) before now e m.own;
+          (types_again limits held task files.items types (nodes_after limits held task files.items done loaded.0 loaded.1) of));
+      sent = λ held is types of. delivers_own (List ℕ) task (IsOutput task.format task.display (contents held task.files) types) before now e m.own;
       table =
           λ held is.
           let loaded : (load_refusal limits held 0 0 task.files ≡ None) × (files.items ≡ contents held task.files) =
           l.told held is in
-          knows_again (List ℕ) (Unit {0}) (TheTable (nodes_of limits held task)) e m.own
-          (subst (λ (n : List CType). Knows {V = List ℕ} (TheTable n) (Err e))
+          knows_again (List ℕ) (Unit {0}) (TheTable (origin_of limits held task)) e m.own
+          (subst (λ (origin : Origin). Knows {V = List ℕ} (TheTable origin) (Err e))
           (nodes_after limits held task files.items done loaded.0 loaded.1) m.table);
       spelled = tt;
     }
@@ -513,23 +509,23 @@ knows P (Err Memory) p = tt
 -- what is told where the output was made
 made_told :
     (limits : Limits) (task : Task) (before now : Meaning) (files : Vec (List ℕ)) (bytes : List ℕ)
-    → task.later ≡ None → LoadsAll limits task.files before now (Ok files) → Makes task.display limits files.items (Ok bytes)
-    → (held : List HeldFile) (types : List CType) → before.files ≡ Some held → MergeTo limits held task types
-    → (first_refusal limits held task types ≡ None) × IsOutput task.display (contents held task.files) types bytes
+    → task.later ≡ None → LoadsAll limits task.files before now (Ok files) → Makes task.format task.display limits files.items (Ok bytes)
+    → (held : List HeldFile) (types : List CType) → before.files ≡ Some held → HasTypes limits held task types
+    → (first_refusal limits held task types ≡ None) × IsOutput task.format task.display (contents held task.files) types bytes
 made_told limits task before now files bytes done l m held types is of =
     let loaded : (load_refusal limits held 0 0 task.files ≡ None) × (files.items ≡ contents held task.files) =
     l.told held is in
-    let told : (first (file_checks task.display limits files.items types) ≡ None) × IsOutput task.display files.items types bytes =
+    let told : (first (file_checks task.format task.display limits files.items types) ≡ None) × IsOutput task.format task.display files.items types bytes =
     m.told types
-    (merge_again limits held task files.items types (nodes_after limits held task files.items done loaded.0 loaded.1) of) in (
+    (types_again limits held task files.items types (nodes_after limits held task files.items done loaded.0 loaded.1) of) in (
       after_load limits held task files.items types done loaded.0 loaded.1 ∙ told.0,
-      subst (λ (fs : List (List ℕ)). IsOutput task.display fs types bytes) loaded.1 told.1,
+      subst (λ (fs : List (List ℕ)). IsOutput task.format task.display fs types bytes) loaded.1 told.1,
     )
 
 made_table :
     (limits : Limits) (task : Task) (before now : Meaning) (files : Vec (List ℕ)) (bytes : List ℕ)
-    → task.later ≡ None → LoadsAll limits task.files before now (Ok files) → Makes task.display limits files.items (Ok bytes)
-    → (held : List HeldFile) → before.files ≡ Some held → TheTable (nodes_of limits held task)
+    → task.later ≡ None → LoadsAll limits task.files before now (Ok files) → Makes task.format task.display limits files.items (Ok bytes)
+    → (held : List HeldFile) → before.files ≡ Some held → TheTable (origin_of limits held task)
 made_table limits task before now files bytes done l m held is =
     let loaded : (load_refusal limits held 0 0 task.files ≡ None) × (files.items ≡ contents held task.files) =
     l.told held is in
@@ -537,15 +533,15 @@ made_table limits task before now files bytes done l m held is =
 
 made_spelled :
     (limits : Limits) (task : Task) (before now : Meaning) (files : Vec (List ℕ)) (bytes : List ℕ)
-    → task.later ≡ None → LoadsAll limits task.files before now (Ok files) → Makes task.display limits files.items (Ok bytes)
-    → (held : List HeldFile) → before.files ≡ Some held → (types : List CType) → MergeTo limits held task types
+    → task.later ≡ None → LoadsAll limits task.files before now (Ok files) → Makes task.format task.display limits files.items (Ok bytes)
+    → (held : List HeldFile) → before.files ≡ Some held → (types : List CType) → HasTypes limits held task types
     → SpelledBy task.display (contents held task.files) types
 made_spelled limits task before now files bytes done l m held is types of =
     let loaded : (load_refusal limits held 0 0 task.files ≡ None) × (files.items ≡ contents held task.files) =
     l.told held is in
     subst (λ (fs : List (List ℕ)). SpelledBy task.display fs types) loaded.1
     (m.spelled types
-    (merge_again limits held task files.items types (nodes_after limits held task files.items done loaded.0 loaded.1) of))
+    (types_again limits held task files.items types (nodes_after limits held task files.items done loaded.0 loaded.1) of))
 
 unstored_from :
     (out bytes : List ℕ) (before now after : Meaning) (r : Result (Unit {0}) Ended)
@@ -593,7 +589,7 @@ pub done_stored :
     (limits : Limits) (out : List ℕ) (names : List (List ℕ)) (before now after : Meaning) (files : Vec (List ℕ)) (bytes : List ℕ)
     (r : Result (Unit {0}) Ended)
     → LoadsAll limits names before now (Ok files)
-    → Makes None limits files.items (Ok bytes)
+    → Makes Dwarf None limits files.items (Ok bytes)
     → StoresOut out bytes now after r
     → Done limits (encode_task out names) before after r
 done_stored limits out names before now after files bytes r l m s =
@@ -617,16 +613,16 @@ done_stored limits out names before now after files bytes r l m s =
           (made_told limits task before now files bytes refl l m held types is of).0 s.ends (λ (ok : r ≡ Ok tt). tt);
       sent =
           λ held is types of.
-          delivers_store names (IsOutput None (contents held names) types) out bytes before now after r stored s.ends
+          delivers_store names (IsOutput Dwarf None (contents held names) types) out bytes before now after r stored s.ends
           (made_told limits task before now files bytes refl l m held types is of).1 s.kept;
       table =
           λ held is.
-          knows (TheTable (nodes_of limits held task)) r (made_table limits task before now files bytes refl l m held is);
+          knows (TheTable (origin_of limits held task)) r (made_table limits task before now files bytes refl l m held is);
       spelled =
           on_ok
           (ForSome before.files
           (λ (held : List HeldFile).
-          (types : List CType) → MergeTo limits held task types → SpelledBy None (contents held names) types)) r
+          (types : List CType) → HasTypes limits held task types → SpelledBy None (contents held names) types)) r
           (λ held is types of. made_spelled limits task before now files bytes refl l m held is types of);
     }
 
@@ -684,29 +680,29 @@ print_told check bytes now after (Err Store) none k = tt
 print_told check bytes now after (Err Memory) none k = tt
 
 delivers_print :
-    (shown : Option (List (List ℕ))) (style : Style) (names : List (List ℕ)) (P : List ℕ → Type 0) (bytes : List ℕ)
+    (format : Format) (shown : Option (List (List ℕ))) (style : Style) (names : List (List ℕ)) (P : List ℕ → Type 0) (bytes : List ℕ)
     (before now after : Meaning) (r : Result (Unit {0}) Ended)
     → now.printed ≡ before.printed → P bytes → PrintKept bytes now after r
-    → Delivers (show_task shown style names) P before after r
-delivers_print shown style names P bytes before now after (Ok u) s p k =
+    → Delivers (show_task format shown style names) P before after r
+delivers_print format shown style names P bytes before now after (Ok u) s p k =
     (bytes, p, subst (λ (o : Option (List ℕ)). Gains bytes o after.printed) s k)
-delivers_print shown style names P bytes before now after (Err (Refused r)) s p k = tt
-delivers_print shown style names P bytes before now after (Err (Read i)) s p k = tt
-delivers_print shown style names P bytes before now after (Err Print) s p k =
+delivers_print format shown style names P bytes before now after (Err (Refused r)) s p k = tt
+delivers_print format shown style names P bytes before now after (Err (Read i)) s p k = tt
+delivers_print format shown style names P bytes before now after (Err Print) s p k =
     (bytes, p, subst (λ (o : Option (List ℕ)). GainsPart bytes o after.printed) s k)
-delivers_print shown style names P bytes before now after (Err Store) s p k = absurd k
-delivers_print shown style names P bytes before now after (Err Memory) s p k = tt
+delivers_print format shown style names P bytes before now after (Err Store) s p k = absurd k
+delivers_print format shown style names P bytes before now after (Err Memory) s p k = tt
 
 -- a task whose text is made, and printed or not
 pub done_printed :
-    (limits : Limits) (shown : Option (List (List ℕ))) (style : Style) (names : List (List ℕ)) (before now after : Meaning)
+    (limits : Limits) (format : Format) (shown : Option (List (List ℕ))) (style : Style) (names : List (List ℕ)) (before now after : Meaning)
     (files : Vec (List ℕ)) (bytes : List ℕ) (r : Result (Unit {0}) Ended)
     → LoadsAll limits names before now (Ok files)
-    → Makes (shown_by shown style) limits files.items (Ok bytes)
+    → Makes format (shown_by shown style) limits files.items (Ok bytes)
     → PrintsOut bytes now after r
-    → Done limits (show_task shown style names) before after r
-done_printed limits shown style names before now after files bytes r l m p =
-    let task : Task = show_task shown style names in
+    → Done limits (show_task format shown style names) before after r
+done_printed limits format shown style names before now after files bytes r l m p =
+    let task : Task = show_task format shown style names in
     let d : Display = record { names = shown; style = style } in
     let stored : after.stored ≡ before.stored = ap (λ (w : Meaning). w.stored) p.rest ∙ ap (λ (w : Meaning). w.stored) l.only.0 in
     let printed : now.printed ≡ before.printed = ap (λ (w : Meaning). w.printed) l.only.0 in
@@ -727,10 +723,10 @@ done_printed limits shown style names before now after files bytes r l m p =
           (made_told limits task before now files bytes refl l m held types is of).0 p.kept;
       sent =
           λ held is types of.
-          delivers_print shown style names (IsOutput (Some d) (contents held names) types) bytes before now after r printed
+          delivers_print format shown style names (IsOutput format (Some d) (contents held names) types) bytes before now after r printed
           (made_told limits task before now files bytes refl l m held types is of).1 p.kept;
       table =
           λ held is.
-          knows (TheTable (nodes_of limits held task)) r (made_table limits task before now files bytes refl l m held is);
+          knows (TheTable (origin_of limits held task)) r (made_table limits task before now files bytes refl l m held is);
       spelled = on_ok _ r (λ held is types of. tt);
     }

@@ -1,7 +1,7 @@
 -- What a job asks for.
-use Rattle.std.specs.Prelude.{ℕ, Bool, true, false, List, [], Option, None, Some}
+use Rattle.std.specs.Prelude.{ℕ, List, [], Option, None, Some}
 use Rattle.command_line.specs.declared.job.Format.{Format}
-use Rattle.command_line.specs.declared.job.Format.TheVariants.{Dwarf, Btf}
+use Rattle.command_line.specs.declared.job.Format.TheVariants.{Dwarf}
 use Rattle.command_line.specs.declared.job.Job.{Job}
 use Rattle.command_line.specs.declared.job.Job.TheVariants.{Encode, Show, Selfmade}
 use Rattle.shown_types.specs.declared.showing.Style.{Style}
@@ -13,10 +13,11 @@ pub record Display : Type 0 where
   pub names : Option (List (List ℕ))
   pub style : Style
 
--- the files to read, what is shown, or else the name to store under; and a refusal where the job is of a kind that is
--- not done yet
+-- the files to read and of which format they are, what is shown, or else the name to store under; and a refusal where the
+-- job is of a kind that is not done yet
 pub record Task : Type 0 where
   pub later : Option Refusal
+  pub format : Format
   pub out : List ℕ
   pub files : List (List ℕ)
   pub display : Option Display
@@ -30,37 +31,26 @@ abbrev pub over_base : Option (List ℕ) → Option Refusal
 over_base None = None
 over_base (Some base) = not_yet 2
 
-abbrev pub is_btf : Format → Bool
-is_btf Dwarf = false
-is_btf Btf = true
-
--- 1: showing a BTF file
-abbrev pub from_btf : Bool → Option Refusal
-from_btf false = None
-from_btf true = not_yet 1
-
-abbrev pub over_base_or : Option (List ℕ) → Option Refusal → Option Refusal
-over_base_or None without = without
-over_base_or (Some base) without = not_yet 2
-
 abbrev pub shown_by : Option (List (List ℕ)) → Style → Option Display
 shown_by names style = Some (record { names = names; style = style })
 
 abbrev pub encode_task : List ℕ → List (List ℕ) → Task
-encode_task out files = record { later = None; out = out; files = files; display = None }
+encode_task out files = record { later = None; format = Dwarf; out = out; files = files; display = None }
 
-abbrev pub show_task : Option (List (List ℕ)) → Style → List (List ℕ) → Task
-show_task names style files = record { later = None; out = []; files = files; display = shown_by names style }
+abbrev pub show_task : Format → Option (List (List ℕ)) → Style → List (List ℕ) → Task
+show_task format names style files =
+    record { later = None; format = format; out = []; files = files; display = shown_by names style }
 
 -- 3: inputs of its own
 abbrev pub task_of : Job → Task
 task_of (Encode out base jobs files) =
-    record { later = over_base base; out = out; files = files; display = None }
+    record { later = over_base base; format = Dwarf; out = out; files = files; display = None }
 task_of (Show format base names sizes holes line jobs files) =
     record {
-      later = over_base_or base (from_btf (is_btf format));
+      later = over_base base;
+      format = format;
       out = [];
       files = files;
       display = shown_by names (record { sizes = sizes; holes = holes; line = line });
     }
-task_of (Selfmade number jobs) = record { later = not_yet 3; out = []; files = []; display = None }
+task_of (Selfmade number jobs) = record { later = not_yet 3; format = Dwarf; out = []; files = []; display = None }

@@ -4,7 +4,7 @@ ghost use Rattle.std.specs.Option.{option_copied};
 ghost use Rattle.command_line.specs.Words.{files_of, jobs_of};
 ghost use Rattle.pahole_run.specs.Refusals.{most_of};
 ghost use Rattle.pahole_run.specs.Steps.{LoadsOne, LoadsAll, StoresOut, PrintsOut, Done};
-ghost use Rattle.pahole_run.specs.Tasks.{task_of, encode_task, show_task, is_btf};
+ghost use Rattle.pahole_run.specs.Tasks.{task_of, encode_task, show_task};
 
 use crate::faults::{ended_of_load, ended_of_print, ended_of_store};
 use crate::refusal::{Ended, ended_of_whole};
@@ -109,13 +109,14 @@ fn encode_files<W: World, G: Gate>(
     store_out(world, out, table.items())
 }
 
-/// Shows the types of files without a base.
+/// Shows the types of files of a format without a base.
 fn show_files<W: World, G: Gate>(
     alloc: Global,
     world: &mut W,
     gate: &G,
     jobs: u32,
     limits: Limits,
+    format: Format,
     shown: Option<&[Text]>,
     style: Style,
     names: &[Text],
@@ -123,15 +124,24 @@ fn show_files<W: World, G: Gate>(
     requires bytes { (limits.file_bytes < 2 ^ 32) × (limits.all_bytes < 2 ^ 32) }
     requires few { length names.now < 2 ^ 32 }
     requires jobs { 1 ≤ jobs }
-    ensures { Done limits (show_task (option_copied shown.entry) style names.now) (W.meaning world.old) (W.meaning world.new) result }
+    ensures { Done limits (show_task format (option_copied shown.entry) style names.now) (W.meaning world.old) (W.meaning world.new) result }
 {
     let files = load_all(alloc, world, limits, names)?;
-    let text = make_text(alloc, gate, jobs, limits, shown, style, files.as_slice())?;
+    let text = make_text(
+        alloc,
+        gate,
+        jobs,
+        limits,
+        format,
+        shown,
+        style,
+        files.as_slice(),
+    )?;
     print_out(world, text.items())
 }
 
-/// Does a job. Only encoding and showing the types of ELF files without a base are done so far; other jobs are refused
-/// before anything is loaded.
+/// Does a job. Only encoding ELF files and showing the types of ELF files or a BTF file, without a base, are done so far;
+/// other jobs are refused before anything is loaded.
 pub fn do_job<W: World, G: Gate>(
     alloc: Global,
     world: &mut W,
@@ -177,9 +187,6 @@ pub fn do_job<W: World, G: Gate>(
             if base.is_some() {
                 return Err(ended_of_whole(200, 2));
             }
-            if is_btf(*format) {
-                return Err(ended_of_whole(200, 1));
-            }
             let style = Style {
                 sizes: *sizes,
                 holes: *holes,
@@ -191,21 +198,13 @@ pub fn do_job<W: World, G: Gate>(
                 gate,
                 *jobs,
                 limits,
+                *format,
                 names_of(names),
                 style,
                 files.items(),
             )
         }
         Job::Selfmade { .. } => Err(ended_of_whole(200, 3)),
-    }
-}
-
-fn is_btf(format: Format) -> bool
-    ensures { result ≡ is_btf format }
-{
-    match format {
-        Format::Dwarf => false,
-        Format::Btf => true,
     }
 }
 

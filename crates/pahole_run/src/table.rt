@@ -1,6 +1,7 @@
 //! The table that the graph is merged to, and its bytes.
 ghost use Rattle.std.specs.Prelude.{◌≡◌, ◌<◌, ◌≤◌, ◌^◌, length, All, IfOk, OnOk, None};
 ghost use Rattle.c_model.specs.Kinds.{IsWellFormed};
+ghost use Rattle.command_line.specs.declared.job.Format.TheVariants.{Dwarf};
 ghost use Rattle.split_base.specs.Table.{table_of};
 ghost use Rattle.pahole_run.specs.Tables.{btf_of, AreSpelled};
 ghost use Rattle.pahole_run.specs.Refusals.{first, table_checks};
@@ -17,7 +18,7 @@ use split_base::build;
 use std::alloc::Global;
 use world_io::Gate;
 
-/// The steps from loaded files to the bytes of their table. The graph and its classes are gone when the table is
+/// The steps from loaded ELF files to the bytes of their table. The graph and its classes are gone when the table is
 /// written.
 pub fn make<G: Gate>(
     alloc: Global,
@@ -29,13 +30,13 @@ pub fn make<G: Gate>(
     requires jobs { 1 ≤ jobs }
     requires few { length files.now < 2 ^ 32 }
     requires size { bytes_in files.now < 2 ^ 32 }
-    ensures { Makes None limits files.now result }
+    ensures { Makes Dwarf None limits files.now result }
 {
     let table = make_table(alloc, gate, jobs, limits, files)?;
     write_table(alloc, &table, order_in(files))
 }
 
-/// The table that loaded files are merged to.
+/// The table that loaded ELF files are merged to.
 pub fn make_table<'a, G: Gate>(
     alloc: Global,
     gate: &G,

@@ -18,8 +18,8 @@ use world_io::{Gate, World};
 /// stored, and 4 for want of memory. On all but 0 it complains one line, in pieces and without memory; a complaint that
 /// fails ends the line and changes nothing else. All memory is taken before the store.
 ///
-/// So far only encoding without a base is done: other jobs are refused by 200, before anything is loaded. `rt` is for
-/// workers, which there are none of yet. `gate` is entered before each unit is read.
+/// So far encoding and showing are done, both without a base: other jobs are refused by 200, before anything is loaded. `rt`
+/// is for workers, which there are none of yet. `gate` is entered before each unit is read.
 pub fn run<R: Threads + Sync, W: World, G: Gate>(
     rt: &R,
     alloc: Global,
@@ -30,7 +30,7 @@ pub fn run<R: Threads + Sync, W: World, G: Gate>(
 ) -> u8
     requires { (limits.file_bytes < 2 ^ 32) × (limits.all_bytes < 2 ^ 32) }
     // 0: what is stored spells the table of the coarsest agreeing partition of the types of all units, or what is printed
-    // is the text of what is shown of it.
+    // is the text of what is shown of it, or of the table that a BTF file spells.
     ensures done { result ≡ 0 → Succeeds limits (job_of_words (map string_bytes words.now)) (W.meaning world.old) (W.meaning world.new) }
     // 1: the first refusal of the files has a number.
     ensures refused { result ≡ 1 → Refuses limits (job_of_words (map string_bytes words.now)) (W.meaning world.old) (W.meaning world.new) }

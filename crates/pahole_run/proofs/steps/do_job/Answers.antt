@@ -1,5 +1,5 @@
-use Rattle.std.proofs.Common.{◌≡◌, refl, sym, ◌∙◌}
-use Rattle.pahole_run.proofs.DoneLemmas.{done_later, done_over_base, done_show_base, done_show_btf}
+use Rattle.std.proofs.Common.{refl, sym, ◌∙◌}
+use Rattle.pahole_run.proofs.DoneLemmas.{done_later, done_over_base, done_show_base}
 use Rattle.pahole_run.proofs.steps.do_job.Goals as goal
 
 pub returns-then-is_some : goal.returns-then-is_some
@@ -12,12 +12,6 @@ returns-then-is_some-2 g c =
     rw (c.in-Show.is, c.ended_of_whole-then-is_some-2.ensures)
     (done_show_base c.args.limits _ c.in-Show.format c.in-Show.base c.in-Show.names c.in-Show.sizes c.in-Show.holes c.in-Show.line 0 c.in-Show.files
     (sym c.is_some-in-Show.ensures ∙ c.if-is_some-2.true))
-
-pub returns-then-is_btf : goal.returns-then-is_btf
-returns-then-is_btf g c =
-    rw (c.in-Show.is, c.ended_of_whole-then-is_btf.ensures)
-    (done_show_btf c.args.limits _ c.in-Show.format c.in-Show.base c.in-Show.names c.in-Show.sizes c.in-Show.holes c.in-Show.line 0 c.in-Show.files
-    (sym c.is_some-in-Show.ensures ∙ c.if-is_some-2.false) (sym c.is_btf.ensures ∙ c.if-is_btf.true))
 
 pub returns-in-Selfmade : goal.returns-in-Selfmade
 returns-in-Selfmade g c =
