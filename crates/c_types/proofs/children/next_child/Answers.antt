@@ -1,4 +1,4 @@
-use Rattle.std.proofs.Common.{◌≡◌, ◌+◌, ◌<◌, List, ◌∷◌, option_map, ap, ◌∙◌, subst, sym, arith}
+use Rattle.std.proofs.Common.{◌+◌, ◌<◌, List, ◌∷◌, option_map, ap, ◌∙◌, subst, sym, arith}
 use Rattle.entry_tree.specs.Items.{Given}
 use Rattle.entry_tree.specs.Walks.{given_entry}
 use Rattle.c_types.specs.Children.{children_of}
