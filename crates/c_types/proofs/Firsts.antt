@@ -1,11 +1,11 @@
 -- The first of some refusals.
-use Rattle.std.proofs.Common.{◌≡◌, ℕ, ◌<◌, ◌≤◌, ◌⊎◌, inl, inr, ◌==◌, nat_lt, Bool, true, false, List, [], ◌∷◌, ◌++◌, All, Contains, Option, None, Some, if◌then◌else◌, refl, sym, ◌∙◌, subst, append_assoc, arith}
+use Rattle.std.proofs.Common.{◌≡◌, ℕ, ◌<◌, ◌≤◌, inl, inr, ◌==◌, nat_lt, Bool, true, false, List, [], ◌∷◌, ◌++◌, All, Option, None, Some, if◌then◌else◌, refl, sym, ◌∙◌, subst, append_assoc, arith}
 use Rattle.std.proofs.lemmas.Bool.{eqb-true, eqb-false, ltb-true, ltb-false}
 use Rattle.std.proofs.lemmas.List.Elements.{All-nil, All-push, All-weaker, Contains-push, Contains-append_left}
 use Rattle.std.proofs.lemmas.List.{append-nil}
 use Rattle.c_types.specs.declared.fault.Rank.{Rank}
 use Rattle.c_types.specs.declared.fault.TypeFault.{TypeFault}
-use Rattle.c_types.specs.Faults.{rank_of, is_before, first_of, lesser, noted, least, ThenBy, IsNotAfter, IsFirstAmong}
+use Rattle.c_types.specs.Faults.{rank_of, is_before, lesser, noted, least, ThenBy, IsNotAfter, IsFirstAmong}
 use Rattle.c_types.specs.Laws.{LeastIsFirst}
 use Rattle.c_types.proofs.Formed.Refused.{least_none}
 

@@ -7,7 +7,6 @@ use Rattle.entry_tree.specs.Contexts.{sections_of}
 use Rattle.entry_tree.specs.Items.{Given, Coming}
 use Rattle.entry_tree.specs.Rising.{Rises, StandIn}
 use Rattle.entry_tree.specs.Walks.{entries_of}
-use Rattle.entry_tree.specs.declared.unit.Unit.{Unit}
 use Rattle.entry_tree.proofs.Rising.{entries_placed}
 use Rattle.c_types.specs.declared.source.SourceType.{SourceType}
 use Rattle.c_types.specs.declared.source.UnitTypes.{UnitTypes}

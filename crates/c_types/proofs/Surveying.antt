@@ -1,13 +1,11 @@
 -- Reading the places behind the lists of children of a walk.
-use Rattle.std.proofs.Common.{◌≡◌, ℕ, ◌+◌, ◌<◌, ◌≤◌, ◌⊎◌, inl, inr, nat_eq, cond, Bool, true, false, List, [], ◌∷◌, ◌++◌, All, IfSome, Option, None, Some, option_map, refl, sym, ap, ◌∙◌, subst, arith, append_assoc}
+use Rattle.std.proofs.Common.{◌≡◌, ℕ, ◌<◌, ◌≤◌, ◌⊎◌, inl, inr, nat_eq, cond, Bool, true, false, List, [], ◌∷◌, ◌++◌, All, Option, None, Some, option_map, refl, sym, ap, ◌∙◌, subst, arith, append_assoc}
 use Rattle.std.proofs.lemmas.Bool.{eq-eqb}
 use Rattle.std.proofs.lemmas.List.Elements.{All-nil, All-cons, All-head, All-tail, All-push, All-pop}
-use Rattle.entry_tree.specs.declared.fault.WalkFault.{WalkFault}
-use Rattle.entry_tree.specs.Items.{Given, Coming}
+use Rattle.entry_tree.specs.Items.{Given}
 use Rattle.entry_tree.specs.Rising.{Rises}
 use Rattle.c_types.specs.declared.skips.Opened.{Opened}
-use Rattle.c_types.specs.Skips.{coming_with, AreAsDeep, IsBehind, Reads, AreRightAmong, IsOpened, AreNested}
-use Rattle.c_types.proofs.Passing.{read_is}
+use Rattle.c_types.specs.Skips.{AreAsDeep, IsBehind, AreRightAmong, IsOpened, AreNested}
 
 apart : (a b : ℕ) → a < b → nat_eq a b ≡ false
 apart a b lt = grind (arith, lt)
@@ -24,30 +22,30 @@ map_cond f true x o = refl
 map_cond f false x o = refl
 
 -- a place is put at the offset of an entry
-module _ (old new : ℕ → Option Coming) (first : ℕ) (w : Coming) (puts : (q : ℕ) → new q ≡ cond (nat_eq first q) (Some w) (old q)) (ending : Option WalkFault) where
-  unchanged : (e : Given) (rest : List Given) → nat_eq first e.at ≡ false → IsBehind e.depth rest ending (old e.at) → IsBehind e.depth rest ending (new e.at)
-  unchanged e rest apart h = subst (λ (o : Option Coming). IsBehind e.depth rest ending o) (sym (puts e.at ∙ ap (λ (t : Bool). cond t (Some w) (old e.at)) apart)) h
+module _ (old new : ℕ → Option (List Given)) (first : ℕ) (next : List Given) (puts : (q : ℕ) → new q ≡ cond (nat_eq first q) (Some next) (old q)) where
+  unchanged : (e : Given) (rest : List Given) → nat_eq first e.at ≡ false → IsBehind e.depth rest (old e.at) → IsBehind e.depth rest (new e.at)
+  unchanged e rest apart h = subst (IsBehind e.depth rest) (sym (puts e.at ∙ ap (λ (t : Bool). cond t (Some next) (old e.at)) apart)) h
 
-  later_unchanged : (es : List Given) → All (λ (f : Given). first < f.at) es → AreRightAmong old es ending → AreRightAmong new es ending
+  later_unchanged : (es : List Given) → All (λ (f : Given). first < f.at) es → AreRightAmong old es → AreRightAmong new es
   later_unchanged [] h right = tt
   later_unchanged (e ∷ es) h right =
       (unchanged e es (apart first e.at (All-head (λ (f : Given). first < f.at) e es h)) right.0, later_unchanged es (All-tail (λ (f : Given). first < f.at) e es h) right.1)
 
-  put : (before : List Given) (e : Given) (rest : List Given) → e.at ≡ first → Rises (before ++ e ∷ rest) → IsBehind e.depth rest ending (Some w) → AreRightAmong old (before ++ e ∷ rest) ending → AreRightAmong new (before ++ e ∷ rest) ending
+  put : (before : List Given) (e : Given) (rest : List Given) → e.at ≡ first → Rises (before ++ e ∷ rest) → IsBehind e.depth rest (Some next) → AreRightAmong old (before ++ e ∷ rest) → AreRightAmong new (before ++ e ∷ rest)
   put [] e rest at rise h right = (
-    subst (λ (o : Option Coming). IsBehind e.depth rest ending o) (sym (puts e.at ∙ ap (λ (t : Bool). cond t (Some w) (old e.at)) (eq-eqb first e.at (sym at)))) h,
+    subst (IsBehind e.depth rest) (sym (puts e.at ∙ ap (λ (t : Bool). cond t (Some next) (old e.at)) (eq-eqb first e.at (sym at)))) h,
     later_unchanged rest (subst (λ (n : ℕ). All (λ (f : Given). n < f.at) rest) at rise.0) right.1,
   )
   put (g ∷ gs) e rest at rise h right =
       (unchanged g (gs ++ e ∷ rest) (apart_back g.at first (subst (λ (n : ℕ). g.at < n) at (comes_after g.at gs e rest rise.0))) right.0, put gs e rest at rise.1 h right.1)
 
-  pub closed : (all : List Given) (o : Opened) → o.first ≡ first → Rises all → IsOpened all w.entries o → w.ending ≡ ending → AreRightAmong old all ending → AreRightAmong new all ending
-  closed all o at rise h is right =
+  pub closed : (all : List Given) (o : Opened) → o.first ≡ first → Rises all → IsOpened all next o → AreRightAmong old all → AreRightAmong new all
+  closed all o at rise h right =
       let before = h.0 in
       let over = h.1 in
       let e = h.2 in
-      subst (λ (es : List Given). AreRightAmong new es ending) (sym h.3)
-      (put before e (over ++ w.entries) (h.4 ∙ at) (subst Rises h.3 rise) (over, subst (λ (d : ℕ). AreAsDeep d over) (sym h.5) h.6, refl, is) (subst (λ (es : List Given). AreRightAmong old es ending) h.3 right))
+      subst (AreRightAmong new) (sym h.3)
+      (put before e (over ++ next) (h.4 ∙ at) (subst Rises h.3 rise) (over, subst (λ (d : ℕ). AreAsDeep d over) (sym h.5) h.6, refl) (subst (AreRightAmong old) h.3 right))
 
 deep_push : (depth : ℕ) (over : List Given) (e : Given) → AreAsDeep depth over → depth ≤ e.depth → AreAsDeep depth (over ++ e ∷ [])
 deep_push depth [] e h le = (le, tt)
@@ -78,29 +76,13 @@ nested_pop (x ∷ xs) o h =
     let last = All-pop (λ (p : Opened). x.depth ≤ p.depth) (xs ++ o ∷ []) xs (Some o) refl h.0 in
     ((last.0, more.0), All-cons (λ (p : Opened). p.depth ≤ o.depth) x xs last.1 more.1)
 
-pub nowhere : (behind : ℕ → Option Coming) → ((q : ℕ) → behind q ≡ None) → (es : List Given) (ending : Option WalkFault) → AreRightAmong behind es ending
-nowhere behind none [] ending = tt
-nowhere behind none (e ∷ es) ending = (subst (λ (o : Option Coming). IsBehind e.depth es ending o) (sym (none e.at)) tt, nowhere behind none es ending)
-
-pub same_ending : (found : Option Given) (w : Coming) → (coming_with found w).ending ≡ w.ending
-same_ending None w = refl
-same_ending (Some e) w = refl
+pub nowhere : (behind : ℕ → Option (List Given)) → ((q : ℕ) → behind q ≡ None) → (es : List Given) → AreRightAmong behind es
+nowhere behind none [] = tt
+nowhere behind none (e ∷ es) = (subst (IsBehind e.depth es) (sym (none e.at)) tt, nowhere behind none es)
 
 pub all_first : {X : Type 0} (P : X → Type 0) (xs ys : List X) → All P (xs ++ ys) → All P xs
 all_first P [] ys h = All-nil P
 all_first P (x ∷ xs) ys h = All-cons P x xs (All-head P x (xs ++ ys) h) (all_first P xs ys (All-tail P x (xs ++ ys) h))
-
-ending_left : (old new : Coming) (found : Option Given) → Reads old new found → new.ending ≡ old.ending
-ending_left old new None r = ap (λ (w : Coming). w.ending) (sym r.0)
-ending_left old new (Some e) r = ap (λ (w : Coming). w.ending) (sym r)
-
--- a step of the survey: the next entry is read, and lists are closed before it
-pub surveyed : (before after : ℕ → Option Coming) (all : List Given) (ending : Option WalkFault) (old new : Coming) (found : Option Given) (os : List Opened) → Reads old new found → old.ending ≡ ending → Rises all → All (IsOpened all old.entries) os
-    → ((es : List Given) → Rises es → All (IsOpened es (coming_with found new).entries) os → AreRightAmong before es new.ending → AreRightAmong after es new.ending) → AreRightAmong before all ending → AreRightAmong after all ending
-surveyed before after all ending old new found os r is rise opened closes right =
-    let e : new.ending ≡ ending = ending_left old new found r ∙ is in
-    subst (λ (f : Option WalkFault). AreRightAmong after all f) e
-    (closes all rise (subst (λ (w : Coming). All (IsOpened all w.entries) os) (sym (read_is old new found r)) opened) (subst (λ (f : Option WalkFault). AreRightAmong before all f) (sym e) right))
 
 -- one more list is opened, or none
 pub all_added : (P : Opened → Type 0) (os new : List Opened) (o : Opened) → (new ≡ os) ⊎ (new ≡ os ++ o ∷ []) → All P os → P o → All P new

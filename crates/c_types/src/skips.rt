@@ -2,18 +2,18 @@
 //! again for each of the structures round it.
 ghost use Rattle.std.specs.Prelude.{◌≡◌, ◌≤◌, ◌<◌, ◌++◌, ◌∷◌, [], ◌⊎◌, List, All, OnOk, IfOk, IfSome};
 ghost use Rattle.std.specs.Option.{option_map};
-ghost use Rattle.entry_tree.specs.Items.{Given, Coming};
+ghost use Rattle.entry_tree.specs.Items.{Given};
 ghost use Rattle.entry_tree.specs.Rising.{Rises};
 ghost use Rattle.entry_tree.specs.Walks.{given_entry};
 ghost use Rattle.c_types.specs.declared.skips.Opened.{Opened};
-ghost use Rattle.c_types.specs.Skips.{coming_with, coming_from, behind_in, AreRightAmong, AreRight, Reads, IsOpened, AreNested};
+ghost use Rattle.c_types.specs.Skips.{pending, entries_from, behind_in, AreRightAmong, AreRight, Reads, IsOpened, AreNested};
 
 use crate::tags::{ARRAY_TYPE, ENUMERATION_TYPE, STRUCTURE_TYPE, SUBROUTINE_TYPE, UNION_TYPE};
 use entry_tree::{Entry, Walk};
 use std::alloc::{AllocError, Global};
 use std::collections::HashMap;
 
-/// A place in a walk: the entry that comes next, where it is read already, and the walk behind it.
+/// A place in a walk: the entry that comes next, none at the end, and the walk behind it.
 #[derive(Drop)]
 struct Place<'w, 'a> {
     next: Option<Entry<'w, 'a>>,
@@ -36,7 +36,7 @@ struct Opened {
 
 /// The next entry; none at the walk's end or before its fault.
 pub(crate) fn next_entry<'w, 'a>(walk: &mut Walk<'w, 'a>) -> Option<Entry<'w, 'a>>
-    ensures { Reads walk.old walk.new (option_map given_entry result) }
+    ensures { Reads walk.old.entries walk.old walk.new (option_map given_entry result) }
 {
     match walk.next() {
         Ok(found) => found,
@@ -64,7 +64,7 @@ fn close_lists<'w, 'a>(
     walk: &Walk<'w, 'a>,
 ) -> Result<(), AllocError>
     requires { AreNested lists.old.items }
-    ensures right { OnOk result ((all : List Given) → Rises all → All (IsOpened all (coming_with (option_map given_entry next.now) walk.now).entries) lists.old.items → AreRightAmong (behind_in skips.old) all walk.now.ending → AreRightAmong (behind_in skips.new) all walk.now.ending) }
+    ensures right { OnOk result ((all : List Given) → Rises all → All (IsOpened all (pending (option_map given_entry next.now) walk.now.entries)) lists.old.items → AreRightAmong (behind_in skips.old) all → AreRightAmong (behind_in skips.new) all) }
     ensures fewer { OnOk result ((closed : List Opened) × (lists.old.items ≡ lists.new.items ++ closed)) }
     ensures nested { OnOk result (AreNested lists.new.items) }
     ensures shallow { OnOk result (All (λ o. o.depth ≤ depth) lists.new.items) }
@@ -120,7 +120,7 @@ fn open_list(
 impl<'w, 'a> Skips<'w, 'a> {
     /// No places.
     pub(crate) fn none(alloc: Global) -> Skips<'w, 'a>
-        ensures { (walk : Coming) → AreRight result walk }
+        ensures { (es : List Given) → AreRightAmong (behind_in result) es }
     {
         Skips {
             places: HashMap::new(alloc),
@@ -130,17 +130,17 @@ impl<'w, 'a> Skips<'w, 'a> {
     /// The next entry behind the list of children that begins at an offset, for a walk that stands behind its
     /// first entry; or the next entry in that list, where no place is kept.
     pub(crate) fn next_behind(&self, walk: &mut Walk<'w, 'a>, first: u64) -> Option<Entry<'w, 'a>>
-        ensures { Reads (coming_from (behind_in self.now first) walk.old) walk.new (option_map given_entry result) }
+        ensures { Reads (entries_from (behind_in self.now first) walk.old.entries) walk.old walk.new (option_map given_entry result) }
     {
         match self.places.get(&first) {
             None => next_entry(walk),
-            Some(place) => {
-                *walk = place.walk.copy();
-                match place.next {
-                    None => next_entry(walk),
-                    Some(entry) => Some(entry),
+            Some(place) => match place.next {
+                None => None,
+                Some(entry) => {
+                    *walk = place.walk.copy();
+                    Some(entry)
                 }
-            }
+            },
         }
     }
 

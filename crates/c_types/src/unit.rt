@@ -1,17 +1,17 @@
 //! The types of one unit.
-ghost use Rattle.std.specs.Prelude.{◌≡◌, ◌++◌, ◌||◌, ◌==◌, ◌+◌, ◌<◌, ◌-◌, ◌^◌, OnOk, IfOk};
+ghost use Rattle.std.specs.Prelude.{◌≡◌, ◌++◌, ◌||◌, ◌==◌, ◌+◌, ◌<◌, ◌-◌, ◌^◌, List, OnOk, IfOk};
 ghost use Rattle.dwarf_forms.specs.Values.{IsContext};
 ghost use Rattle.dwarf_forms.specs.Meanings.{sections};
 ghost use Rattle.elf_sections.specs.Images.{file_of};
 ghost use Rattle.elf_sections.specs.Sections.{section_bytes};
 ghost use Rattle.elf_sections.specs.declared.fault.Kind.TheVariants.{Abbrev as AbbrevSection};
 ghost use Rattle.entry_tree.specs.Contexts.{IsUnitOf, within_of};
-ghost use Rattle.entry_tree.specs.Items.{Coming};
+ghost use Rattle.entry_tree.specs.Items.{Given};
 ghost use Rattle.entry_tree.specs.Rising.{Rises};
 ghost use Rattle.entry_tree.specs.Roots.{root_of};
 ghost use Rattle.entry_tree.specs.Walks.{given_entry};
 ghost use Rattle.c_types.specs.Faults.{noted};
-ghost use Rattle.c_types.specs.Skips.{AreRight};
+ghost use Rattle.c_types.specs.Skips.{behind_in, AreRightAmong, AreRight};
 ghost use Rattle.c_types.specs.Types.{plain_row_of, row_of, made_in, listed, refused_in, or_least, unit_types, types_in, is_passed_over, of_abbrev, after_root, types_of_unit_of, Gives};
 
 use crate::arrays::array;
@@ -156,7 +156,7 @@ struct Surroundings<'w, 'a> {
 
 /// Goes on to an entry that isn't in the outermost one.
 fn go_out(alloc: Global, around: &mut Surroundings<'_, '_>, entry: &Entry<'_, '_>)
-    ensures { (walk : Coming) → AreRight around.old.skips walk → AreRight around.new.skips walk }
+    ensures { (es : List Given) → AreRightAmong (behind_in around.old.skips) es → AreRightAmong (behind_in around.new.skips) es }
 {
     around.outermost = depth_with_parts(entry);
     if around.is_read {

@@ -6,8 +6,8 @@ use Rattle.entry_tree.specs.Walks.{given_entry}
 use Rattle.c_types.specs.declared.skips.Opened.{Opened}
 use Rattle.c_types.specs.declared.skips.Place.{Place}
 use Rattle.c_types.specs.declared.skips.Skips.{Skips}
-use Rattle.c_types.specs.Skips.{coming_with, coming_at, behind_in, IsOpened}
-use Rattle.c_types.proofs.Surveying.{map_cond, closed, nested_pop, same_ending, all_first}
+use Rattle.c_types.specs.Skips.{pending, entries_at, behind_in, IsOpened}
+use Rattle.c_types.proofs.Surveying.{map_cond, closed, nested_pop, all_first}
 use Rattle.c_types.proofs.skips.close_lists.Goals as goal
 
 pub returns-then-list-depth-clause-shallow : goal.returns-then-list-depth-clause-shallow
@@ -26,21 +26,21 @@ deeper-preserved c =
     let list = c.in-Some.list in
     let left = c.pop.new.self.items in
     let found = option_map given_entry c.args.next.now in
-    let place = coming_with (option_map given_entry c.args.next.now) c.args.walk.now in
+    let next = pending (option_map given_entry c.args.next.now) c.args.walk.now.entries in
     let old = c.deeper.skips in
     let new : Skips = record { places = c.insert.new.self } in
     let items : c.deeper.lists.items ≡ c.pop.new.self.items ++ c.in-Some.list ∷ [] = c.in-Some.ensures.items in
     let low = nested_pop left list (rw items at c.deeper.invariant.nested) in
     let fewer = c.deeper.invariant.fewer in
     let kept : Place = record { next = c.args.next.now; walk = c.copy.result } in
-    let puts : (q : ℕ) → behind_in (record { places = c.insert.new.self }) q ≡ cond (nat_eq c.in-Some.list.first q) (Some (coming_with (option_map given_entry c.args.next.now) c.args.walk.now)) (behind_in c.deeper.skips q) =
-    λ q. ap (λ (o : Option Place). option_map coming_at o) (c.in_ok-insert-in-Some.ensures.updates.0 q) ∙ map_cond coming_at (nat_eq list.first q) kept (get nat_eq c.deeper.skips.places q)
-    ∙ ap (λ (w : Coming). cond (nat_eq list.first q) (Some (coming_with found w)) (behind_in old q)) c.copy.ensures in
+    let puts : (q : ℕ) → behind_in (record { places = c.insert.new.self }) q ≡ cond (nat_eq c.in-Some.list.first q) (Some (pending (option_map given_entry c.args.next.now) c.args.walk.now.entries)) (behind_in c.deeper.skips q) =
+    λ q. ap (λ (o : Option Place). option_map entries_at o) (c.in_ok-insert-in-Some.ensures.updates.0 q) ∙ map_cond entries_at (nat_eq list.first q) kept (get nat_eq c.deeper.skips.places q)
+    ∙ ap (λ (w : Coming). cond (nat_eq list.first q) (Some (pending found w.entries)) (behind_in old q)) c.copy.ensures in
     record {
       right = λ all rise opened right.
-          let those = all_first (IsOpened all place.entries) c.deeper.lists.items fewer.0 (rw fewer.1 at opened) in
-          let this = All-pop (IsOpened all place.entries) c.deeper.lists.items left (Some list) items those in
-          closed (behind_in old) (behind_in new) list.first place puts c.args.walk.now.ending all list refl rise this.1 (same_ending found c.args.walk.now) (c.deeper.invariant.right all rise opened right);
+          let those = all_first (IsOpened all next) c.deeper.lists.items fewer.0 (rw fewer.1 at opened) in
+          let this = All-pop (IsOpened all next) c.deeper.lists.items left (Some list) items those in
+          closed (behind_in old) (behind_in new) list.first next puts all list refl rise this.1 (c.deeper.invariant.right all rise opened right);
       fewer = (list ∷ fewer.0, fewer.1 ∙ ap (λ (os : List Opened). os ++ fewer.0) items ∙ append_assoc left (list ∷ []) fewer.0);
       nested = low.0;
     }

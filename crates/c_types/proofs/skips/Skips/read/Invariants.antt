@@ -6,8 +6,7 @@ use Rattle.c_types.proofs.skips.Skips.read.Given as goal
 abbrev pub invariant-entries : goal.invariant-entries
 invariant-entries l = record {
   before : (before : List Given) × (l.initial.walk.entries ≡ before ++ l.walk.entries);
-  ending : l.walk.ending ≡ l.initial.walk.ending;
-  right : AreRightAmong (behind_in l.skips) l.initial.walk.entries l.initial.walk.ending;
+  right : AreRightAmong (behind_in l.skips) l.initial.walk.entries;
   opened : All (IsOpened l.initial.walk.entries l.walk.entries) l.lists.items;
   nested : AreNested l.lists.items;
 }
