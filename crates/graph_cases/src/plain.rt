@@ -81,6 +81,7 @@ fn is_same_head(a: &Head, b: &Head) -> bool {
         && a.name == b.name
         && a.flag == b.flag
         && a.size == b.size
+        && a.extra == b.extra
         && a.pieces.len() == b.pieces.len()
         && a.pieces
             .iter()

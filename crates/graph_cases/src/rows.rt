@@ -7,6 +7,8 @@ pub const INT: u8 = 1;
 
 pub const PTR: u8 = 2;
 
+pub const ARRAY: u8 = 3;
+
 pub const STRUCT: u8 = 4;
 
 pub const UNION: u8 = 5;
@@ -33,6 +35,8 @@ pub struct Head {
     pub name: &'static [u8],
     pub flag: bool,
     pub size: u32,
+    /// The last word of an INT, the number of elements of an ARRAY.
+    pub extra: u32,
     pub pieces: &'static [Piece],
 }
 
@@ -57,6 +61,7 @@ pub fn bare(kind: u8, name: &'static [u8], size: u32) -> Head {
         name,
         flag: false,
         size,
+        extra: 0,
         pieces: &[],
     }
 }
@@ -68,6 +73,7 @@ pub fn parted(kind: u8, name: &'static [u8], size: u32, pieces: &'static [Piece]
         name,
         flag: false,
         size,
+        extra: 0,
         pieces,
     }
 }
@@ -86,7 +92,7 @@ fn label_of(alloc: Global, head: &Head) -> Result<Label<'static>, AllocError> {
         name: Name::new(head.name),
         flag: head.flag,
         size: head.size,
-        extra: 0,
+        extra: head.extra,
         parts: Parts::new(parts),
     })
 }
