@@ -130,7 +130,7 @@ fn is_text(name: &Name<'_>) -> bool
 
 /// What the types of a kind have: limits of the size and of the extra number, whether kind_flag may be set, the number
 /// of types that it refers to besides those of its parts, and whether these refer to types, where it has parts.
-#[derive(Clone, Copy, Debug)]
+#[derive(Clone, Copy)]
 struct KindRow {
     size: u64,
     extra: u64,

@@ -22,14 +22,14 @@ pub const TYPEDEF: u8 = 8;
 pub const ENUM64: u8 = 19;
 
 /// A member or an enumerator: its name and its value.
-#[derive(Clone, Copy, Debug)]
+#[derive(Clone, Copy)]
 pub struct Piece {
     pub name: &'static [u8],
     pub value: u64,
 }
 
 /// What a type says of itself, apart from what it refers to.
-#[derive(Clone, Copy, Debug)]
+#[derive(Clone, Copy)]
 pub struct Head {
     pub kind: u8,
     pub name: &'static [u8],
@@ -41,14 +41,14 @@ pub struct Head {
 }
 
 /// A type of a table.
-#[derive(Debug, Drop)]
+#[derive(Drop)]
 pub struct Row {
     pub head: Head,
     pub targets: Vec<Ref>,
 }
 
 /// A graph: its types, the first `base` of which are those of a base.
-#[derive(Debug, Drop)]
+#[derive(Drop)]
 pub struct Table {
     pub base: usize,
     pub rows: Vec<Row>,

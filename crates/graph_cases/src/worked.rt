@@ -9,7 +9,7 @@ use c_model::Ref;
 use std::alloc::{AllocError, Global};
 
 /// What the types here say of themselves.
-#[derive(Clone, Copy, Debug)]
+#[derive(Clone, Copy)]
 pub enum Type {
     Pointer,
     Number,
@@ -75,7 +75,7 @@ fn head_of(which: Type) -> Head {
 pub type Entry = (Type, &'static [u32]);
 
 /// A graph, its classes and its table.
-#[derive(Clone, Copy, Debug)]
+#[derive(Clone, Copy)]
 pub struct Worked {
     pub name: &'static str,
     /// How many types are of a base.
