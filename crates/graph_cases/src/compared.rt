@@ -1,6 +1,6 @@
 //! A table decided by both programs.
 use crate::fault::Fault;
-use crate::merged::merged;
+use crate::merged::{Found, merged};
 use crate::plain::{Relation, View, opened};
 use crate::rows::{Table, types_of};
 use std::alloc::Global;
@@ -64,15 +64,19 @@ impl Tally {
     }
 }
 
-/// The numbers of the classes that the proved program finds, and whether the plain one finds the same relation.
-pub fn decided(alloc: Global, table: &Table, tally: &mut Tally) -> Result<(Vec<u32>, bool), Fault> {
+/// The graph and its classes that the proved program finds, and whether the plain one finds the same relation.
+pub fn decided(
+    alloc: Global,
+    table: &Table,
+    tally: &mut Tally,
+) -> Result<(Found<'static>, bool), Fault> {
     let base = table.rows.get(..table.base).ok_or(Fault::Unfit)?;
     let own = table.rows.get(table.base..).ok_or(Fault::Unfit)?;
     let found = merged(alloc, types_of(alloc, base)?, types_of(alloc, own)?)?;
-    let numbers = found.refined.classes.into_numbers().into_items();
+    let numbers = found.refined.classes.numbers();
     let view = opened(alloc, table)?;
     let relation = view.coarsest(alloc)?;
-    let same = numbers.len() == table.rows.len() && is_relation(&numbers, &relation);
+    let same = numbers.len() == table.rows.len() && is_relation(numbers, &relation);
     for x in 0..table.rows.len() {
         for y in 0..x {
             if relation.relates(x, y) {
@@ -84,5 +88,5 @@ pub fn decided(alloc: Global, table: &Table, tally: &mut Tally) -> Result<(Vec<u
             tally.take_forward(&view, &relation, x, defined);
         }
     }
-    Ok((numbers, same))
+    Ok((found, same))
 }

@@ -1,11 +1,15 @@
 //! What calls ask of a graph, tested.
-ghost use Rattle.std.specs.Prelude.{◌≡◌, ◌<◌, ℕ, All, Some, length, IsTrue, IfSome};
+ghost use Rattle.std.specs.Prelude.{◌≡◌, ◌<◌, ◌^◌, ℕ, All, Some, length, IsTrue, IfSome};
 ghost use Rattle.c_model.specs.Graph.{IsBelow, RefersWithin};
-ghost use Rattle.c_model.specs.Kinds.{HasNoNul, IsWellFormed};
+ghost use Rattle.std.specs.Option.{option_copied};
+ghost use Rattle.btf_strings.specs.Kept.{IsSection};
+ghost use Rattle.c_model.specs.Kinds.{HasNoNul, IsWellFormed, row_of};
+ghost use Rattle.graph_cases.specs.Rows.{parts_by};
 ghost use Rattle.c_model.specs.Partition.{label_at, targets_at};
 ghost use Rattle.c_model.specs.Forwards.{Tag, declaration_at, forward_at, HasFittingForwards};
 
-use c_model::{CType, Graph, Nodes, Ref, is_same_label};
+use crate::rows::{ARRAY, ENUM, FWD, INT, PTR, STRUCT, TYPEDEF, UNION};
+use c_model::{CType, Graph, Nodes, Part, Ref, is_same_label};
 use dw_base::Name;
 use forward_rule::FwdIndex;
 use forward_rule::families::declared_family;
@@ -36,7 +40,7 @@ fn are_below(limit: u32, targets: &[Ref]) -> bool
 }
 
 /// Whether each reference of these types is void or to a node below `limit`.
-fn refer_below(limit: u32, nodes: &[CType<'_>]) -> bool
+pub fn refer_below(limit: u32, nodes: &[CType<'_>]) -> bool
     ensures { IsTrue result → RefersWithin limit nodes.now }
 {
     for node in nodes {
@@ -124,30 +128,112 @@ fn is_text(name: &Name<'_>) -> bool
     true
 }
 
-/// Whether a type is a well-formed INT of at most `MOST` bytes and no encoding.
-fn is_int(t: &CType<'_>) -> bool
-    ensures { IsTrue result → IsWellFormed t.now }
-{
-    let label = &t.label;
-    let parts = label.parts.items();
-    let targets = t.targets.items();
-    if label.kind != 1 || label.flag || label.size > 4_000_000 || label.extra != 0 {
-        return false;
-    }
-    if parts.len() != 0 || targets.len() != 0 {
-        return false;
-    }
-    is_text(&label.name)
+/// What the types of a kind have: limits of the size and of the extra number, whether kind_flag may be set, the number
+/// of types that it refers to besides those of its parts, and whether these refer to types, where it has parts.
+#[derive(Clone, Copy)]
+struct KindRow {
+    size: u64,
+    extra: u64,
+    flag: bool,
+    targets: usize,
+    refers: Option<bool>,
 }
 
-/// Whether each type is such an INT.
-pub fn are_ints(nodes: &[CType<'_>]) -> bool
-    ensures { IsTrue result → All IsWellFormed nodes.now }
+/// The row of a kind of the table of kinds that graphs here have.
+fn row_at(kind: u8) -> Option<KindRow>
+    ensures { IfSome result (λ r. row_of kind ≡ Some (record { size = r.size; extra = r.extra; flag = r.flag; targets = r.targets; parts = parts_by r.refers })) }
 {
-    for t in nodes {
-        if !is_int(t) {
+    let none = KindRow {
+        size: 1,
+        extra: 1,
+        flag: false,
+        targets: 0,
+        refers: None,
+    };
+    let word = 1 << 32;
+    match kind {
+        INT => Some(KindRow {
+            size: word,
+            extra: word,
+            ..none
+        }),
+        PTR | TYPEDEF => Some(KindRow { targets: 1, ..none }),
+        ARRAY => Some(KindRow {
+            extra: word,
+            targets: 2,
+            ..none
+        }),
+        STRUCT | UNION => Some(KindRow {
+            size: word,
+            flag: true,
+            refers: Some(true),
+            ..none
+        }),
+        ENUM => Some(KindRow {
+            size: word,
+            flag: true,
+            refers: Some(false),
+            ..none
+        }),
+        FWD => Some(KindRow { flag: true, ..none }),
+        _ => None,
+    }
+}
+
+/// Whether the names of these parts have no byte NUL, and their values are words.
+fn are_words(parts: &[Part<'_>]) -> bool
+    ensures { IsTrue result → All (λ p. HasNoNul p.name × (p.value < 2 ^ 32)) parts.now }
+{
+    for part in parts {
+        if !is_text(&part.name) || part.value > 0xffff_ffff {
             return false;
         }
     }
     true
+}
+
+/// Whether a type is well formed.
+fn is_formed(t: &CType<'_>) -> bool
+    ensures { IsTrue result → IsWellFormed t.now }
+{
+    let label = &t.label;
+    let Some(row) = row_at(label.kind) else {
+        return false;
+    };
+    let parts = label.parts.items();
+    let count = parts.len();
+    if u64::from(label.size) >= row.size || u64::from(label.extra) >= row.extra {
+        return false;
+    }
+    if (label.flag && !row.flag) || count > 65_535 {
+        return false;
+    }
+    let more = match row.refers {
+        None if count != 0 => return false,
+        Some(true) => count,
+        _ => 0,
+    };
+    t.targets.items().len() == row.targets + more && are_words(parts) && is_text(&label.name)
+}
+
+/// Whether each type is well formed.
+pub fn are_formed(nodes: &[CType<'_>]) -> bool
+    ensures { IsTrue result → All IsWellFormed nodes.now }
+{
+    for t in nodes {
+        if !is_formed(t) {
+            return false;
+        }
+    }
+    true
+}
+
+/// Whether these are the strings of a base, or there is none.
+pub fn is_base(names: Option<&[u8]>) -> bool
+    ensures { IsTrue result → IfSome (option_copied names.entry) IsSection }
+{
+    match names {
+        None => true,
+        Some(section) => section.len() < 1000 && section.first().copied() == Some(0),
+    }
 }

@@ -7,7 +7,7 @@ use c_model::Ref;
 use std::alloc::{AllocError, Global};
 
 /// Numbers that look drawn, by a linear congruence modulo 2^64.
-#[derive(Debug, Drop)]
+#[derive(Drop)]
 pub struct Draws {
     state: u64,
 }
@@ -29,7 +29,7 @@ impl Draws {
 }
 
 /// A row that is repeated: its references are counted from its own place.
-#[derive(Clone, Copy, Debug)]
+#[derive(Clone, Copy)]
 struct Pattern {
     head: Head,
     steps: [u64; 2],

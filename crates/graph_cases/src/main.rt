@@ -10,18 +10,20 @@ mod merged;
 mod plain;
 mod rows;
 mod sizes;
+mod tables;
 mod worked;
 
 use anyhow::Error;
 use compared::{Tally, decided, is_one_relation};
 use made::{Draws, made_table};
 use sizes::{
-    all_differ, empty_rounds, ints_of_sizes, ints_table, long_name_table, ring_has_two_classes,
+    all_differ, empty_rounds, ints_of_sizes, long_name_table, ring_has_two_classes, table_len,
 };
 use split_base::TableFault;
 use std::alloc::Global;
 use std::process::ExitCode;
-use worked::worked_graphs;
+use tables::{built, is_table, joined};
+use worked::{Worked, based_graphs, forward_graphs, plain_graphs, table_of};
 
 /// How many graphs are made.
 const MADE: u64 = 300;
@@ -29,6 +31,7 @@ const MADE: u64 = 300;
 fn main(rt: HostRuntime) -> ExitCode {
     let alloc = rt.alloc();
     let all = worked_agree(&rt, alloc)
+        .and_then(|first| Ok(joins_hold(&rt, alloc)? && first))
         .and_then(|first| Ok(made_agree(&rt, alloc)? && first))
         .and_then(|first| Ok(limits_hold(&rt, alloc)? && first));
     match all {
@@ -41,25 +44,50 @@ fn main(rt: HostRuntime) -> ExitCode {
     }
 }
 
-/// The worked graphs: both programs find what is written beside them.
-fn worked_agree<R: Print>(rt: &R, alloc: Global) -> Result<bool, Error> {
+/// Whether both programs find the classes that are written beside a graph, and the table is the one there.
+fn worked_agrees(alloc: Global, worked: &Worked, tally: &mut Tally) -> Result<bool, Error> {
+    let rows = table_of(alloc, worked.base, worked.types)?;
+    let (found, same) = decided(alloc, &rows, tally)?;
+    let table = built(alloc, &found, worked.base_names)??;
+    Ok(
+        same && is_one_relation(found.refined.classes.numbers(), worked.classes)
+            && is_table(alloc, &table, worked)?,
+    )
+}
+
+/// How many of these graphs have other classes or another table than are written beside them. Names them.
+fn differing<R: Print>(rt: &R, alloc: Global, graphs: &[Worked]) -> Result<u64, Error> {
     let mut differ = 0u64;
     let mut tally = Tally::default();
-    let all = worked_graphs(alloc)?;
-    for worked in &all {
-        let (numbers, same) = decided(alloc, &worked.table, &mut tally)?;
-        if !same || !is_one_relation(&numbers, &worked.want) {
+    for worked in graphs {
+        if !worked_agrees(alloc, worked, &mut tally)? {
             println!(rt; "{} differs", worked.name)?;
             differ = differ.saturating_add(1);
         }
     }
-    let verdict = if differ == 0 {
-        "as expected"
-    } else {
-        "some differ"
-    };
-    println!(rt; "worked graphs: {}, {}", all.len(), verdict)?;
-    Ok(differ == 0)
+    Ok(differ)
+}
+
+/// The worked graphs: classes and tables are what is written beside them.
+fn worked_agree<R: Print>(rt: &R, alloc: Global) -> Result<bool, Error> {
+    let mut count = 0usize;
+    let mut all = true;
+    for graphs in [plain_graphs(), forward_graphs(), based_graphs()] {
+        count = count.saturating_add(graphs.len());
+        all = differing(rt, alloc, graphs)? == 0 && all;
+    }
+    let verdict = if all { "as expected" } else { "some differ" };
+    println!(rt; "worked graphs with their tables: {count}, {verdict}")?;
+    Ok(all)
+}
+
+/// A base and a file at the limit of nodes.
+fn joins_hold<R: Print>(rt: &R, alloc: Global) -> Result<bool, Error> {
+    let few = joined(alloc, 4)?;
+    println!(rt; "2 types of a base and 3 of a file, at most 4 nodes: {few:?}")?;
+    let enough = joined(alloc, 5)?;
+    println!(rt; "the same, at most 5 nodes: {enough:?}")?;
+    Ok(few == Err(TableFault::NodesTooMany(5)) && enough == Ok(true))
 }
 
 /// The made graphs: both programs find one relation.
@@ -119,7 +147,7 @@ fn limits_hold<R: Print>(rt: &R, alloc: Global) -> Result<bool, Error> {
     let ints = ints_of_sizes(alloc, 1 << 20)?;
     let apart = all_differ(alloc, &ints)?;
     println!(rt; "1048576 sizes of INT, all differ: {}", said(apart))?;
-    let table = ints_table(alloc, &ints)?;
+    let table = table_len(alloc, &ints)?;
     println!(rt; "  their table: {:?}", table)?;
     let most = long_name_table(alloc, 16_777_213)?;
     println!(rt; "a last name at 16777215: {:?}", most)?;

@@ -5,7 +5,7 @@ use c_model::Ref;
 use std::alloc::{AllocError, Global};
 
 /// A relation between the rows of a table.
-#[derive(Debug, Drop)]
+#[derive(Drop)]
 pub struct Relation {
     cells: Vec<Vec<bool>>,
 }
@@ -81,6 +81,7 @@ fn is_same_head(a: &Head, b: &Head) -> bool {
         && a.name == b.name
         && a.flag == b.flag
         && a.size == b.size
+        && a.extra == b.extra
         && a.pieces.len() == b.pieces.len()
         && a.pieces
             .iter()
@@ -89,7 +90,7 @@ fn is_same_head(a: &Head, b: &Head) -> bool {
 }
 
 /// The rows of a table, and of each row that is an open forward its definitions.
-#[derive(Debug, Drop)]
+#[derive(Drop)]
 pub struct View<'t> {
     rows: &'t [Row],
     base: usize,

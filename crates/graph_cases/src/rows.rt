@@ -7,6 +7,8 @@ pub const INT: u8 = 1;
 
 pub const PTR: u8 = 2;
 
+pub const ARRAY: u8 = 3;
+
 pub const STRUCT: u8 = 4;
 
 pub const UNION: u8 = 5;
@@ -20,31 +22,33 @@ pub const TYPEDEF: u8 = 8;
 pub const ENUM64: u8 = 19;
 
 /// A member or an enumerator: its name and its value.
-#[derive(Clone, Copy, Debug)]
+#[derive(Clone, Copy)]
 pub struct Piece {
     pub name: &'static [u8],
     pub value: u64,
 }
 
 /// What a type says of itself, apart from what it refers to.
-#[derive(Clone, Copy, Debug)]
+#[derive(Clone, Copy)]
 pub struct Head {
     pub kind: u8,
     pub name: &'static [u8],
     pub flag: bool,
     pub size: u32,
+    /// The last word of an INT, the number of elements of an ARRAY.
+    pub extra: u32,
     pub pieces: &'static [Piece],
 }
 
 /// A type of a table.
-#[derive(Debug, Drop)]
+#[derive(Drop)]
 pub struct Row {
     pub head: Head,
     pub targets: Vec<Ref>,
 }
 
 /// A graph: its types, the first `base` of which are those of a base.
-#[derive(Debug, Drop)]
+#[derive(Drop)]
 pub struct Table {
     pub base: usize,
     pub rows: Vec<Row>,
@@ -57,6 +61,7 @@ pub fn bare(kind: u8, name: &'static [u8], size: u32) -> Head {
         name,
         flag: false,
         size,
+        extra: 0,
         pieces: &[],
     }
 }
@@ -68,6 +73,7 @@ pub fn parted(kind: u8, name: &'static [u8], size: u32, pieces: &'static [Piece]
         name,
         flag: false,
         size,
+        extra: 0,
         pieces,
     }
 }
@@ -86,7 +92,7 @@ fn label_of(alloc: Global, head: &Head) -> Result<Label<'static>, AllocError> {
         name: Name::new(head.name),
         flag: head.flag,
         size: head.size,
-        extra: 0,
+        extra: head.extra,
         parts: Parts::new(parts),
     })
 }

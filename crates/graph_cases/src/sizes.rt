@@ -1,12 +1,12 @@
 //! Graphs at the limits of size.
 use crate::compared::is_one_relation;
 use crate::fault::Fault;
-use crate::fitting::are_ints;
 use crate::merged::{Found, merged};
 use crate::rows::{INT, PTR, Piece, Row, STRUCT, bare, parted, types_of};
+use crate::tables::built;
 use c_model::{CType, Label, Parts, Ref, Refs};
 use dw_base::Name;
-use split_base::{TableFault, build};
+use split_base::TableFault;
 use std::alloc::{AllocError, Global};
 
 /// The number of rounds of the empty graph, which has no classes.
@@ -76,14 +76,9 @@ pub fn all_differ(alloc: Global, found: &Found<'_>) -> Result<bool, AllocError> 
     Ok(numbers.windows(2).all(|pair| pair.first() != pair.last()))
 }
 
-/// The number of types of the table of a graph of INTs, or why there is none.
-pub fn ints_table(alloc: Global, found: &Found<'_>) -> Result<Result<usize, TableFault>, Fault> {
-    let classes = &found.refined.classes;
-    let graph = &found.graph;
-    if classes.numbers().len() != graph.nodes().len() || !are_ints(graph.nodes()) {
-        return Err(Fault::Unfit);
-    }
-    match build(alloc, graph, classes, None) {
+/// The number of types of a graph's table, or why there is none.
+pub fn table_len(alloc: Global, found: &Found<'_>) -> Result<Result<usize, TableFault>, Fault> {
+    match built(alloc, found, None)? {
         Ok(table) => Ok(Ok(table.types.items().len())),
         Err(fault) => Ok(Err(fault)),
     }
@@ -96,5 +91,5 @@ pub fn long_name_table(alloc: Global, bytes: usize) -> Result<Result<usize, Tabl
     types.push(int(alloc, &name, 4))?;
     types.push(int(alloc, b"last", 4))?;
     let found = merged(alloc, Vec::new(alloc), types)?;
-    ints_table(alloc, &found)
+    table_len(alloc, &found)
 }

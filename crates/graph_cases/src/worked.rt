@@ -1,80 +1,173 @@
-//! Graphs whose coarsest partition is known from C's rules for compatible types, by hand.
-use crate::rows::{
-    ENUM, FWD, Head, INT, PTR, Piece, Row, STRUCT, TYPEDEF, Table, UNION, bare, parted,
+//! Graphs whose coarsest partition is known from C's rules for compatible types, and whose table follows from it, by hand.
+use crate::rows::{ARRAY, ENUM, FWD, Head, INT, PTR, Piece, Row, STRUCT, TYPEDEF, Table, UNION};
+use crate::worked::Type::{
+    AOfB, BOfA, BOfTwo, BOfX, EOfA, Fields, FooOf4, FooOf8, FooOfX, Grid, Index, ListHead,
+    ListTypedef, Number, Pointer, SomeA, SomeB, SomeE, SomeFoo, SomeT, Tail, UnionAt0, UnionAt5,
+    UnionT, Unsigned, Wide,
 };
 use c_model::Ref;
 use std::alloc::{AllocError, Global};
 
-/// A graph, and for each of its types the number of its class.
-#[derive(Debug, Drop)]
+/// What the types here say of themselves.
+#[derive(Clone, Copy)]
+pub enum Type {
+    Pointer,
+    Number,
+    Wide,
+    Unsigned,
+    Index,
+    Grid,
+    Tail,
+    ListHead,
+    AOfB,
+    BOfA,
+    BOfX,
+    BOfTwo,
+    FooOfX,
+    FooOf4,
+    FooOf8,
+    SomeFoo,
+    SomeA,
+    SomeB,
+    SomeT,
+    UnionT,
+    UnionAt0,
+    UnionAt5,
+    Fields,
+    SomeE,
+    EOfA,
+    ListTypedef,
+}
+
+/// What a type says of itself.
+fn head_of(which: Type) -> Head {
+    match which {
+        Pointer => POINTER,
+        Number => NUMBER,
+        Wide => WIDE,
+        Unsigned => UNSIGNED,
+        Index => INDEX,
+        Grid => GRID,
+        Tail => TAIL,
+        ListHead => LIST_HEAD,
+        AOfB => A_OF_B,
+        BOfA => B_OF_A,
+        BOfX => B_OF_X,
+        BOfTwo => B_OF_TWO,
+        FooOfX => FOO_OF_X,
+        FooOf4 => FOO_OF_4,
+        FooOf8 => FOO_OF_8,
+        SomeFoo => SOME_FOO,
+        SomeA => SOME_A,
+        SomeB => SOME_B,
+        SomeT => SOME_T,
+        UnionT => UNION_T,
+        UnionAt0 => UNION_AT_0,
+        UnionAt5 => UNION_AT_5,
+        Fields => FIELDS,
+        SomeE => SOME_E,
+        EOfA => E_OF_A,
+        ListTypedef => LH,
+    }
+}
+
+/// A type, and the numbers of the types that it refers to.
+pub type Entry = (Type, &'static [u32]);
+
+/// A graph, its classes and its table.
+#[derive(Clone, Copy)]
 pub struct Worked {
     pub name: &'static str,
-    pub table: Table,
-    pub want: Vec<u32>,
+    /// How many types are of a base.
+    pub base: usize,
+    /// The strings of the base.
+    pub base_names: Option<&'static [u8]>,
+    /// The types of the graph, those of the base first.
+    pub types: &'static [Entry],
+    /// For each type the number of its class.
+    pub classes: &'static [u32],
+    /// The types of the table that are not of the base. They refer to types by ids less one.
+    pub own: &'static [Entry],
+    /// The own strings of the table.
+    pub names: &'static [u8],
 }
 
-/// What a type says of itself, and the numbers of the types that it refers to.
-type Entry = (Head, &'static [u32]);
-
-/// A pointer to a type.
-fn pointer(target: &'static [u32]) -> Entry {
-    (bare(PTR, b"", 0), target)
-}
-
-/// A declared structure.
-fn declared(name: &'static [u8]) -> Entry {
-    (bare(FWD, name, 0), &[])
-}
-
-/// A structure.
-fn structure(
-    name: &'static [u8],
-    size: u32,
-    pieces: &'static [Piece],
-    targets: &'static [u32],
-) -> Entry {
-    (parted(STRUCT, name, size, pieces), targets)
-}
-
-/// C's `int`.
-fn int() -> Entry {
-    (bare(INT, b"int", 4), &[])
-}
-
-fn stated(
-    alloc: Global,
-    name: &'static str,
-    base: usize,
-    entries: &[Entry],
-    want: &[u32],
-) -> Result<Worked, AllocError> {
+/// The rows of these types, the first `base` of them of a base.
+pub fn table_of(alloc: Global, base: usize, entries: &[Entry]) -> Result<Table, AllocError> {
     let mut rows = Vec::new(alloc);
-    for (head, numbers) in entries {
-        let mut targets = Vec::new(alloc);
-        for number in *numbers {
-            targets.push(Ref::Node(*number))?;
-        }
+    for (which, numbers) in entries {
+        let targets = numbers.iter().map(|x| Ref::Node(*x)).collect(alloc)?;
         rows.push(Row {
-            head: *head,
+            head: head_of(*which),
             targets,
         })?;
     }
-    let table = Table { base, rows };
-    let want = Vec::from_slice(alloc, want)?;
-    Ok(Worked { name, table, want })
+    Ok(Table { base, rows })
 }
 
-const A_FIRST: &[Piece] = &[Piece {
+/// A pointer.
+const POINTER: Head = Head {
+    kind: PTR,
+    name: b"",
+    flag: false,
+    size: 0,
+    extra: 0,
+    pieces: &[],
+};
+
+/// C's `int`.
+const NUMBER: Head = Head {
+    kind: INT,
+    name: b"int",
+    size: 4,
+    extra: 0x100_0020,
+    ..POINTER
+};
+
+/// An `int` of eight bytes.
+const WIDE: Head = Head {
+    size: 8,
+    extra: 0x100_0040,
+    ..NUMBER
+};
+
+/// C's `unsigned int`.
+const UNSIGNED: Head = Head {
+    name: b"unsigned int",
+    extra: 0x20,
+    ..NUMBER
+};
+
+/// The type of indices.
+const INDEX: Head = Head {
+    name: b"__ARRAY_SIZE_TYPE__",
+    ..UNSIGNED
+};
+
+/// An array of 5 times 6 elements.
+const GRID: Head = Head {
+    kind: ARRAY,
+    extra: 30,
+    ..POINTER
+};
+
+/// An array without a bound.
+const TAIL: Head = Head {
+    kind: ARRAY,
+    ..POINTER
+};
+
+const FIRST_A: &[Piece] = &[Piece {
     name: b"a",
     value: 0,
 }];
 
-const B_FIRST: &[Piece] = &[Piece {
+const FIRST_B: &[Piece] = &[Piece {
     name: b"b",
     value: 0,
 }];
 
-const X_FIRST: &[Piece] = &[Piece {
+const FIRST_X: &[Piece] = &[Piece {
     name: b"x",
     value: 0,
 }];
@@ -113,168 +206,423 @@ const BITS_AT_5: &[Piece] = &[Piece {
     value: 0x300_0005,
 }];
 
-/// Two types `int` of different sizes.
-fn ints_of_two_sizes(alloc: Global) -> Result<Worked, AllocError> {
-    let long: Entry = (bare(INT, b"int", 8), &[]);
-    stated(alloc, "ints of two sizes", 0, &[int(), long], &[0, 1])
+/// Bit fields of 3, 5 and 17 bits.
+const THREE_FIELDS: &[Piece] = &[
+    Piece {
+        name: b"a",
+        value: 0x300_0000,
+    },
+    Piece {
+        name: b"b",
+        value: 0x500_0003,
+    },
+    Piece {
+        name: b"c",
+        value: 0x1100_0008,
+    },
+];
+
+/// A structure of two pointers.
+const LIST_HEAD: Head = Head {
+    kind: STRUCT,
+    name: b"list_head",
+    size: 16,
+    pieces: NEXT_AND_PREV,
+    ..POINTER
+};
+
+/// A structure of a member `b`.
+const A_OF_B: Head = Head {
+    kind: STRUCT,
+    name: b"A",
+    size: 8,
+    pieces: FIRST_B,
+    ..POINTER
+};
+
+/// A structure of a member `a`.
+const B_OF_A: Head = Head {
+    name: b"B",
+    pieces: FIRST_A,
+    ..A_OF_B
+};
+
+/// A structure of a number.
+const B_OF_X: Head = Head {
+    name: b"B",
+    size: 4,
+    pieces: FIRST_X,
+    ..A_OF_B
+};
+
+/// A structure of two numbers.
+const B_OF_TWO: Head = Head {
+    pieces: X_AND_Y,
+    size: 8,
+    ..B_OF_X
+};
+
+/// A structure of a number.
+const FOO_OF_X: Head = Head {
+    name: b"foo",
+    ..B_OF_X
+};
+
+/// A structure of 4 bytes without members.
+const FOO_OF_4: Head = Head {
+    pieces: &[],
+    ..FOO_OF_X
+};
+
+/// A structure of 8 bytes without members.
+const FOO_OF_8: Head = Head {
+    size: 8,
+    ..FOO_OF_4
+};
+
+/// A declared structure.
+const SOME_FOO: Head = Head {
+    kind: FWD,
+    name: b"foo",
+    ..POINTER
+};
+
+const SOME_A: Head = Head {
+    name: b"A",
+    ..SOME_FOO
+};
+
+const SOME_B: Head = Head {
+    name: b"B",
+    ..SOME_FOO
+};
+
+const SOME_T: Head = Head {
+    name: b"t",
+    ..SOME_FOO
+};
+
+/// A union without members, of the name of a declared structure.
+const UNION_T: Head = Head {
+    kind: UNION,
+    name: b"t",
+    size: 8,
+    ..POINTER
+};
+
+/// An unnamed union of a bit field.
+const UNION_AT_0: Head = Head {
+    kind: UNION,
+    flag: true,
+    size: 4,
+    pieces: BITS_AT_0,
+    ..POINTER
+};
+
+/// The same elsewhere.
+const UNION_AT_5: Head = Head {
+    pieces: BITS_AT_5,
+    ..UNION_AT_0
+};
+
+/// A structure of bit fields.
+const FIELDS: Head = Head {
+    kind: STRUCT,
+    name: b"f",
+    flag: true,
+    size: 4,
+    pieces: THREE_FIELDS,
+    ..POINTER
+};
+
+/// A declared enumeration.
+const SOME_E: Head = Head {
+    kind: ENUM,
+    name: b"e",
+    size: 4,
+    ..POINTER
+};
+
+/// Its definition.
+const E_OF_A: Head = Head {
+    pieces: FIRST_A,
+    ..SOME_E
+};
+
+/// A typedef.
+const LH: Head = Head {
+    kind: TYPEDEF,
+    name: b"lh",
+    ..POINTER
+};
+
+/// A base that declares a structure.
+pub const DECLARED: &[Entry] = &[(SomeFoo, &[]), (Pointer, &[0])];
+
+/// A file that defines it. Its types are numbered from 0.
+pub const DEFINED: &[Entry] = &[(Number, &[]), (FooOfX, &[0]), (Pointer, &[1])];
+
+/// The graph of both.
+pub const DEFINED_OVER_DECLARED: &[Entry] = &[
+    (SomeFoo, &[]),
+    (Pointer, &[0]),
+    (Number, &[]),
+    (FooOfX, &[2]),
+    (Pointer, &[3]),
+];
+
+/// Graphs without declarations.
+pub fn plain_graphs() -> &'static [Worked] {
+    PLAIN
 }
 
-/// A pointer to itself in each of two units.
-fn pointers_to_themselves(alloc: Global) -> Result<Worked, AllocError> {
-    let entries = [pointer(&[0]), pointer(&[1])];
-    stated(alloc, "pointers to themselves", 0, &entries, &[0, 0])
+const PLAIN: &[Worked] = &[
+    Worked {
+        name: "ints of two sizes",
+        base: 0,
+        base_names: None,
+        types: &[(Number, &[]), (Wide, &[])],
+        classes: &[0, 1],
+        own: &[(Number, &[]), (Wide, &[])],
+        names: b"\0int\0",
+    },
+    // A pointer to itself in each of two units.
+    Worked {
+        name: "pointers to themselves",
+        base: 0,
+        base_names: None,
+        types: &[(Pointer, &[0]), (Pointer, &[1])],
+        classes: &[0, 0],
+        own: &[(Pointer, &[0])],
+        names: b"\0",
+    },
+    // A structure of two pointers to itself, in each of two units.
+    Worked {
+        name: "list heads",
+        base: 0,
+        base_names: None,
+        types: &[
+            (ListHead, &[1, 1]),
+            (Pointer, &[0]),
+            (ListHead, &[3, 3]),
+            (Pointer, &[2]),
+        ],
+        classes: &[0, 1, 0, 1],
+        own: &[(ListHead, &[1, 1]), (Pointer, &[0])],
+        names: b"\0list_head\0next\0prev\0",
+    },
+    // An unnamed union of a bit field, which stands elsewhere in a second unit.
+    Worked {
+        name: "unions",
+        base: 0,
+        base_names: None,
+        types: &[
+            (Number, &[]),
+            (UnionAt0, &[0]),
+            (Number, &[]),
+            (UnionAt5, &[2]),
+        ],
+        classes: &[0, 1, 0, 2],
+        own: &[(Number, &[]), (UnionAt0, &[0]), (UnionAt5, &[0])],
+        names: b"\0int\0a\0",
+    },
+    Worked {
+        name: "bit fields",
+        base: 0,
+        base_names: None,
+        types: &[(Unsigned, &[]), (Fields, &[0, 0, 0])],
+        classes: &[0, 1],
+        own: &[(Unsigned, &[]), (Fields, &[0, 0, 0])],
+        names: b"\0unsigned int\0f\0a\0b\0c\0",
+    },
+    Worked {
+        name: "array",
+        base: 0,
+        base_names: None,
+        types: &[(Number, &[]), (Grid, &[0, 2]), (Index, &[])],
+        classes: &[0, 1, 2],
+        own: &[(Number, &[]), (Grid, &[0, 2]), (Index, &[])],
+        names: b"\0int\0__ARRAY_SIZE_TYPE__\0",
+    },
+    // An array without a bound in one unit, and one of two bounds in another.
+    Worked {
+        name: "array without a bound",
+        base: 0,
+        base_names: None,
+        types: &[
+            (Number, &[]),
+            (Tail, &[0, 2]),
+            (Index, &[]),
+            (Number, &[]),
+            (Grid, &[3, 5]),
+            (Index, &[]),
+        ],
+        classes: &[0, 1, 2, 0, 3, 2],
+        own: &[
+            (Number, &[]),
+            (Tail, &[0, 2]),
+            (Index, &[]),
+            (Grid, &[0, 2]),
+        ],
+        names: b"\0int\0__ARRAY_SIZE_TYPE__\0",
+    },
+];
+
+/// Graphs with declarations.
+pub fn forward_graphs() -> &'static [Worked] {
+    FORWARD
 }
 
-/// A structure of two pointers to itself, in each of two units.
-fn list_heads(alloc: Global) -> Result<Worked, AllocError> {
-    let entries = [
-        structure(b"list_head", 16, NEXT_AND_PREV, &[1, 1]),
-        pointer(&[0]),
-        structure(b"list_head", 16, NEXT_AND_PREV, &[3, 3]),
-        pointer(&[2]),
-    ];
-    stated(alloc, "list heads", 0, &entries, &[0, 1, 0, 1])
+const FORWARD: &[Worked] = &[
+    // A structure declared in each of three units.
+    Worked {
+        name: "declared three times",
+        base: 0,
+        base_names: None,
+        types: &[(SomeFoo, &[]), (SomeFoo, &[]), (SomeFoo, &[])],
+        classes: &[0, 0, 0],
+        own: &[(SomeFoo, &[])],
+        names: b"\0foo\0",
+    },
+    // Two structures that point to each other: each in a unit that declares the other, and both in a third.
+    Worked {
+        name: "through declarations",
+        base: 0,
+        base_names: None,
+        types: &[
+            (AOfB, &[1]),
+            (Pointer, &[2]),
+            (SomeB, &[]),
+            (BOfA, &[4]),
+            (Pointer, &[5]),
+            (SomeA, &[]),
+            (AOfB, &[7]),
+            (Pointer, &[8]),
+            (BOfA, &[9]),
+            (Pointer, &[6]),
+        ],
+        classes: &[0, 1, 2, 2, 3, 0, 0, 1, 2, 3],
+        own: &[(AOfB, &[1]), (Pointer, &[2]), (BOfA, &[3]), (Pointer, &[0])],
+        names: b"\0A\0b\0B\0a\0",
+    },
+    // A structure over one that has two definitions, and over its declaration, which stays apart.
+    Worked {
+        name: "two definitions",
+        base: 0,
+        base_names: None,
+        types: &[
+            (Number, &[]),
+            (BOfX, &[0]),
+            (Pointer, &[1]),
+            (AOfB, &[2]),
+            (Number, &[]),
+            (BOfTwo, &[4, 4]),
+            (Pointer, &[5]),
+            (AOfB, &[6]),
+            (SomeB, &[]),
+            (Pointer, &[8]),
+            (AOfB, &[9]),
+        ],
+        classes: &[0, 1, 2, 3, 0, 4, 5, 6, 7, 8, 9],
+        own: &[
+            (Number, &[]),
+            (BOfX, &[0]),
+            (Pointer, &[1]),
+            (AOfB, &[2]),
+            (BOfTwo, &[0, 0]),
+            (Pointer, &[4]),
+            (AOfB, &[5]),
+            (SomeB, &[]),
+            (Pointer, &[7]),
+            (AOfB, &[8]),
+        ],
+        names: b"\0int\0B\0x\0A\0b\0y\0",
+    },
+    // A declared enumeration is with its definition. A declared structure is not with a union of its name.
+    Worked {
+        name: "sorts of tags",
+        base: 0,
+        base_names: None,
+        types: &[
+            (SomeE, &[]),
+            (EOfA, &[]),
+            (SomeT, &[]),
+            (Pointer, &[2]),
+            (UnionT, &[]),
+        ],
+        classes: &[0, 0, 1, 2, 3],
+        own: &[(EOfA, &[]), (SomeT, &[]), (Pointer, &[1]), (UnionT, &[])],
+        names: b"\0e\0a\0t\0",
+    },
+];
+
+/// Graphs with the types of a base.
+pub fn based_graphs() -> &'static [Worked] {
+    BASE
 }
 
-/// An unnamed union of a bit field, which stands elsewhere in a second unit.
-fn bit_fields(alloc: Global) -> Result<Worked, AllocError> {
-    let union = |pieces| Head {
-        flag: true,
-        ..parted(UNION, b"", 4, pieces)
-    };
-    let first: Entry = (union(BITS_AT_0), &[0]);
-    let second: Entry = (union(BITS_AT_5), &[2]);
-    let entries = [int(), first, int(), second];
-    stated(alloc, "bit fields", 0, &entries, &[0, 1, 0, 2])
-}
-
-/// A structure declared in each of three units.
-fn declared_three_times(alloc: Global) -> Result<Worked, AllocError> {
-    let entries = [declared(b"foo"), declared(b"foo"), declared(b"foo")];
-    stated(alloc, "declared three times", 0, &entries, &[0, 0, 0])
-}
-
-/// Two structures that point to each other: each in a unit that declares the other, and both in a third.
-fn through_declarations(alloc: Global) -> Result<Worked, AllocError> {
-    let entries = [
-        structure(b"A", 8, B_FIRST, &[1]),
-        pointer(&[2]),
-        declared(b"B"),
-        structure(b"B", 8, A_FIRST, &[4]),
-        pointer(&[5]),
-        declared(b"A"),
-        structure(b"A", 8, B_FIRST, &[7]),
-        pointer(&[8]),
-        structure(b"B", 8, A_FIRST, &[9]),
-        pointer(&[6]),
-    ];
-    let want = [0, 1, 2, 2, 3, 0, 0, 1, 2, 3];
-    stated(alloc, "through declarations", 0, &entries, &want)
-}
-
-/// A structure over one that has two definitions, and over its declaration, which stays apart.
-fn two_definitions(alloc: Global) -> Result<Worked, AllocError> {
-    let entries = [
-        int(),
-        structure(b"B", 4, X_FIRST, &[0]),
-        pointer(&[1]),
-        structure(b"A", 8, B_FIRST, &[2]),
-        int(),
-        structure(b"B", 8, X_AND_Y, &[4, 4]),
-        pointer(&[5]),
-        structure(b"A", 8, B_FIRST, &[6]),
-        declared(b"B"),
-        pointer(&[8]),
-        structure(b"A", 8, B_FIRST, &[9]),
-    ];
-    let want = [0, 1, 2, 3, 0, 4, 5, 6, 7, 8, 9];
-    stated(alloc, "two definitions", 0, &entries, &want)
-}
-
-/// A base that declares a structure, and a file that defines it: the base's declaration stays.
-fn declared_in_a_base(alloc: Global) -> Result<Worked, AllocError> {
-    let entries = [
-        declared(b"foo"),
-        pointer(&[0]),
-        int(),
-        structure(b"foo", 4, X_FIRST, &[2]),
-        pointer(&[3]),
-    ];
-    stated(alloc, "declared in a base", 2, &entries, &[0, 1, 2, 3, 4])
-}
-
-/// A base with a structure of two pointers to itself, two units with the same, and a typedef of it in the first.
-fn list_heads_over_a_base(alloc: Global) -> Result<Worked, AllocError> {
-    let typedef: Entry = (bare(TYPEDEF, b"lh", 0), &[2]);
-    let entries = [
-        structure(b"list_head", 16, NEXT_AND_PREV, &[1, 1]),
-        pointer(&[0]),
-        structure(b"list_head", 16, NEXT_AND_PREV, &[3, 3]),
-        pointer(&[2]),
-        typedef,
-        structure(b"list_head", 16, NEXT_AND_PREV, &[6, 6]),
-        pointer(&[5]),
-    ];
-    let want = [0, 1, 0, 1, 2, 0, 1];
-    stated(alloc, "list heads over a base", 2, &entries, &want)
-}
-
-/// A base with two different structures of a name closes the file's declaration of it.
-fn closed_by_a_base(alloc: Global) -> Result<Worked, AllocError> {
-    let entries = [
-        structure(b"foo", 4, &[], &[]),
-        structure(b"foo", 8, &[], &[]),
-        declared(b"foo"),
-        pointer(&[2]),
-        declared(b"foo"),
-        pointer(&[4]),
-    ];
-    stated(alloc, "closed by a base", 4, &entries, &[0, 1, 2, 3, 2, 3])
-}
-
-/// A base with two equal structures of a name leaves the file's declaration open, so that it is with them; the
-/// base's own declaration is apart.
-fn open_beside_a_base(alloc: Global) -> Result<Worked, AllocError> {
-    let entries = [
-        structure(b"foo", 4, &[], &[]),
-        structure(b"foo", 4, &[], &[]),
-        declared(b"foo"),
-        declared(b"foo"),
-        pointer(&[3]),
-        pointer(&[0]),
-    ];
-    stated(
-        alloc,
-        "open beside a base",
-        3,
-        &entries,
-        &[0, 0, 1, 0, 2, 2],
-    )
-}
-
-/// A declared enumeration is with its definition. A declared structure is not with a union of its name.
-fn sorts_of_tags(alloc: Global) -> Result<Worked, AllocError> {
-    let enumeration: Entry = (bare(ENUM, b"e", 4), &[]);
-    let defined: Entry = (parted(ENUM, b"e", 4, A_FIRST), &[]);
-    let union: Entry = (bare(UNION, b"t", 8), &[]);
-    let entries = [enumeration, defined, declared(b"t"), pointer(&[2]), union];
-    stated(alloc, "sorts of tags", 0, &entries, &[0, 0, 1, 2, 3])
-}
-
-/// All of them.
-pub fn worked_graphs(alloc: Global) -> Result<Vec<Worked>, AllocError> {
-    let mut all = Vec::new(alloc);
-    all.push(ints_of_two_sizes(alloc)?)?;
-    all.push(pointers_to_themselves(alloc)?)?;
-    all.push(list_heads(alloc)?)?;
-    all.push(bit_fields(alloc)?)?;
-    all.push(declared_three_times(alloc)?)?;
-    all.push(through_declarations(alloc)?)?;
-    all.push(two_definitions(alloc)?)?;
-    all.push(declared_in_a_base(alloc)?)?;
-    all.push(list_heads_over_a_base(alloc)?)?;
-    all.push(closed_by_a_base(alloc)?)?;
-    all.push(open_beside_a_base(alloc)?)?;
-    all.push(sorts_of_tags(alloc)?)?;
-    Ok(all)
-}
+const BASE: &[Worked] = &[
+    // A base that declares a structure, and a file that defines it: the base's declaration stays.
+    Worked {
+        name: "declared in a base",
+        base: 2,
+        base_names: Some(b"\0foo\0"),
+        types: DEFINED_OVER_DECLARED,
+        classes: &[0, 1, 2, 3, 4],
+        own: &[(Number, &[]), (FooOfX, &[2]), (Pointer, &[3])],
+        names: b"int\0x\0",
+    },
+    // A base with two different structures of a name closes the declarations of it.
+    Worked {
+        name: "closed by a base",
+        base: 4,
+        base_names: Some(b"\0foo\0"),
+        types: &[
+            (FooOf4, &[]),
+            (FooOf8, &[]),
+            (SomeFoo, &[]),
+            (Pointer, &[2]),
+            (SomeFoo, &[]),
+            (Pointer, &[4]),
+        ],
+        classes: &[0, 1, 2, 3, 2, 3],
+        own: &[],
+        names: b"",
+    },
+    // A base with two equal structures of a name leaves the file's declaration open, so that it is with them; the base's own
+    // declaration is apart.
+    Worked {
+        name: "open beside a base",
+        base: 3,
+        base_names: Some(b"\0foo\0"),
+        types: &[
+            (FooOf4, &[]),
+            (FooOf4, &[]),
+            (SomeFoo, &[]),
+            (SomeFoo, &[]),
+            (Pointer, &[3]),
+            (Pointer, &[0]),
+        ],
+        classes: &[0, 0, 1, 0, 2, 2],
+        own: &[(Pointer, &[0])],
+        names: b"",
+    },
+    // A base with a structure of two pointers to itself, and two units with the same, one with a typedef of it.
+    Worked {
+        name: "list heads over a base",
+        base: 2,
+        base_names: Some(b"\0list_head\0next\0prev\0"),
+        types: &[
+            (ListHead, &[1, 1]),
+            (Pointer, &[0]),
+            (ListHead, &[3, 3]),
+            (Pointer, &[2]),
+            (ListTypedef, &[2]),
+            (ListHead, &[6, 6]),
+            (Pointer, &[5]),
+        ],
+        classes: &[0, 1, 0, 1, 2, 0, 1],
+        own: &[(ListTypedef, &[0])],
+        names: b"lh\0",
+    },
+];

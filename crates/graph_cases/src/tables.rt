@@ -1,0 +1,84 @@
+//! Tables of merged graphs, and graphs with the types of a base.
+use crate::fault::Fault;
+use crate::fitting::{are_formed, graph_from, is_base, refer_below};
+use crate::merged::Found;
+use crate::rows::types_of;
+use crate::worked::{DECLARED, DEFINED, DEFINED_OVER_DECLARED, Entry, Worked, table_of};
+use btf_codec::{Table, TableOut};
+use c_model::{CType, Nodes, is_same_label};
+use dw_base::Order;
+use split_base::{TableFault, build, with_base};
+use std::alloc::{AllocError, Global};
+
+/// The table of a graph's coarsest partition over the strings of a base, or why there is none.
+pub fn built<'a>(
+    alloc: Global,
+    found: &Found<'a>,
+    base_names: Option<&'a [u8]>,
+) -> Result<Result<TableOut<'a>, TableFault>, Fault> {
+    let classes = &found.refined.classes;
+    let graph = &found.graph;
+    if classes.numbers().len() != graph.nodes().len()
+        || !are_formed(graph.nodes())
+        || !is_base(base_names)
+    {
+        return Err(Fault::Unfit);
+    }
+    Ok(build(alloc, graph, classes, base_names))
+}
+
+/// The types of these entries.
+fn listed(alloc: Global, entries: &[Entry]) -> Result<Vec<CType<'static>>, AllocError> {
+    types_of(alloc, &table_of(alloc, 0, entries)?.rows)
+}
+
+/// Whether types are those of these entries.
+fn are_types(alloc: Global, types: &[CType<'_>], entries: &[Entry]) -> Result<bool, AllocError> {
+    let want = listed(alloc, entries)?;
+    Ok(
+        types.len() == want.len()
+            && types.iter().zip(&want).all(|(t, u)| {
+                is_same_label(&t.label, &u.label) && t.targets.items() == u.targets.items()
+            }),
+    )
+}
+
+/// Whether a table is the one that is written beside a graph.
+pub fn is_table(alloc: Global, table: &TableOut<'_>, worked: &Worked) -> Result<bool, AllocError> {
+    let (kept, own) = table
+        .types
+        .items()
+        .split_at_checked(worked.base)
+        .unwrap_or((&[], &[]));
+    let before = worked.types.get(..worked.base).unwrap_or(&[]);
+    Ok(
+        table.base as usize == worked.base
+            && are_types(alloc, kept, before)?
+            && are_types(alloc, own, worked.own)?
+            && table.strings.bytes() == worked.names,
+    )
+}
+
+/// Whether the graph of a declaring base and a defining file, of at most so many nodes, is what it should be; or why there is
+/// none.
+pub fn joined(alloc: Global, most: u32) -> Result<Result<bool, TableFault>, Fault> {
+    let types = listed(alloc, DECLARED)?;
+    if types.len() > 1000 || !refer_below(types.len() as u32, &types) {
+        return Err(Fault::Unfit);
+    }
+    let table = Table {
+        order: Order::Little,
+        base: 0,
+        types: Nodes::new(types),
+        names: b"\0foo\0",
+    };
+    let Some(file) = graph_from(0, listed(alloc, DEFINED)?) else {
+        return Err(Fault::Unfit);
+    };
+    match with_base(alloc, &table, most, file) {
+        Ok(graph) => Ok(Ok(
+            graph.base() == 2 && are_types(alloc, graph.nodes(), DEFINED_OVER_DECLARED)?,
+        )),
+        Err(fault) => Ok(Err(fault)),
+    }
+}
