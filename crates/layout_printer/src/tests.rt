@@ -1,7 +1,8 @@
 //! Texts of small tables: worked rows, and each form of a declaration written out by hand.
-ghost use Rattle.std.specs.Prelude.{◌≡◌, ◌<◌, ◌^◌, IsTrue, All, length};
+ghost use Rattle.std.specs.Prelude.{◌≡◌, ◌<◌, ◌^◌, IfOk, IsTrue, All, length};
 ghost use Rattle.c_model.specs.Graph.{IsBelow, RefersWithin};
 ghost use Rattle.layout_printer.specs.Layout.{IsStructure};
+ghost use Rattle.layout_printer.specs.Text.{byte_holes};
 
 use crate::lookups::{ref_of, type_of};
 use crate::placing::layout;
@@ -130,7 +131,9 @@ fn placed(
     alloc: Global,
     table: &Table<'_>,
     id: u32,
-) -> Result<Result<TypeLayout, LayoutFault>, Fail> {
+) -> Result<Result<TypeLayout, LayoutFault>, Fail>
+    ensures { IfOk result (λ placed. IfOk placed (λ l. l.holes ≡ byte_holes l.slots)) }
+{
     let types = table.types.items();
     if types.len() > 1000 || !is_structure(types, id) || !are_within(types.len(), types) {
         return Err(Fail::from("no structure"));
@@ -602,18 +605,23 @@ fn boundaries_of_cache_lines(rt: HostRuntime) -> Result<(), Fail> {
     Ok(())
 }
 
-fn type_of_kind(alloc: Global, kind: u8, size: u32, target: Ref) -> Result<CType<'static>, Fail> {
-    Ok(CType {
+fn made(kind: u8, size: u32, parts: Vec<Part<'static>>, targets: Vec<Ref>) -> CType<'static> {
+    CType {
         label: Label {
             kind,
             name: Name::new(b"t"),
             flag: false,
             size,
             extra: 0,
-            parts: Parts::new(Vec::new(alloc)),
+            parts: Parts::new(parts),
         },
-        targets: Refs::new(vec![in alloc; target]?),
-    })
+        targets: Refs::new(targets),
+    }
+}
+
+/// A type without parts.
+fn type_of_kind(alloc: Global, kind: u8, size: u32, target: Ref) -> Result<CType<'static>, Fail> {
+    Ok(made(kind, size, Vec::new(alloc), vec![in alloc; target]?))
 }
 
 /// A structure of 100 members of a type of 4 bytes.
@@ -625,10 +633,7 @@ fn hundred(alloc: Global, target: Ref) -> Result<CType<'static>, Fail> {
             value: 32 * k,
         })?;
     }
-    let mut t = type_of_kind(alloc, 4, 400, target)?;
-    t.label.parts = Parts::new(parts);
-    t.targets = Refs::new(vec![in alloc; target; 100]?);
-    Ok(t)
+    Ok(made(4, 400, parts, vec![in alloc; target; 100]?))
 }
 
 /// A type, 100,000 typedefs of it behind each other, and 1,000 structures with members of the last.
