@@ -6,7 +6,7 @@ ghost use Rattle.layout_printer.specs.Text.{byte_holes};
 
 use crate::lookups::{ref_of, type_of};
 use crate::placing::layout;
-use crate::sizes::{pointer_of, sizes_of};
+use crate::sizes::{Sizes, pointer_of, sizes_of};
 use crate::slots::{LayoutFault, Slot, TypeLayout};
 use crate::texts::{sizes_line, text};
 use btf_codec::Table;
@@ -412,6 +412,15 @@ fn a_member_without_a_size(rt: HostRuntime) -> Result<(), Fail> {
     Ok(())
 }
 
+/// The sizes of types without parts.
+fn sizes_of_all(alloc: Global, all: &[Shown]) -> Result<Sizes, Fail> {
+    let table = table_of(alloc, all, &[])?;
+    if table.types.items().len() > 1000 {
+        return Err(Fail::from("many types"));
+    }
+    Ok(sizes_of(alloc, &table, 8)?)
+}
+
 #[test]
 fn sizes_of_each_kind(rt: HostRuntime) -> Result<(), Fail> {
     let alloc = rt.alloc();
@@ -458,7 +467,7 @@ fn sizes_of_each_kind(rt: HostRuntime) -> Result<(), Fail> {
         all.push(shown)?;
         wanted.push(size)?;
     }
-    let sizes = sizes_of(alloc, &table_of(alloc, &all, &[])?, 8)?;
+    let sizes = sizes_of_all(alloc, &all)?;
     assert_eq!(rt; sizes.items, wanted);
     assert_eq!(rt; sizes.of(Ref::Void), None);
     assert_eq!(rt; sizes.of(Ref::Node(2)), Some(40));
