@@ -1,12 +1,12 @@
-//! Tests over two tables. The small one is of C's `struct a { int x; /* a hole of 4 bytes */ int y; };`, 12 bytes, and `typedef struct { int z; } t;`.
-ghost use Rattle.std.specs.Prelude.{◌≡◌, ◌+◌, All, IfOk, IsTrue, OnOk, length};
+//! A table of C's `struct a { int x; /* a hole of 4 bytes */ int y; };`, 12 bytes, and `typedef struct { int z; } t;`.
+ghost use Rattle.std.specs.Prelude.{◌≡◌, ◌+◌, All, IfOk, OnOk, length};
 ghost use Rattle.c_model.specs.Graph.{IsBelow, RefersWithin};
 
 use crate::{ShowFault, Style, show};
 use btf_codec::Table;
 use c_model::{CType, Label, Nodes, Part, Parts, Ref, Refs};
 use command_line::Text;
-use dw_base::{Bytes, Name, Order};
+use dw_base::{Name, Order};
 use std::alloc::{AllocError, Global};
 use std::test::Fail;
 
@@ -145,161 +145,5 @@ fn refusals(rt: HostRuntime) -> Result<(), Fail> {
         show(alloc, &table, 8, None, few).err(),
         Some(ShowFault::NoSize(0))
     );
-    Ok(())
-}
-
-fn is_within(count: usize, targets: &[Ref]) -> bool
-    ensures { IsTrue result → All (IsBelow count) targets.now }
-{
-    for target in targets {
-        if let Ref::Node(number) = target
-            && *number as usize >= count
-        {
-            return false;
-        }
-    }
-    true
-}
-
-fn are_within(count: usize, types: &[CType<'_>]) -> bool
-    ensures { IsTrue result → RefersWithin count types.now }
-{
-    for t in types {
-        if !is_within(count, t.targets.items()) {
-            return false;
-        }
-    }
-    true
-}
-
-/// What is shown of a table whose references are its own.
-fn shown(
-    alloc: Global,
-    table: &Table<'_>,
-    words: Option<&[&str]>,
-    holes: u32,
-) -> Result<Result<Bytes, ShowFault>, Fail> {
-    let types = table.types.items();
-    if types.len() > 1000 || !are_within(types.len(), types) {
-        return Err(Fail::from("no table"));
-    }
-    let style = Style { holes, ..LINES };
-    let Some(words) = words else {
-        return Ok(show(alloc, table, 8, None, style));
-    };
-    let mut names = Vec::new(alloc);
-    for word in words {
-        names.push(name(alloc, word)?)?;
-    }
-    if names.len() > 1000 {
-        return Err(Fail::from("many names"));
-    }
-    Ok(show(alloc, table, 8, Some(names.as_slice()), style))
-}
-
-/// A table with a type of every kind, of which those with the ids 2, 4, 7, 22, 23 and 25 can be shown.
-fn every_kind(alloc: Global, base: u32) -> Result<Table<'static>, Fail> {
-    let int = Ref::Node(0);
-    let two = [(b"x".as_slice(), 0u64), (b"y".as_slice(), 64)];
-    let three = [
-        (b"x".as_slice(), 0u64),
-        (b"y".as_slice(), 64),
-        (b"z".as_slice(), 128),
-    ];
-    let types = [
-        node(alloc, 1, b"int", 4, &[], &[])?,
-        node(alloc, 4, b"a", 12, &two, &[int, int])?,
-        node(alloc, 4, b"", 4, &[(b"z".as_slice(), 0)], &[int])?,
-        node(alloc, 8, b"t", 0, &[], &[Ref::Node(2)])?,
-        node(alloc, 2, b"", 0, &[], &[Ref::Node(1)])?,
-        node(alloc, 3, b"", 0, &[], &[int, int])?,
-        node(
-            alloc,
-            5,
-            b"a",
-            16,
-            &[(b"p".as_slice(), 0), (b"q".as_slice(), 0)],
-            &[Ref::Node(4), Ref::Node(5)],
-        )?,
-        node(alloc, 6, b"e", 4, &[], &[])?,
-        node(alloc, 7, b"f", 0, &[], &[])?,
-        node(alloc, 9, b"", 0, &[], &[int])?,
-        node(alloc, 10, b"", 0, &[], &[int])?,
-        node(alloc, 11, b"", 0, &[], &[Ref::Node(4)])?,
-        node(alloc, 12, b"call", 0, &[], &[Ref::Node(13)])?,
-        node(alloc, 13, b"", 0, &[], &[Ref::Void])?,
-        node(alloc, 14, b"v", 0, &[], &[int])?,
-        node(alloc, 15, b".data", 4, &[], &[])?,
-        node(alloc, 16, b"double", 8, &[], &[])?,
-        node(alloc, 17, b"note", 0, &[], &[Ref::Node(1)])?,
-        node(alloc, 18, b"user", 0, &[], &[int])?,
-        node(alloc, 19, b"w", 8, &[], &[])?,
-        node(alloc, 8, b"a", 0, &[], &[Ref::Node(1)])?,
-        node(alloc, 4, b"two", 20, &three, &[int, int, int])?,
-        node(alloc, 8, b"u", 0, &[], &[Ref::Node(23)])?,
-        node(alloc, 5, b"", 4, &[(b"z".as_slice(), 0)], &[int])?,
-        node(alloc, 8, b"t", 0, &[], &[Ref::Node(23)])?,
-    ];
-    Ok(Table {
-        order: Order::Little,
-        base,
-        types: Nodes::new(Vec::from_array(alloc, types)?),
-        names: b"\0",
-    })
-}
-
-#[test]
-fn every_kind_by_names_and_holes(rt: HostRuntime) -> Result<(), Fail> {
-    let alloc = rt.alloc();
-    let cases = [
-        (
-            0,
-            None,
-            0,
-            "a\t12\t1\nt\t4\t0\na\t16\t0\ntwo\t20\t2\nu\t4\t0\nt\t4\t0\n",
-        ),
-        (0, None, 1, "a\t12\t1\ntwo\t20\t2\n"),
-        (0, None, 2, "two\t20\t2\n"),
-        (0, None, 3, ""),
-        // The types of a base are shown by name alone.
-        (4, None, 0, "a\t16\t0\ntwo\t20\t2\nu\t4\t0\nt\t4\t0\n"),
-        (4, Some(["a"].as_slice()), 0, "a\t12\t1\na\t16\t0\n"),
-        // Names that two types have, repeated ones, and all of them with a hole.
-        (0, Some(["t"].as_slice()), 0, "t\t4\t0\nt\t4\t0\n"),
-        (
-            0,
-            Some(["two", "a", "two"].as_slice()),
-            0,
-            "two\t20\t2\na\t12\t1\na\t16\t0\ntwo\t20\t2\n",
-        ),
-        (0, Some(["u", "a"].as_slice()), 1, "a\t12\t1\n"),
-    ];
-    for (base, words, holes, text) in cases {
-        match shown(alloc, &every_kind(alloc, base)?, words, holes)? {
-            Ok(shown) => assert_eq!(rt; shown.items(), text.as_bytes()),
-            Err(_) => panic!(rt; "all names and sizes are there"),
-        }
-    }
-    Ok(())
-}
-
-#[test]
-fn names_that_nothing_shown_has(rt: HostRuntime) -> Result<(), Fail> {
-    let alloc = rt.alloc();
-    let table = every_kind(alloc, 0)?;
-    let cases = [
-        (["int", "a"], 0),
-        (["a", "e"], 1),
-        (["two", "f"], 1),
-        (["t", "call"], 1),
-        (["v", "w"], 0),
-        (["a", "A"], 1),
-        (["a", "a "], 1),
-        (["tw", "two"], 0),
-    ];
-    for (words, place) in cases {
-        let fault = shown(alloc, &table, Some(words.as_slice()), 0)?.err();
-        assert_eq!(rt; fault, Some(ShowFault::NoName(place)));
-    }
     Ok(())
 }
