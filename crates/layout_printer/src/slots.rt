@@ -68,6 +68,8 @@ pub struct TypeLayout {
     pub slots: Slots,
     /// How many bits of the size lie past the end of each member.
     pub padding: u64,
+    /// How many slots have a hole of whole bytes.
+    pub holes: usize,
 }
 
 /// Why a structure or union has no layout.

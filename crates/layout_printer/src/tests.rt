@@ -1,11 +1,12 @@
 //! Texts of small tables: worked rows, and each form of a declaration written out by hand.
-ghost use Rattle.std.specs.Prelude.{◌≡◌, ◌<◌, ◌^◌, IsTrue, All, length};
+ghost use Rattle.std.specs.Prelude.{◌≡◌, ◌<◌, ◌^◌, IfOk, IsTrue, All, length};
 ghost use Rattle.c_model.specs.Graph.{IsBelow, RefersWithin};
 ghost use Rattle.layout_printer.specs.Layout.{IsStructure};
+ghost use Rattle.layout_printer.specs.Text.{byte_holes};
 
 use crate::lookups::{ref_of, type_of};
 use crate::placing::layout;
-use crate::sizes::{pointer_of, sizes_of};
+use crate::sizes::{Sizes, pointer_of, sizes_of};
 use crate::slots::{LayoutFault, Slot, TypeLayout};
 use crate::texts::{sizes_line, text};
 use btf_codec::Table;
@@ -130,7 +131,9 @@ fn placed(
     alloc: Global,
     table: &Table<'_>,
     id: u32,
-) -> Result<Result<TypeLayout, LayoutFault>, Fail> {
+) -> Result<Result<TypeLayout, LayoutFault>, Fail>
+    ensures { IfOk result (λ placed. IfOk placed (λ l. l.holes ≡ byte_holes l.slots)) }
+{
     let types = table.types.items();
     if types.len() > 1000 || !is_structure(types, id) || !are_within(types.len(), types) {
         return Err(Fail::from("no structure"));
@@ -409,6 +412,15 @@ fn a_member_without_a_size(rt: HostRuntime) -> Result<(), Fail> {
     Ok(())
 }
 
+/// The sizes of types without parts.
+fn sizes_of_all(alloc: Global, all: &[Shown]) -> Result<Sizes, Fail> {
+    let table = table_of(alloc, all, &[])?;
+    if table.types.items().len() > 1000 {
+        return Err(Fail::from("many types"));
+    }
+    Ok(sizes_of(alloc, &table, 8)?)
+}
+
 #[test]
 fn sizes_of_each_kind(rt: HostRuntime) -> Result<(), Fail> {
     let alloc = rt.alloc();
@@ -455,7 +467,7 @@ fn sizes_of_each_kind(rt: HostRuntime) -> Result<(), Fail> {
         all.push(shown)?;
         wanted.push(size)?;
     }
-    let sizes = sizes_of(alloc, &table_of(alloc, &all, &[])?, 8)?;
+    let sizes = sizes_of_all(alloc, &all)?;
     assert_eq!(rt; sizes.items, wanted);
     assert_eq!(rt; sizes.of(Ref::Void), None);
     assert_eq!(rt; sizes.of(Ref::Node(2)), Some(40));
@@ -602,18 +614,23 @@ fn boundaries_of_cache_lines(rt: HostRuntime) -> Result<(), Fail> {
     Ok(())
 }
 
-fn type_of_kind(alloc: Global, kind: u8, size: u32, target: Ref) -> Result<CType<'static>, Fail> {
-    Ok(CType {
+fn made(kind: u8, size: u32, parts: Vec<Part<'static>>, targets: Vec<Ref>) -> CType<'static> {
+    CType {
         label: Label {
             kind,
             name: Name::new(b"t"),
             flag: false,
             size,
             extra: 0,
-            parts: Parts::new(Vec::new(alloc)),
+            parts: Parts::new(parts),
         },
-        targets: Refs::new(vec![in alloc; target]?),
-    })
+        targets: Refs::new(targets),
+    }
+}
+
+/// A type without parts.
+fn type_of_kind(alloc: Global, kind: u8, size: u32, target: Ref) -> Result<CType<'static>, Fail> {
+    Ok(made(kind, size, Vec::new(alloc), vec![in alloc; target]?))
 }
 
 /// A structure of 100 members of a type of 4 bytes.
@@ -625,10 +642,7 @@ fn hundred(alloc: Global, target: Ref) -> Result<CType<'static>, Fail> {
             value: 32 * k,
         })?;
     }
-    let mut t = type_of_kind(alloc, 4, 400, target)?;
-    t.label.parts = Parts::new(parts);
-    t.targets = Refs::new(vec![in alloc; target; 100]?);
-    Ok(t)
+    Ok(made(4, 400, parts, vec![in alloc; target; 100]?))
 }
 
 /// A type, 100,000 typedefs of it behind each other, and 1,000 structures with members of the last.

@@ -3,3 +3,4 @@ pub mod Lacking
 pub mod Texts
 pub mod Choices
 pub mod Naming
+pub mod Keeping

@@ -1,7 +1,8 @@
 -- The whole text of what is shown, and why nothing is. A place is a type's number from 0; its id is one more.
-use Rattle.std.specs.Prelude.{ℕ, suc, ◌≡◌, ◌++◌, ◌||◌, nat_le, is_none, Bool, List, [], ◌∷◌, length, map, All, ⊤, slice_get, find, Option, None, Some, Result, Ok, Err, if◌then◌else◌}
+use Rattle.std.specs.Prelude.{ℕ, suc, ◌≡◌, ◌++◌, ◌||◌, nat_eq, nat_le, is_none, Bool, List, [], ◌∷◌, length, map, All, ⊤, slice_get, find, Option, None, Some, Result, Ok, Err, if◌then◌else◌}
 use Rattle.std.specs.Global.{Vec}
 use Rattle.std.specs.List.{filter, flat_map, range_with_len}
+use Rattle.std.specs.Map.{lookup}
 use Rattle.std.specs.Option.{option_and_then, option_map, option_map_or, option_or}
 use Rattle.btf_codec.specs.Fields.{id_of, target_at}
 use Rattle.c_model.specs.declared.label.Part.{Part}
@@ -91,6 +92,18 @@ LaysOut types pointer x (Ok shown) = (no_size types pointer x ≡ None) × IsSho
 LaysOut types pointer x (Err (NoName k)) = ⊥
 LaysOut types pointer x (Err (NoSize n)) = no_size types pointer x ≡ Some n
 LaysOut types pointer x (Err Memory) = ⊤
+
+-- what showing a place answers, given what is put before
+abbrev pub ShowsPlace : List CType → ℕ → Style → ℕ → Bool → List ℕ → List ℕ → Result Bool ShowFault → Type 0
+ShowsPlace types pointer style x started old new (Ok now) =
+    (shown : TypeLayout) × (LaysOut types pointer x (Ok shown)) × (PutsPiece types style (x, shown) started old new now)
+ShowsPlace types pointer style x started old new (Err (NoName k)) = ⊥
+ShowsPlace types pointer style x started old new (Err (NoSize n)) = no_size types pointer x ≡ Some n
+ShowsPlace types pointer style x started old new (Err Memory) = ⊤
+
+-- the layouts that are kept, by the places of their structures
+abbrev pub AreKept : List CType → ℕ → List (ℕ × TypeLayout) → Type 0
+AreKept types pointer entries = (s : ℕ) (shown : TypeLayout) → lookup (nat_eq s) entries ≡ Some shown → IsLayout types pointer (suc s) shown
 
 -- what showing some places answers
 abbrev pub ShowsPlaces : List CType → ℕ → Style → List ℕ → Result (List ℕ) ShowFault → Type 0

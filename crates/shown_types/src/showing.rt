@@ -1,11 +1,11 @@
 //! The text of the types that are shown.
-ghost use Rattle.std.specs.Prelude.{◌≡◌, ◌-◌, ◌⊎◌, ◌<◌, ◌^◌, IsTrue, All, length, IfOk, IfSome};
+ghost use Rattle.std.specs.Prelude.{◌≡◌, ◌-◌, ◌⊎◌, ◌<◌, ◌^◌, IsTrue, All, length, IfOk, IfSome, OnOk};
 ghost use Rattle.std.specs.Option.{option_copied};
 ghost use Rattle.c_model.specs.Graph.{RefersWithin};
 ghost use Rattle.layout_printer.specs.Sizes.{AreSizes};
 ghost use Rattle.layout_printer.specs.Text.{byte_holes};
 ghost use Rattle.shown_types.specs.Listed.{is_listed};
-ghost use Rattle.shown_types.specs.Shown.{separator, piece, PutsPiece, LaysOut, ShowsPlaces, Shows};
+ghost use Rattle.shown_types.specs.Shown.{separator, piece, PutsPiece, AreKept, LaysOut, ShowsPlace, ShowsPlaces, Shows};
 
 use crate::choosing::choose;
 use crate::fault::ShowFault;
@@ -13,7 +13,8 @@ use crate::listed::structure_at;
 use btf_codec::Table;
 use command_line::Text;
 use dw_base::Bytes;
-use layout_printer::{LayoutFault, Sizes, Slot, TypeLayout, layout, sizes_line, sizes_of, text};
+use indexmap::IndexMap;
+use layout_printer::{LayoutFault, Sizes, TypeLayout, layout, sizes_line, sizes_of, text};
 use std::alloc::{AllocError, Global};
 
 /// How types are shown.
@@ -67,12 +68,45 @@ fn show_places(
     ensures { ShowsPlaces table.now.types sizes.now.pointer style places.now result }
 {
     let mut out = Vec::new(alloc);
+    let mut kept = IndexMap::new(alloc);
     let mut started = false;
     for i in 0..places.len() {
-        let shown = layout_at(alloc, table, sizes, places[i])?;
-        started = put_shown(alloc, &mut out, table, style, places[i], &shown, started)?;
+        started = show_place(
+            alloc, &mut out, table, sizes, style, &mut kept, places[i], started,
+        )?;
     }
     Ok(Bytes::new(out))
+}
+
+/// Adds the text of the type in a place as `put_shown` does. Layouts are kept by the places of their structures, so that each
+/// structure is laid out once.
+fn show_place(
+    alloc: Global,
+    out: &mut Vec<u8>,
+    table: &Table<'_>,
+    sizes: &Sizes,
+    style: Style,
+    kept: &mut IndexMap<u32, TypeLayout>,
+    x: u32,
+    started: bool,
+) -> Result<bool, ShowFault>
+    requires few { length table.now.types < 2 ^ 32 }
+    requires within { RefersWithin (length table.now.types) table.now.types }
+    requires sizes { AreSizes table.now.types sizes.now }
+    requires line { 0 < style.line }
+    requires listed { IsTrue (is_listed table.now.types x) }
+    requires kept { AreKept table.now.types sizes.now.pointer kept.old.entries }
+    ensures shows { ShowsPlace table.now.types sizes.now.pointer style x started out.old.items out.new.items result }
+    ensures kept { OnOk result (AreKept table.now.types sizes.now.pointer kept.new.entries) }
+{
+    let structure = structure_at(table.types.items(), x).unwrap();
+    if let Some(shown) = kept.get(&structure) {
+        return Ok(put_shown(alloc, out, table, style, x, shown, started)?);
+    }
+    let shown = layout_at(alloc, table, sizes, x)?;
+    let now = put_shown(alloc, out, table, style, x, &shown, started)?;
+    kept.insert(structure, shown)?;
+    Ok(now)
 }
 
 /// The layout of the structure that the type in a place shows.
@@ -96,13 +130,6 @@ fn layout_at(
     }
 }
 
-/// How many holes have whole bytes.
-fn byte_holes(slots: &[Slot]) -> usize
-    ensures { result ≡ byte_holes slots.now }
-{
-    slots.iter().filter(|s| s.hole / 8 > 0).count()
-}
-
 fn separator(style: Style) -> &'static [u8]
     ensures { result.now ≡ separator style }
 {
@@ -122,9 +149,10 @@ fn put_shown(
 ) -> Result<bool, AllocError>
     requires line { 0 < style.line }
     requires few { x < 2 ^ 32 - 1 }
+    requires counted { shown.now.holes ≡ byte_holes shown.now.slots }
     ensures { IfOk result (λ now. PutsPiece table.now.types style (x, shown.now) started out.old.items out.new.items now) }
 {
-    if byte_holes(shown.slots.items()) < style.holes as usize {
+    if shown.holes < style.holes as usize {
         return Ok(started);
     }
     if started {
@@ -146,6 +174,7 @@ fn piece(
 ) -> Result<Bytes, AllocError>
     requires line { 0 < style.line }
     requires few { x < 2 ^ 32 - 1 }
+    requires counted { shown.now.holes ≡ byte_holes shown.now.slots }
     ensures { IfOk result (λ b. b ≡ piece table.now.types style (x, shown.now)) }
 {
     if style.sizes {

@@ -197,53 +197,96 @@ fn shown(
     Ok(show(alloc, table, 8, Some(names.as_slice()), style))
 }
 
+/// A type of some kind, with so many members and the ids of its targets; 0 is void.
+#[derive(Clone, Copy)]
+struct Row {
+    kind: u8,
+    name: &'static [u8],
+    size: u32,
+    members: usize,
+    targets: [u32; 3],
+}
+
+fn made(kind: u8, name: &'static [u8], size: u32, members: usize, targets: [u32; 3]) -> Row {
+    Row {
+        kind,
+        name,
+        size,
+        members,
+        targets,
+    }
+}
+
+fn ref_of(id: u32) -> Ref {
+    if id == 0 {
+        Ref::Void
+    } else {
+        Ref::Node(id - 1)
+    }
+}
+
+/// The type of a row. Its members begin 8 bytes behind each other.
+fn type_of(alloc: Global, row: Row) -> Result<CType<'static>, Fail> {
+    let mut parts = Vec::new(alloc);
+    for k in 0..row.members {
+        parts.push(Part {
+            name: Name::new(b"m"),
+            value: (k as u64 % 8) * 64,
+        })?;
+    }
+    let [a, b, c] = row.targets;
+    let label = Label {
+        kind: row.kind,
+        name: Name::new(row.name),
+        flag: false,
+        size: row.size,
+        extra: 0,
+        parts: Parts::new(parts),
+    };
+    let targets = vec![in alloc; ref_of(a), ref_of(b), ref_of(c)]?;
+    Ok(CType {
+        label,
+        targets: Refs::new(targets),
+    })
+}
+
 /// A table with a type of every kind, of which those with the ids 2, 4, 7, 22, 23 and 25 can be shown.
 fn every_kind(alloc: Global, base: u32) -> Result<Table<'static>, Fail> {
-    let int = Ref::Node(0);
-    let two = [(b"x".as_slice(), 0u64), (b"y".as_slice(), 64)];
-    let three = [
-        (b"x".as_slice(), 0u64),
-        (b"y".as_slice(), 64),
-        (b"z".as_slice(), 128),
+    let rows = [
+        made(1, b"int", 4, 0, [0, 0, 0]),
+        made(4, b"a", 12, 2, [1, 1, 0]),
+        made(4, b"", 4, 1, [1, 0, 0]),
+        made(8, b"t", 0, 0, [3, 0, 0]),
+        made(2, b"", 0, 0, [2, 0, 0]),
+        made(3, b"", 0, 0, [1, 1, 0]),
+        made(5, b"a", 16, 2, [5, 6, 0]),
+        made(6, b"e", 4, 0, [0, 0, 0]),
+        made(7, b"f", 0, 0, [0, 0, 0]),
+        made(9, b"", 0, 0, [1, 0, 0]),
+        made(10, b"", 0, 0, [1, 0, 0]),
+        made(11, b"", 0, 0, [5, 0, 0]),
+        made(12, b"call", 0, 0, [14, 0, 0]),
+        made(13, b"", 0, 0, [0, 0, 0]),
+        made(14, b"v", 0, 0, [1, 0, 0]),
+        made(15, b".data", 4, 0, [0, 0, 0]),
+        made(16, b"double", 8, 0, [0, 0, 0]),
+        made(17, b"note", 0, 0, [2, 0, 0]),
+        made(18, b"user", 0, 0, [1, 0, 0]),
+        made(19, b"w", 8, 0, [0, 0, 0]),
+        made(8, b"a", 0, 0, [2, 0, 0]),
+        made(4, b"two", 20, 3, [1, 1, 1]),
+        made(8, b"u", 0, 0, [24, 0, 0]),
+        made(5, b"", 4, 1, [1, 0, 0]),
+        made(8, b"t", 0, 0, [24, 0, 0]),
     ];
-    let types = [
-        node(alloc, 1, b"int", 4, &[], &[])?,
-        node(alloc, 4, b"a", 12, &two, &[int, int])?,
-        node(alloc, 4, b"", 4, &[(b"z".as_slice(), 0)], &[int])?,
-        node(alloc, 8, b"t", 0, &[], &[Ref::Node(2)])?,
-        node(alloc, 2, b"", 0, &[], &[Ref::Node(1)])?,
-        node(alloc, 3, b"", 0, &[], &[int, int])?,
-        node(
-            alloc,
-            5,
-            b"a",
-            16,
-            &[(b"p".as_slice(), 0), (b"q".as_slice(), 0)],
-            &[Ref::Node(4), Ref::Node(5)],
-        )?,
-        node(alloc, 6, b"e", 4, &[], &[])?,
-        node(alloc, 7, b"f", 0, &[], &[])?,
-        node(alloc, 9, b"", 0, &[], &[int])?,
-        node(alloc, 10, b"", 0, &[], &[int])?,
-        node(alloc, 11, b"", 0, &[], &[Ref::Node(4)])?,
-        node(alloc, 12, b"call", 0, &[], &[Ref::Node(13)])?,
-        node(alloc, 13, b"", 0, &[], &[Ref::Void])?,
-        node(alloc, 14, b"v", 0, &[], &[int])?,
-        node(alloc, 15, b".data", 4, &[], &[])?,
-        node(alloc, 16, b"double", 8, &[], &[])?,
-        node(alloc, 17, b"note", 0, &[], &[Ref::Node(1)])?,
-        node(alloc, 18, b"user", 0, &[], &[int])?,
-        node(alloc, 19, b"w", 8, &[], &[])?,
-        node(alloc, 8, b"a", 0, &[], &[Ref::Node(1)])?,
-        node(alloc, 4, b"two", 20, &three, &[int, int, int])?,
-        node(alloc, 8, b"u", 0, &[], &[Ref::Node(23)])?,
-        node(alloc, 5, b"", 4, &[(b"z".as_slice(), 0)], &[int])?,
-        node(alloc, 8, b"t", 0, &[], &[Ref::Node(23)])?,
-    ];
+    let mut types = Vec::new(alloc);
+    for row in &rows {
+        types.push(type_of(alloc, *row)?)?;
+    }
     Ok(Table {
         order: Order::Little,
         base,
-        types: Nodes::new(Vec::from_array(alloc, types)?),
+        types: Nodes::new(types),
         names: b"\0",
     })
 }
