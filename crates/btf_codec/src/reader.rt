@@ -15,8 +15,8 @@ use crate::faults::words_fault;
 use crate::file::{are_strings, order_in, pieces_of, sections_of};
 use crate::shown::{Texts, type_shown};
 use crate::table::Table;
-use c_model::{CType, Label, Nodes, Part, Parts, Refs};
-use dw_base::{Name, Order};
+use c_model::{CType, Nodes, copy_of_types};
+use dw_base::Order;
 use std::alloc::{AllocError, Global};
 
 /// Nothing, or the first fault of the offsets of names and the ids in the types.
@@ -45,51 +45,6 @@ fn check_words(
     Ok(())
 }
 
-/// The same parts.
-fn copied_parts<'a>(alloc: Global, parts: &[Part<'a>]) -> Result<Vec<Part<'a>>, AllocError>
-    ensures { IfOk result (λ v. v.items ≡ parts.now) }
-{
-    let mut copies = Vec::new(alloc);
-    for part in parts {
-        copies.push(Part {
-            name: Name::new(part.name.bytes()),
-            value: part.value,
-        })?;
-    }
-    Ok(copies)
-}
-
-/// The same type.
-fn copied<'a>(alloc: Global, t: &CType<'a>) -> Result<CType<'a>, AllocError>
-    ensures { IfOk result (λ u. u ≡ t.now) }
-{
-    let parts = copied_parts(alloc, t.label.parts.items())?;
-    let targets = Vec::from_slice(alloc, t.targets.items())?;
-    let label = Label {
-        kind: t.label.kind,
-        name: Name::new(t.label.name.bytes()),
-        flag: t.label.flag,
-        size: t.label.size,
-        extra: t.label.extra,
-        parts: Parts::new(parts),
-    };
-    Ok(CType {
-        label,
-        targets: Refs::new(targets),
-    })
-}
-
-/// The same types.
-fn copied_types<'a>(alloc: Global, types: &[CType<'a>]) -> Result<Vec<CType<'a>>, AllocError>
-    ensures { IfOk result (λ v. v.items ≡ types.now) }
-{
-    let mut copies = Vec::new(alloc);
-    for t in types {
-        copies.push(copied(alloc, t)?)?;
-    }
-    Ok(copies)
-}
-
 /// Appends the types that pieces show.
 fn push_types<'a>(
     alloc: Global,
@@ -113,7 +68,7 @@ fn types_of<'a>(alloc: Global, base: Option<&Table<'a>>) -> Result<Vec<CType<'a>
     ensures { IfOk result (λ v. v.items ≡ types_before (option_map (λ b. before_of b.now) base.entry)) }
 {
     match base {
-        Some(table) => copied_types(alloc, table.types.items()),
+        Some(table) => copy_of_types(alloc, table.types.items(), 0),
         None => Ok(Vec::new(alloc)),
     }
 }

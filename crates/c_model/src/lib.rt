@@ -5,15 +5,17 @@
 //! definitions in `specs/` say which labels are well formed, which nodes are forward declarations, which
 //! partitions of the nodes agree, which one is coarsest, and how a node unfolds to a tree.
 //!
-//! No call of this crate takes memory.
+//! Only `copy_of_types` takes memory.
 #![tactic(auto)]
 
 pub mod classes;
+pub mod copies;
 pub mod graph;
 pub mod label;
 pub mod laws;
 mod shared;
 
 pub use classes::{Classes, Numbers};
+pub use copies::copy_of_types;
 pub use graph::{CType, Graph, Nodes, Ref, Refs};
 pub use label::{Family, Label, Part, Parts, is_same_label, is_same_part, is_same_parts};
