@@ -1,8 +1,9 @@
 # pahole, proved. `make pahole` builds the proved program, `make demo` encodes a file with it, `make test` is
-# the gate and the repository's own checks.
+# the gate and the repository's own checks. The pages' other numbers come from three scripts that no check runs, for they take long:
+# `make measure` (docs/SPEED.md), `make plants` and `make unseen` (docs/AUDIT.md).
 PROGRAM = crates/pahole/out/pahole
 
-.PHONY: pahole demo test
+.PHONY: pahole demo test measure plants unseen
 
 pahole:
 	@# rt run also runs the program, which ends with status 2 without words
@@ -14,3 +15,15 @@ demo: pahole
 
 test:
 	bash .ci/run
+
+# PAHOLE=path measures another program, RUNS=n times each row so often, VMLINUX=path names a kernel, WRITE=1 writes docs/SPEED.md's table
+measure:
+	bash checks/lib/measure.sh $(VMLINUX)
+
+# CRATES='a b' plants in these alone, WRITE=1 writes docs/AUDIT.md's rows
+plants:
+	bash checks/lib/plants.sh $(CRATES)
+
+# EDITS='a b' tries these alone
+unseen:
+	bash checks/lib/unseen.sh $(EDITS)

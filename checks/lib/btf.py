@@ -13,6 +13,19 @@ Type = collections.namedtuple("Type", "kind name last rows")
 Member = collections.namedtuple("Member", "bit bits")
 
 
+def count(data):
+    """How many types a table has, its base's not counted."""
+    order = "<" if data[:2] == b"\x9f\xeb" else ">"
+    length = struct.unpack_from(order + "I", data, 12)[0]
+    found, at = 0, 24
+    while at < 24 + length:
+        info = struct.unpack_from(order + "I", data, at + 4)[0]
+        kind = info >> 24 & 0x1F
+        at += 12 + 4 * (FIXED.get(kind, 0) + EACH.get(kind, 0) * (info & 0xFFFF))
+        found += 1
+    return found
+
+
 def types(data):
     """All types of a table, by id; a structure's rows are the names, types and Members of its members."""
     order = "<" if data[:2] == b"\x9f\xeb" else ">"

@@ -1,0 +1,204 @@
+"""measure.py PROGRAM ROOT FOLDER RUNS [VMLINUX]: the rows of docs/SPEED.md. Each row is a run of PROGRAM over an input that is found on this
+machine or made in FOLDER: its time, its memory, and what came of it. Prints the rows as a table, with the machine and the tools, and
+a line `skipped NAME: ..` or `failed NAME: ..` on standard error for a row that there is not."""
+import collections
+import glob
+import json
+import os
+import platform
+import re
+import shlex
+import shutil
+import statistics
+import subprocess
+import sys
+import time
+
+from btf import count
+from made import KINDS, Made
+
+KERNELS = "/usr/lib/debug/boot/vmlinux-*"
+PACKAGE = "linux-image-6.1.0-*-amd64-dbg of Debian 12 has one of 633 MB; a path is taken too: checks/lib/measure.sh VMLINUX"
+OWN = "/sys/kernel/btf/vmlinux"
+TIMER = "/usr/bin/time"
+
+Run = collections.namedtuple("Run", "wall used memory")
+Row = collections.namedtuple("Row", "what given words")
+# what each made input shows; its numbers are counted
+WHATS = {
+    "apart": "units whose types all differ",
+    "alike": "units with the same types",
+    "nested-20000": "structures in each other",
+    "nested-200000": "ten times as many",
+    "flat": "one large unit",
+    "wide": "the widest structure",
+}
+WIDE = "the layout of the widest structure"
+KERNEL, KERNEL_ONE, KERNEL_LAYOUT = "a kernel", "a kernel, one worker", "a layout of a kernel"
+TABLE, PEER = "the layouts of this machine's kernel, from its BTF", "a kernel, by the tool pahole"
+ALL = [KERNEL, KERNEL_ONE, KERNEL_LAYOUT, PEER, TABLE, *WHATS.values(), WIDE]
+
+
+def say(line):
+    print(line, file=sys.stderr, flush=True)
+
+
+def run_once(words, folder):
+    """A run's time, and the most memory that it had. Where /usr/bin/time is missing, memory below that of this program isn't seen."""
+    note, timer = f"{folder}/time", []
+    if os.access(TIMER, os.X_OK):
+        timer = [TIMER, "-q", "-o", note, "-f", "%M"]
+    with open(f"{folder}/printed", "wb") as out, open(f"{folder}/complaint", "wb") as err:
+        begin = time.perf_counter()
+        process = subprocess.Popen([*timer, *words], cwd=folder, stdin=subprocess.DEVNULL, stdout=out, stderr=err)
+        _, status, usage = os.wait4(process.pid, 0)
+        wall = time.perf_counter() - begin
+    process.returncode = os.waitstatus_to_exitcode(status)
+    memory = usage.ru_maxrss
+    if timer:
+        with open(note) as file:
+            memory = int(file.read().split()[-1])
+    return process.returncode, Run(wall, usage.ru_utime + usage.ru_stime, 1024 * memory)
+
+
+def measure(words, folder, runs):
+    """The status of a first run, its memory, and the times of `runs` more by hyperfine, or else the median of as many."""
+    status, first = run_once(words, folder)
+    if status != 0:
+        return status, first
+    if shutil.which("hyperfine"):
+        told = f"{folder}/told"
+        command = ["hyperfine", "-N", "--runs", str(runs), "--export-json", told, shlex.join(words)]
+        subprocess.run(command, cwd=folder, stdout=subprocess.DEVNULL, stderr=subprocess.DEVNULL, check=True)
+        with open(told) as file:
+            one = json.load(file)["results"][0]
+        return 0, Run(one["median"], one["user"] + one["system"], first.memory)
+    more = [run_once(words, folder)[1] for _ in range(runs)]
+    return 0, Run(statistics.median(one.wall for one in more), statistics.median(one.used for one in more), first.memory)
+
+
+def number(value):
+    return f"{value:,}"
+
+
+def seconds(value):
+    return f"{value:.1f} s" if value >= 10 else f"{value:.2f} s"
+
+
+def read(path):
+    with open(path, "rb") as file:
+        return file.read()
+
+
+def outcome(folder):
+    """What a run stored, or else what it printed."""
+    stored = f"{folder}/o"
+    if os.path.exists(stored):
+        table = read(stored)
+        return f"{number(len(table))} bytes of BTF, {number(count(table))} types"
+    printed = read(f"{folder}/printed")
+    lines = printed.count(b"\n")
+    return f"{number(lines)} lines"
+
+
+def show(row, folder, runs):
+    """Prints a row; answers the table that was stored."""
+    stored = f"{folder}/o"
+    if os.path.exists(stored):
+        os.remove(stored)
+    status, run = measure(row.words, folder, runs)
+    if status != 0:
+        complaint = read(f"{folder}/complaint").decode(errors="replace").strip()[:200]
+        say(f"failed {row.what}: status {status}, {complaint}")
+        return b""
+    cells = [row.what, row.given, seconds(run.wall), seconds(run.used), f"{number(round(run.memory / 1e6))} MB", outcome(folder)]
+    print(f"| {' | '.join(cells)} |", flush=True)
+    return read(stored) if os.path.exists(stored) else b""
+
+
+def tool(words, pattern=r"(.*)"):
+    """A tool's first line about itself."""
+    if not shutil.which(words[0]):
+        return None
+    said = subprocess.run(words, capture_output=True, text=True).stdout.strip()
+    found = re.match(pattern, said)
+    return found[1] if found else None
+
+
+def machine(program):
+    """What this was measured on, and with."""
+    model = re.search(r"^model name\s*:\s*(.*)$", read("/proc/cpuinfo").decode(), re.M)
+    memory = int(re.search(r"MemTotal:\s*(\d+)", read("/proc/meminfo").decode())[1]) * 1024
+    told = {
+        "": tool(["rt", "version"]),
+        "Python ": platform.python_version(),
+        "hyperfine ": tool(["hyperfine", "--version"], r"hyperfine (\S+)"),
+        "pahole ": tool(["pahole", "--version"], r"v(\S+)"),
+    }
+    name = model[1] if model else platform.machine()
+    load = os.getloadavg()[0]
+    print(f"Machine: {os.cpu_count()} processors ({name}), {round(memory / 1e9)} GB, Linux {platform.release()}, at a load of {load:.1f}.")
+    print(f"Tools: {', '.join(what + version for what, version in told.items() if version)}.")
+    print(f"The program has {number(os.path.getsize(program))} bytes.")
+    print()
+    print("| What | Input | Time | Processor time | Memory | Answer |")
+    print("|---|---|---|---|---|---|", flush=True)
+
+
+def kernel(program, folder, runs, named):
+    """A kernel with its DWARF: its table by as many workers as there are processors and by one, a layout, and the table of another program."""
+    found = [named] if named else sorted(glob.glob(KERNELS))
+    if not found:
+        return say(f"skipped {KERNEL}: there is no {KERNELS}; the package {PACKAGE}")
+    path, workers = os.path.abspath(found[-1]), min(os.cpu_count(), 256)
+    given = f"`{os.path.basename(path)}`, {number(os.path.getsize(path))} bytes"
+    encode = [program, "--btf_encode_detached=o"]
+    many = show(Row(KERNEL, f"{given}, `-j{workers}`", [*encode, f"-j{workers}", path]), folder, runs)
+    one = show(Row(KERNEL_ONE, "the same, `-j1`", [*encode, "-j1", path]), folder, runs)
+    if many != one:
+        say(f"failed {KERNEL_ONE}: another table than by {workers} workers")
+    show(Row(KERNEL_LAYOUT, "the same, `-C list_head`", [program, "-C", "list_head", path]), folder, runs)
+    if tool(["pahole", "--version"], r"v(\S+)"):
+        words = ["pahole", f"-j{workers}", "--btf_encode_detached=o", path]
+        show(Row(PEER, f"the same, `-j{workers}`", words), folder, runs)
+    else:
+        say(f"skipped {PEER}: it is not installed")
+
+
+def table(program, folder, runs):
+    """The types of the kernel that runs, from its own table."""
+    if not os.access(OWN, os.R_OK):
+        return say(f"skipped {TABLE}: there is no {OWN}")
+    path = f"{folder}/own"
+    shutil.copyfile(OWN, path)
+    data = read(path)
+    given = f"`{OWN}`, {number(len(data))} bytes, {number(count(data))} types"
+    show(Row(TABLE, given, [program, "-F", "btf", path]), folder, runs)
+
+
+def made_inputs(program, root, folder, runs):
+    """Files that are made here, each by a process of its own, so that this one stays small."""
+    for kind, what in WHATS.items():
+        path = f"{folder}/{kind}"
+        words = [sys.executable, "-B", f"{root}/checks/lib/made.py", kind, path]
+        made = Made(*map(int, subprocess.run(words, capture_output=True, text=True, check=True).stdout.split()))
+        sizes = f"{number(made.info)} bytes of `.debug_info`, {number(made.units)} unit{'s' * (made.units > 1)}, {number(made.entries)} entries"
+        given = f"{sizes}, {number(made.types)} types, {number(made.references)} references"
+        stored = show(Row(what, given, [program, "--btf_encode_detached=o", path]), folder, runs)
+        if stored and count(stored) != made.table:
+            say(f"failed {what}: {count(stored)} types in place of {made.table}")
+        if kind == "wide":
+            show(Row(WIDE, "the same, `-C wide`", [program, "-C", "wide", path]), folder, runs)
+        os.remove(path)
+
+
+def main():
+    program, root, folder, runs = os.path.abspath(sys.argv[1]), *sys.argv[2:4], int(sys.argv[4])
+    machine(program)
+    kernel(program, folder, runs, sys.argv[5] if len(sys.argv) > 5 else None)
+    table(program, folder, runs)
+    made_inputs(program, root, folder, runs)
+
+
+if __name__ == "__main__":
+    main()

@@ -1,0 +1,24 @@
+#!/usr/bin/env bash
+# measure.sh [VMLINUX]: measures the built program (or PAHOLE), and prints docs/SPEED.md's table: what it took on a kernel with debugging
+# information, on the BTF of the kernel that runs, and on made inputs. A row whose input or tool is missing is skipped by name. RUNS is how
+# often each is timed, by default 3. With WRITE=1 the table goes into docs/SPEED.md. No check runs this: its answers depend on the machine.
+set -u
+export LC_ALL=C.UTF-8 PATH=$PATH:/usr/sbin:/sbin
+. "$(dirname "$0")/program.sh"
+
+if ! command -v python3 >/dev/null; then
+  echo "skipped measure: python3 is not installed"
+  exit 0
+fi
+scratch=$(mktemp -d) || exit 2
+trap 'rm -rf "$scratch"' EXIT
+mkdir "$scratch/runs"
+python3 -B "$root/checks/lib/measure.py" "$program" "$root" "$scratch/runs" "${RUNS:-3}" "$@" | tee "$scratch/table"
+[ "${PIPESTATUS[0]}" = 0 ] || exit 1
+[ -n "${WRITE:-}" ] || exit 0
+# what stands between the marks becomes the table
+awk -v table="$scratch/table" '
+  /^<!-- end of measured -->/ { inside = 0; while ((getline line <table) > 0) print line; print "" }
+  !inside { print }
+  /^<!-- measured -->/ { inside = 1; print "" }' "$root/docs/SPEED.md" >"$scratch/page"
+cp "$scratch/page" "$root/docs/SPEED.md"

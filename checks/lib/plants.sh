@@ -1,0 +1,71 @@
+#!/usr/bin/env bash
+# plants.sh [CRATE..]: plants wrong bodies in each crate with clauses (or in those named) by `rt plant`, and prints its row of docs/AUDIT.md's
+# table; what is still proved, and what was not tried, is told on standard error. MINUTES and PLANTS bound each crate, by default 60 and
+# 2,000. With WRITE=1 the rows go into the page. No check runs this, for a crate takes minutes: `make plants`.
+set -u
+export LC_ALL=C.UTF-8
+root=$(cd "$(dirname "$0")/../.." && pwd) || exit 2
+if ! command -v rt >/dev/null; then
+  echo "skipped plants: rt is not installed"
+  exit 0
+fi
+scratch=$(mktemp -d) || exit 2
+trap 'rm -rf "$scratch"' EXIT
+page=$root/docs/AUDIT.md
+
+# the crates with clauses, in the order of crates.txt; programs have none that a body can be planted under
+listed() {
+  local crate
+  while IFS=: read -r crate _; do
+    if [ -f "$root/crates/$crate/src/lib.rt" ]; then echo "$crate"; fi
+  done <"$root/crates.txt"
+}
+
+# the row of what `rt plant` counted in its last line, as `planted-in=6 untested=5 ..`
+row() {
+  local crate=$1 cells=() what
+  for what in planted-in untested no-ensures refused elsewhere same proves not-judged; do
+    cells+=("$(grep -oE "(^| )$what=[0-9]+" <<<"$2" | cut -d= -f2)")
+  done
+  printf '| `%s`' "$crate"
+  printf ' | %s' "${cells[@]}"
+  echo ' |'
+}
+
+failed=0
+for crate in ${@:-$(listed)}; do
+  (cd "$root/crates/$crate" && rt plant --minutes "${MINUTES:-60}" --max "${PLANTS:-2000}") >"$scratch/log" 2>"$scratch/errors"
+  told=$(grep '^plants crate=' "$scratch/log")
+  if [ -z "$told" ]; then
+    echo "failed plants $crate: $(tail -n 1 "$scratch/errors")" >&2
+    failed=1
+    continue
+  fi
+  row "$crate" "$told" | tee -a "$scratch/rows"
+  grep -E '^(proves|no-ensures) ' "$scratch/log" | sed "s/^/$crate: /" >&2
+  if ! grep -q ' not-run=0' <<<"$told"; then
+    echo "failed plants $crate: some were not tried in ${MINUTES:-60} minutes" >&2
+    failed=1
+  fi
+done
+
+if [ -n "${WRITE:-}" ] && [ -s "$scratch/rows" ]; then
+  # the rows between the marks, the new ones in place of the old ones, in the order of crates.txt
+  listed >"$scratch/order"
+  awk -v rows="$scratch/rows" -v order="$scratch/order" '
+    BEGIN { while ((getline line <rows) > 0) { split(line, cells, "`"); new[cells[2]] = line } }
+    /^<!-- plants -->/ { inside = 1; print; next }
+    /^<!-- end of plants -->/ {
+      while ((getline crate <order) > 0) {
+        line = crate in new ? new[crate] : old[crate]
+        if (line != "") print line
+      }
+      inside = 0
+      print ""
+    }
+    inside && /^\| `/ { split($0, cells, "`"); old[cells[2]] = $0; next }
+    inside && /^$/ && seen++ { next }
+    { print }' "$page" >"$scratch/page"
+  cp "$scratch/page" "$page"
+fi
+exit $failed

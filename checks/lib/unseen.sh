@@ -1,0 +1,66 @@
+#!/usr/bin/env bash
+# unseen.sh [NAME..]: applies each edit of checks/lib/unseen (or those named) to a copy of the repository, and proves the edited crate. Each
+# is a wrong program, or an equal one, that docs/AUDIT.md says no clause refuses. An edit has the form of a must-fail edit, behind a line
+# `crate: NAME`; it may change several files, each behind a line `file: PATH` of its own. `passed` is what is proved. No check runs this, for
+# each edit costs a check of its crate: `make unseen`.
+set -u
+export LC_ALL=C.UTF-8
+root=$(cd "$(dirname "$0")/../.." && pwd) || exit 2
+for tool in rt python3; do
+  if ! command -v "$tool" >/dev/null; then
+    echo "skipped unseen: $tool is not installed"
+    exit 0
+  fi
+done
+scratch=$(mktemp -d) || exit 2
+trap 'rm -rf "$scratch"' EXIT
+
+# The copy has the sources, and of each crate that was checked here what its check kept, so that the edited crate alone is proved.
+mkdir "$scratch/copy"
+(cd "$root" && cp -r crates.txt HANDLES "$scratch/copy" && cp -a crates "$scratch/copy/crates") || exit 2
+
+# An edit's lines, put into the crate's files; prints why it can't be.
+apply() {
+  python3 - "$1" "$2" <<'PY'
+import sys
+
+edit, folder = sys.argv[1:]
+path = old = None
+with open(edit) as lines:
+    for line in lines.read().splitlines():
+        word, _, text = line.partition(": ")
+        if word == "file":
+            path = f"{folder}/{text.strip()}"
+        elif word == "old":
+            old = text.strip()
+        elif word == "new":
+            with open(path) as file:
+                whole = file.read()
+            if whole.count(old) != 1:
+                sys.exit(f"{old!r} stands {whole.count(old)} times in {path.removeprefix(folder + '/')}")
+            with open(path, "w") as file:
+                file.write(whole.replace(old, text.strip()))
+PY
+}
+
+failed=0
+for name in ${@:-$(cd "$root/checks/lib/unseen" && printf '%s\n' *.edit)}; do
+  name=${name%.edit}
+  edit=$root/checks/lib/unseen/$name.edit
+  crate=$(sed -n 's/^crate: //p' "$edit")
+  folder=$scratch/copy/crates/$crate
+  if ! why=$(apply "$edit" "$folder" 2>&1); then
+    echo "failed $name: $why"
+    failed=1
+  elif (cd "$folder" && rt check) >"$scratch/log" 2>&1; then
+    echo "passed $name: $crate is proved with it, as docs/AUDIT.md says"
+  else
+    echo "failed $name: $crate is not proved with it: $(grep -m 1 -E ': error|error\[' "$scratch/log" || tail -n 1 "$scratch/log")"
+    failed=1
+  fi
+  for part in src specs proofs; do
+    rm -rf "${folder:?}/$part"
+    if [ -d "$root/crates/$crate/$part" ]; then cp -a "$root/crates/$crate/$part" "$folder/$part"; fi
+  done
+done
+exit $failed
