@@ -1,6 +1,7 @@
 #!/usr/bin/env bash
 # The pages README.md and docs/: each path and each definition's file that they name exists, the map has each crate and each file of
-# its definitions, and the page on refusals has exactly the program's numbers.
+# its definitions, the page on refusals has exactly the program's numbers, and the numbers of cases, edits, limits and rows that they tell
+# are those of the repository.
 set -u
 export LC_ALL=C.UTF-8
 root=$(cd "$(dirname "$0")/.." && pwd) || exit 2
@@ -9,3 +10,4 @@ if ! command -v python3 >/dev/null; then
   exit 0
 fi
 python3 -B "$root/checks/lib/docs.py" "$root"
+python3 -B "$root/checks/lib/counts.py" "$root"

@@ -109,28 +109,20 @@ def check_refusals():
             known.add((number[1] or number[2], names.get(fault, fault)))
     told = set(re.findall(r"^\| (\d+) \| (\w+) \|", read("docs/REFUSALS.md"), re.M))
     faults = [f"{pair} is not told" for pair in sorted(known - told)]
+    for page in ("docs/REFUSALS.md", "docs/DECISIONS.md"):
+        free = re.findall(r"No refusal has the number (\d+)", read(page))
+        faults += [f"{page} says that {one} is free" for one in free if one in {number for number, _ in known}]
     return faults + [f"{pair} is told and not known" for pair in sorted(told - known)], f"{len(told)} refusals"
-
-
-def check_audit():
-    """Each edit that the page on the audit sorts is there."""
-    page, faults, number = read("docs/AUDIT.md"), [], 0
-    for line in page[page.index("## Bugs planted by hand"):].splitlines():
-        cells = line.split("|")
-        for name in CODE.findall(cells[2]) if len(cells) == 4 else []:
-            number += 1
-            if not exists(f"crates/*/must-fail/{name}.edit"):
-                faults.append(name)
-    return faults, f"{number} edits"
 
 
 def main():
     checks = [(f"paths of {page}", lambda page=page: check_paths(page)) for page in ["README.md"] + [
         os.path.relpath(path, ROOT) for path in sorted(glob.glob(f"{ROOT}/docs/*.md"))]]
-    checks += [("headline", check_headline), ("map", check_map), ("readme", check_readme), ("refusals", check_refusals), ("audit", check_audit)]
+    checks += [("headline", check_headline), ("map", check_map), ("readme", check_readme), ("refusals", check_refusals)]
     for name, check in checks:
         faults, what = check()
         print(f"failed docs {name}: {'; '.join(faults)}" if faults else f"passed docs {name}: {what}")
 
 
-main()
+if __name__ == "__main__":
+    main()

@@ -1,0 +1,172 @@
+"""counts.py ROOT: the numbers that README.md and docs/ tell are those of the repository: what the gate's programs print, rows of tables, cases,
+ways to build, edits, limits, and rows of measurements."""
+import ast
+import collections
+import glob
+import os
+import re
+import shutil
+import subprocess
+import sys
+
+from docs import CODE, ROOT, crates, read
+from measure import ALL
+
+WORDS = "zero one two three four five six seven eight nine ten eleven twelve thirteen fourteen fifteen sixteen seventeen eighteen nineteen".split()
+
+
+def number(word):
+    """A number as a page writes it: in digits, or as a word."""
+    return WORDS.index(word) if word in WORDS else int(word.replace(",", ""))
+
+
+def printed(program, line):
+    """A number in what a program of the gate prints; the gate compares it."""
+    return int(re.search(line, read(f"crates/{program}/stdout"), re.M)[1])
+
+
+def constant(path, name):
+    """The value of a constant of a Python file."""
+    for node in ast.parse(read(path)).body:
+        if isinstance(node, ast.Assign) and node.targets[0].id == name:
+            return ast.literal_eval(node.value)
+    raise KeyError(name)
+
+
+def occurrences(pattern, line):
+    return sum(len(re.findall(line, read(path), re.M)) for path in glob.glob(f"{ROOT}/{pattern}", recursive=True))
+
+
+def in_tests(crate, value):
+    """The value, where a crate's tests name it."""
+    files = [f"crates/{crate}/src/tests.rt", f"crates/{crate}/src/tests/*.rt"]
+    return value if any(occurrences(path, rf"\b{value:_}\b") for path in files) else 0
+
+
+def shipped(name):
+    return number(re.search(rf"^    {name}: ([\d_]+),", read("crates/dw_base/src/places.rt"), re.M)[1].replace("_", ""))
+
+
+# a page, the words around a number there, and the number that the repository has
+TOLD = [
+    ("README.md", r"a file of (\S+) bytes", lambda: len(re.sub(r"\s", "", read("crates/run_cases/data/one-base-type/file.a.hex"))) // 2),
+    ("README.md", r"number of workers, 1 to (\d+)", lambda: int(re.search(r"^jobs = number 1 (\d+)", read("crates/command_line/specs/Values.antt"), re.M)[1])),
+    ("README.md", r"each of the (\d+) forms", lambda: occurrences("crates/dwarf_forms/specs/Forms.antt", r"^    (?:∷ )?\(0x")),
+    ("README.md", r"all (\w+) kinds and", lambda: occurrences("crates/btf_codec/specs/Fields.antt", r"k == \d+ then Some")),
+    ("README.md", r"all (\w+) kinds of types", lambda: occurrences("crates/btf_codec/specs/Fields.antt", r"k == \d+ then Some")),
+    ("README.md", r"types of ([\d,]+) parts and of one more", lambda: in_tests("c_types", 65_535)),
+    ("README.md", r"([\d,]+) structures in each other", lambda: in_tests("c_types", 50_000)),
+    ("README.md", r"(\d+) lists of words", lambda: 1 + occurrences("crates/command_line/src/tests.rt", r"^(?!const|///).* -> \w+ ")),
+    ("README.md", r"on (\d+) graphs whose", lambda: printed("graph_cases", r"^worked graphs with their tables: (\d+), as expected$")),
+    ("README.md", r"The tables of the (\d+),", lambda: printed("graph_cases", r"^worked graphs with their tables: (\d+), as expected$")),
+    ("README.md", r"and on (\d+) made ones", lambda: printed("graph_cases", r"^made graphs: (\d+), none differs$")),
+    ("README.md", r"merges ([\d,]+) integers", lambda: printed("graph_cases", r"^(\d+) sizes of INT, all differ: yes$")),
+    ("README.md", r"(\d+) BTF files of both", lambda: printed("btf_cases", r"^(\d+) cases, 0 differ$")),
+    ("README.md", r"a structure of ([\d,]+) members", lambda: 65_535 if occurrences("crates/btf_cases/src/members.rt", r"\b65_?535\b") else 0),
+    ("README.md", r"(\d+) whole runs", lambda: printed("run_cases", r"^(\d+) cases, 0 differ$")),
+    ("README.md", r"gcc and clang in (\d+) ways", lambda: sum(map(len, constant("checks/lib/programs.py", "ACCEPTED").values()))),
+    ("README.md", r"(\d+) made structures and unions", lambda: constant("checks/lib/layouts.py", "MADE")),
+    ("README.md", r"unions, built in (\w+) ways", lambda: len(constant("checks/lib/layouts.py", "WAYS"))),
+    ("README.md", r"over ([\d,]+) damaged copies", lambda: constant("checks/lib/damage.py", "RUNS")),
+    ("README.md", r"built for up to (\w+) machines", lambda: occurrences("checks/damage.sh", r"^build [\w-]+ \d")),
+    ("docs/REFUSALS.md", r"larger than (\d+) GiB", lambda: shipped("file_bytes") >> 30),
+    ("docs/REFUSALS.md", r"together are larger than (\d+) GiB", lambda: shipped("all_bytes") >> 30),
+    ("docs/REFUSALS.md", r"more than ([\d,]+) types in all files", lambda: shipped("nodes")),
+    ("docs/REFUSALS.md", r"more than ([\d,]+) members", lambda: int(re.search(r"const MOST: u64 = ([\d_]+)", read("crates/c_types/src/labels.rt"))[1])),
+]
+
+
+def check_told():
+    faults = []
+    for page, pattern, count in TOLD:
+        found = re.search(pattern.replace(" ", r"\s+"), read(page))
+        if not found:
+            faults.append(f"{page} does not say {pattern!r}")
+        elif number(found[1]) != count():
+            faults.append(f"{page} says {found[0]!r}, and there are {count()}")
+    return faults, f"{len(TOLD)} numbers"
+
+
+def check_cases():
+    """The cases that the programs of the gate count are those that lie there; btf_cases makes two more."""
+    runs = read("crates/run_cases/data/list").split()
+    folders = [os.path.basename(os.path.dirname(path)) for path in glob.glob(f"{ROOT}/crates/run_cases/data/*/")]
+    faults = [f"run_cases has {len(folders)} folders, and its list {len(runs)}"] if sorted(runs) != sorted(folders) else []
+    lying = {"run_cases": len(runs), "btf_cases": 2 + occurrences("crates/btf_cases/data/*", "^case ")}
+    for program, count in lying.items():
+        told = printed(program, r"^(\d+) cases, 0 differ$")
+        if told != count:
+            faults.append(f"{program} prints {told}, and there are {count}")
+    return faults, ", ".join(f"{count} in {program}" for program, count in lying.items())
+
+
+def listed_edits(page):
+    """The layers of the page on the audit: the crates of each, and the names of edits by class."""
+    layers, name = {}, None
+    for line in page[page.index("<!-- tables -->"):page.index("<!-- end of tables -->")].splitlines():
+        if line.startswith("### "):
+            name = line[4:line.index(" (")]
+            layers[name] = (frozenset(CODE.findall(line)), {})
+        elif name and len(cells := line.split("|")) == 4 and CODE.findall(cells[2]):
+            layers[name][1][cells[1].strip()] = CODE.findall(cells[2])
+    return layers
+
+
+def check_edits():
+    """Each edit is sorted under a layer with its crate, once, and the table before the layers counts them."""
+    page, faults = read("docs/AUDIT.md"), []
+    layers = listed_edits(page)
+    told = collections.defaultdict(collections.Counter)
+    for group, classes in layers.values():
+        told[group].update(name for names in classes.values() for name in names)
+    for group, names in told.items():
+        paths = [path for crate in group for path in glob.glob(f"{ROOT}/crates/{crate}/must-fail/*.edit")]
+        there = collections.Counter(os.path.basename(path)[:-5] for path in paths)
+        faults += [f"{name} of {', '.join(sorted(group))} is not listed" for name in (there - names).elements()]
+        faults += [f"{name} is listed and no edit of {', '.join(sorted(group))}" for name in (names - there).elements()]
+    table = [[cell.strip() for cell in line.split("|")[1:-1]] for line in page.splitlines() if line.count("|") == 12]
+    head = table[0][1:-1]
+    for layer, *cells, total in table[2:]:
+        had = [str(len(layers[layer][1].get(name, [])) or "") for name in head]
+        if had != cells or int(total) != sum(int(cell or 0) for cell in cells):
+            faults.append(f"the row of {layer} is not {had}")
+    folders = {os.path.basename(os.path.dirname(os.path.dirname(path))) for path in glob.glob(f"{ROOT}/crates/*/must-fail/*.edit")}
+    faults += [f"{crate} has edits and no layer" for crate in sorted(folders - set().union(*told))]
+    return faults, f"{sum(sum(names.values()) for names in told.values())} edits in {len(layers)} layers"
+
+
+def check_unseen():
+    """The page on the audit names each edit that no clause refuses, and no other."""
+    page = read("docs/AUDIT.md")
+    words = CODE.findall(page[page.index("## What no clause can refuse"):])
+    told = {word for word in words if re.fullmatch(r"[a-z]+(_[a-z]+)+", word)} - set(crates())
+    there = {os.path.basename(path)[:-5] for path in glob.glob(f"{ROOT}/checks/lib/unseen/*.edit")}
+    faults = [f"{name} is not named" for name in sorted(there - told)]
+    return faults + [f"{name} is named and not there" for name in sorted(told - there)], f"{len(there)} edits"
+
+
+def check_speed():
+    """The page on speed has rows of the script that measures, and no others."""
+    rows = [line.split("|")[1].strip() for line in read("docs/SPEED.md").splitlines() if line.startswith("|")][2:]
+    return [f"{row} is not measured" for row in rows if row not in ALL], f"{len(rows)} of {len(ALL)} rows"
+
+
+def check_toolchain():
+    """The README names the toolchain that is installed."""
+    told = re.search(r"`rt version` prints `([^`]*)`", read("README.md"))[1]
+    had = subprocess.run(["rt", "version"], capture_output=True, text=True).stdout.strip()
+    return [] if had == told else [f"it is {had}, and the README says {told}"], told
+
+
+def main():
+    checks = {"numbers": check_told, "cases": check_cases, "edits": check_edits, "unseen edits": check_unseen, "speed": check_speed}
+    if shutil.which("rt"):
+        checks["toolchain"] = check_toolchain
+    else:
+        print("skipped docs toolchain: rt is not installed")
+    for name, check in checks.items():
+        faults, what = check()
+        print(f"failed docs {name}: {'; '.join(faults)}" if faults else f"passed docs {name}: {what}")
+
+
+main()
