@@ -1,7 +1,12 @@
-"""examples.py PROGRAM FOLDER PAGE..: runs the commands `$ pahole ..` of pages in FOLDER, and compares what they print with the page."""
+"""examples.py PROGRAM FOLDER PAGE..: runs the commands `$ pahole ..` of pages in FOLDER, and compares what they print with the page. A line
+`FILE: N bytes of WHAT` is compared with the file that lies there, where the compiler is the one that the pages' numbers are from."""
 import os
+import re
 import subprocess
 import sys
+
+SIZED = re.compile(r"(\S+): (\d+) bytes of \w+")
+COMPILER = "Debian 12."
 
 
 def lines_of(page):
@@ -21,7 +26,7 @@ def examples(page):
     """Commands with what they print: up to the next command or the example's end."""
     found, last = [], None
     for line in lines_of(page):
-        if line is None or line.startswith("$ "):
+        if line is None or line.startswith("$ ") or SIZED.fullmatch(line):
             last = None
         if line is not None and line.startswith("$ pahole "):
             last = []
@@ -31,21 +36,30 @@ def examples(page):
     return [(command, "\n".join(text).rstrip()) for command, text in found]
 
 
+def sizes(page, folder):
+    """The lines of a page that tell how long a file is, and what is wrong with each."""
+    for found in filter(None, (SIZED.fullmatch(line) for line in lines_of(page) if line)):
+        had = os.path.getsize(f"{folder}/{found[1]}")
+        yield found[0], None if had == int(found[2]) else f"it has {had}"
+
+
 def main():
     program, folder, *pages = (os.path.abspath(word) for word in sys.argv[1:])
+    is_same_compiler = COMPILER in subprocess.run(["cc", "--version"], capture_output=True, text=True).stdout
     for page in pages:
         for command, wanted in examples(page):
             words = command.split(" ")[1:]
             done = subprocess.run([program, *words], cwd=folder, capture_output=True, text=True, timeout=120)
             had = done.stdout.expandtabs().rstrip()
             name = f"{os.path.basename(page)}: {command}"
-            # what an encoding run leaves is told by others
-            if any(word.startswith("--btf_encode_detached=") for word in words):
-                had = wanted = ""
             if done.returncode == 0 and had == wanted.expandtabs():
                 print(f"passed examples {name}")
             else:
                 print(f"failed examples {name}: status {done.returncode}, it prints {had!r}")
+        for line, fault in sizes(page, folder) if is_same_compiler else []:
+            print(f"failed examples {line}: {fault}" if fault else f"passed examples {line}")
+    if not is_same_compiler:
+        print("skipped examples of sizes: they are of another compiler, that of Debian 12")
 
 
 main()

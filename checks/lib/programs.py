@@ -201,6 +201,28 @@ def without_strings(program, demo):
     return is_refused(program, ("a",), r"pahole: a: \.debug_info \d+: error 42 \d+\n")
 
 
+def without_offsets(program, demo):
+    """A file of clang without its section of the places of strings."""
+    if not shutil.which("clang") or not build("clang", ["-glldb"], "a", sources_of(demo)):
+        return "skipped", "clang can't build it"
+    if run(["objcopy", "-R", ".debug_str_offsets", "a"]).returncode != 0:
+        return "skipped", "it can't be made"
+    return is_refused(program, ("a",), r"pahole: a: \.debug_info \d+: error 43 \d+\n")
+
+
+def old_bit_fields(program, demo):
+    """clang 14 places bit fields by an attribute that DWARF 5 no longer has, unless -glldb is given: they seem to begin at the member's first byte."""
+    if b"version 14." not in run(["clang", "--version"]).stdout or not build("clang", [], "a", sources_of(demo)):
+        return "skipped", "clang 14 can't build it"
+    status, complaint, stored = encoded(program, "-j1")
+    if status != 0:
+        return "failed", f"status {status}, {complaint!r}"
+    fields = {name: place for name, place in structures(stored)["registry"][1].items() if place.bits}
+    if not fields or any(place.bit % 8 for place in fields.values()):
+        return "failed", f"the bit fields are {fields}"
+    return "passed", f"{len(fields)} bit fields begin at a member's first byte"
+
+
 def supplementary(program, demo):
     """A file whose types refer to a supplementary file."""
     with open("more.c", "w") as file:
@@ -252,7 +274,9 @@ def main():
         say(f"cc {way}", refused(program, demo, way.split(), wanted))
     say("of two classes", mixed(program, demo))
     say("without strings", without_strings(program, demo))
+    say("without places of strings", without_offsets(program, demo))
     say("with a supplementary file", supplementary(program, demo))
+    say("with bit fields of clang 14", old_bit_fields(program, demo))
 
 
 main()
