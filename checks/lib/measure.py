@@ -39,7 +39,12 @@ TABLE, PEER = "the layouts of this machine's kernel, from its BTF", "a kernel, b
 ALL = [KERNEL, KERNEL_ONE, KERNEL_LAYOUT, PEER, TABLE, *WHATS.values(), WIDE]
 
 
+said = []
+
+
 def say(line):
+    """Tells a row that there is not."""
+    said.append(line)
     print(line, file=sys.stderr, flush=True)
 
 
@@ -98,7 +103,7 @@ def outcome(folder):
         return f"{number(len(table))} bytes of BTF, {number(count(table))} types"
     printed = read(f"{folder}/printed")
     lines = printed.count(b"\n")
-    return f"{number(lines)} lines"
+    return f"{number(len(printed))} bytes of text, {number(lines)} line{'s' * (lines != 1)}"
 
 
 def show(row, folder, runs):
@@ -120,8 +125,7 @@ def tool(words, pattern=r"(.*)"):
     """A tool's first line about itself."""
     if not shutil.which(words[0]):
         return None
-    said = subprocess.run(words, capture_output=True, text=True).stdout.strip()
-    found = re.match(pattern, said)
+    found = re.match(pattern, subprocess.run(words, capture_output=True, text=True).stdout.strip())
     return found[1] if found else None
 
 
@@ -198,7 +202,8 @@ def main():
     kernel(program, folder, runs, sys.argv[5] if len(sys.argv) > 5 else None)
     table(program, folder, runs)
     made_inputs(program, root, folder, runs)
+    return any(line.startswith("failed ") for line in said)
 
 
 if __name__ == "__main__":
-    main()
+    sys.exit(main())
