@@ -48,11 +48,9 @@ fn main(rt: HostRuntime) -> ExitCode {
 fn worked_agrees(alloc: Global, worked: &Worked, tally: &mut Tally) -> Result<bool, Error> {
     let rows = table_of(alloc, worked.base, worked.types)?;
     let (found, same) = decided(alloc, &rows, tally)?;
-    let table = built(alloc, &found, worked.base_names)??;
-    Ok(
-        same && is_one_relation(found.refined.classes.numbers(), worked.classes)
-            && is_table(alloc, &table, worked)?,
-    )
+    let are_wanted = is_one_relation(found.refined.classes.numbers(), worked.classes);
+    let table = built(alloc, found, worked.base_names)??;
+    Ok(same && are_wanted && is_table(alloc, &table, worked)?)
 }
 
 /// How many of these graphs have other classes or another table than are written beside them. Names them.
@@ -147,7 +145,7 @@ fn limits_hold<R: Print>(rt: &R, alloc: Global) -> Result<bool, Error> {
     let ints = ints_of_sizes(alloc, 1 << 20)?;
     let apart = all_differ(alloc, &ints)?;
     println!(rt; "1048576 sizes of INT, all differ: {}", said(apart))?;
-    let table = table_len(alloc, &ints)?;
+    let table = table_len(alloc, ints)?;
     println!(rt; "  their table: {:?}", table)?;
     let most = long_name_table(alloc, 16_777_213)?;
     println!(rt; "a last name at 16777215: {:?}", most)?;

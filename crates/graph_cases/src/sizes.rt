@@ -77,7 +77,7 @@ pub fn all_differ(alloc: Global, found: &Found<'_>) -> Result<bool, AllocError> 
 }
 
 /// The number of types of a graph's table, or why there is none.
-pub fn table_len(alloc: Global, found: &Found<'_>) -> Result<Result<usize, TableFault>, Fault> {
+pub fn table_len(alloc: Global, found: Found<'_>) -> Result<Result<usize, TableFault>, Fault> {
     match built(alloc, found, None)? {
         Ok(table) => Ok(Ok(table.types.items().len())),
         Err(fault) => Ok(Err(fault)),
@@ -91,5 +91,5 @@ pub fn long_name_table(alloc: Global, bytes: usize) -> Result<Result<usize, Tabl
     types.push(int(alloc, &name, 4))?;
     types.push(int(alloc, b"last", 4))?;
     let found = merged(alloc, Vec::new(alloc), types)?;
-    table_len(alloc, &found)
+    table_len(alloc, found)
 }

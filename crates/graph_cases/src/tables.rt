@@ -13,18 +13,18 @@ use std::alloc::{AllocError, Global};
 /// The table of a graph's coarsest partition over the strings of a base, or why there is none.
 pub fn built<'a>(
     alloc: Global,
-    found: &Found<'a>,
+    found: Found<'a>,
     base_names: Option<&'a [u8]>,
 ) -> Result<Result<TableOut<'a>, TableFault>, Fault> {
-    let classes = &found.refined.classes;
-    let graph = &found.graph;
+    let Found { graph, refined } = found;
+    let classes = refined.classes;
     if classes.numbers().len() != graph.nodes().len()
         || !are_formed(graph.nodes())
         || !is_base(base_names)
     {
         return Err(Fault::Unfit);
     }
-    Ok(build(alloc, graph, classes, base_names))
+    Ok(build(alloc, graph, &classes, base_names))
 }
 
 /// The types of these entries.

@@ -6,6 +6,7 @@ pub mod Placing
 pub mod Noting
 pub mod Naming
 pub mod Words
+pub mod Taking
 pub mod Making
 pub mod Owning
 pub mod Unfolds

@@ -4,10 +4,9 @@ ghost use Rattle.c_model.specs.Graph.{IsBelow, RefersWithin};
 ghost use Rattle.split_base.specs.Graphs.{joined, moved, moved_type};
 ghost use Rattle.split_base.specs.declared.fault.TableFault.TheVariants.{NodesTooMany, Memory};
 
-use crate::copy::copy_of_types;
 use crate::fault::TableFault;
 use btf_codec::Table;
-use c_model::{CType, Graph, Nodes, Ref, Refs};
+use c_model::{CType, Graph, Nodes, Ref, Refs, copy_of_types};
 use std::alloc::{AllocError, Global};
 
 /// The graph of a base alone: its types, in id order, as base nodes. The table has no base of its own. Node x is the

@@ -6,7 +6,6 @@
 //! nodes has a base node as its first node, and keeps its id.
 #![tactic(auto)]
 
-mod copy;
 pub mod fault;
 pub mod graph;
 pub mod laws;

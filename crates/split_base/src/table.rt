@@ -31,23 +31,26 @@ const LAST_ID: u64 = 0x000f_ffff;
 /// the own types are put in id order, a type's name before those of its parts, over the base's string section
 /// `base_names`, where there is one.
 ///
+/// The graph is taken: its nodes become the types of the table. They are moved with their parts, names and targets, and
+/// the other nodes are let go.
+///
 /// It is refused by `TooManyTypes`, with the number of types, exactly where there are more than 0x000fffff; else by
 /// `NamesTooLong`, with the offset, at the first name that would get one past 0x00ffffff; else by `TableTooLong`, with
 /// the number of bytes, exactly where the own types and the own strings take more than 2^32 - 1 bytes. It is never
 /// refused by `NodesTooMany`.
 pub fn build<'a>(
     alloc: Global,
-    graph: &Graph<'a>,
+    graph: Graph<'a>,
     classes: &Classes,
     base_names: Option<&'a [u8]>,
 ) -> Result<TableOut<'a>, TableFault>
-    requires covers { length classes.now ≡ length graph.now.nodes }
-    requires well { All IsWellFormed graph.now.nodes }
+    requires covers { length classes.now ≡ length graph.nodes }
+    requires well { All IsWellFormed graph.nodes }
     requires names { IfSome (option_copied base_names) IsSection }
-    ensures base { IfOk result (λ t. t.base ≡ graph.now.base) }
-    ensures table { IfOk result (λ t. t.types ≡ table_of graph.now classes.now) }
-    ensures own { IfOk result (λ t. drop t.base t.types ≡ own_types graph.now classes.now) }
-    ensures strings { IfOk result (λ t. t.strings ≡ strings_of (option_copied base_names.entry) (own_types graph.now classes.now)) }
+    ensures base { IfOk result (λ t. t.base ≡ graph.entry.base) }
+    ensures table { IfOk result (λ t. t.types ≡ table_of graph.entry classes.now) }
+    ensures own { IfOk result (λ t. drop t.base t.types ≡ own_types graph.entry classes.now) }
+    ensures strings { IfOk result (λ t. t.strings ≡ strings_of (option_copied base_names.entry) (own_types graph.entry classes.now)) }
     // What can be written.
     ensures few { IfOk result (λ t. length t.types < 2 ^ 32) }
     ensures fits { IfOk result (λ t. t.base ≤ length t.types) }
@@ -56,12 +59,12 @@ pub fn build<'a>(
     ensures length { IfOk result (λ t. 4 * length (flat_map fields_of (drop t.base t.types))
         + length (own_section t.strings) < 2 ^ 32) }
     ensures formed { IfOk result (λ t. All IsWellFormed (drop t.base t.types)) }
-    ensures accepted { OnOk result (table_refusal (option_copied base_names.entry) graph.now classes.now ≡ None) }
+    ensures accepted { OnOk result (table_refusal (option_copied base_names.entry) graph.entry classes.now ≡ None) }
     ensures refusal { IfErr result (λ e. (e ≡ Memory)
-        ⊎ (table_refusal (option_copied base_names.entry) graph.now classes.now ≡ Some e)) }
+        ⊎ (table_refusal (option_copied base_names.entry) graph.entry classes.now ≡ Some e)) }
 {
-    let types = table_types(alloc, graph, classes)?;
     let base = graph.base();
+    let types = table_types(alloc, graph, classes)?;
     let own = &types[base as usize..];
     let strings = put_names(alloc, base_names, own)?;
     check_length(own, &strings)?;
@@ -72,25 +75,25 @@ pub fn build<'a>(
     })
 }
 
-/// The types of the table of a partition.
+/// The types of the table of a partition, moved out of the graph.
 fn table_types<'a>(
     alloc: Global,
-    graph: &Graph<'a>,
+    graph: Graph<'a>,
     classes: &Classes,
 ) -> Result<Vec<CType<'a>>, TableFault>
-    requires { length classes.now ≡ length graph.now.nodes }
-    ensures table { IfOk result (λ v. v.items ≡ table_of graph.now classes.now) }
+    requires { length classes.now ≡ length graph.nodes }
+    ensures table { IfOk result (λ v. v.items ≡ table_of graph.entry classes.now) }
     ensures few { IfOk result (λ v. length v.items < 2 ^ 20) }
-    ensures accepted { OnOk result (types_refusal (length (table_of graph.now classes.now)) ≡ None) }
+    ensures accepted { OnOk result (types_refusal (length (table_of graph.entry classes.now)) ≡ None) }
     ensures refusal { IfErr result (λ e. (e ≡ Memory)
-        ⊎ (types_refusal (length (table_of graph.now classes.now)) ≡ Some e)) }
+        ⊎ (types_refusal (length (table_of graph.entry classes.now)) ≡ Some e)) }
     // Each reference is to a node of the graph.
-    ensures within { RefersWithin (length graph.now.nodes) graph.now.nodes }
+    ensures within { RefersWithin (length graph.entry.nodes) graph.entry.nodes }
 {
     let _ = graph.len();
-    let places = places_of(alloc, graph, classes)?;
+    let places = places_of(alloc, &graph, classes)?;
     check_count(u64::from(graph.base()) + places.firsts.len() as u64)?;
-    let sources = sources_of(alloc, graph, &places)?;
+    let sources = sources_of(alloc, &graph, &places)?;
     Ok(types_of(alloc, graph, &places.nodes, &sources)?)
 }
 

@@ -1,63 +1,77 @@
 //! The types of a table.
-ghost use Rattle.std.specs.Prelude.{◌≡◌, ◌<◌, ◌≤◌, ◌+◌, ◌^◌, ◌++◌, All, Some, length, map, slice_index, take, filter_map, IfOk};
+ghost use Rattle.std.specs.Prelude.{◌≡◌, ◌<◌, ◌≤◌, ◌+◌, ◌++◌, [], All, EachIndex, length, map, slice_index, take, filter_map, IfOk};
 ghost use Rattle.c_model.specs.Graph.{IsBelow};
 ghost use Rattle.split_base.specs.Building.{type_by};
 ghost use Rattle.split_base.specs.Table.{renamed, renamed_type};
 
-use crate::copy::{copy_of_label, copy_of_types};
-use c_model::{CType, Graph, Ref, Refs};
+use c_model::{CType, Graph, Label, Parts, Ref, Refs};
+use dw_base::Name;
 use std::alloc::{AllocError, Global};
+use std::mem;
 
 /// The base's types as they are, and behind them a type for each source, by the places of the classes of all nodes.
+/// All of them are nodes of the graph, moved and not copied. The other nodes are let go.
 pub fn types_of<'a>(
     alloc: Global,
-    graph: &Graph<'a>,
+    graph: Graph<'a>,
     places: &[u32],
     sources: &[u32],
 ) -> Result<Vec<CType<'a>>, AllocError>
-    requires covers { length places.now ≡ length graph.now.nodes }
-    requires sources { All (λ s. s < length graph.now.nodes) sources.now }
-    requires few { length sources.now < 2 ^ 32 }
+    requires covers { length places.now ≡ length graph.nodes }
+    requires sources { All (λ s. s < length graph.nodes) sources.now }
+    requires own { All (λ s. graph.base ≤ s) sources.now }
+    // Each is of the class at its place, so that no node is the source of two classes.
+    requires apart { EachIndex sources.now
+        (λ i. slice_index places.now (slice_index sources.now i) ≡ graph.base + i) }
     ensures { IfOk result (λ v. v.items
-        ≡ take graph.now.base graph.now.nodes ++ filter_map (type_by graph.now places.now) sources.now) }
+        ≡ take graph.entry.base graph.entry.nodes ++ filter_map (type_by graph.entry places.now) sources.now) }
 {
-    let base = &graph.nodes()[..graph.base() as usize];
-    let mut types = copy_of_types(alloc, base, sources.len())?;
+    let base = graph.base() as usize;
+    // Each reference is to a node of the graph.
+    let _ = graph.len();
+    let mut nodes = graph.into_nodes().into_items();
+    let mut own = Vec::with_capacity(alloc, sources.len())?;
     for source in sources {
-        types.push(renamed_type(alloc, graph, places, *source)?)?;
+        let node = mem::replace(&mut nodes[*source as usize], nothing(alloc));
+        own.push(renamed_type(places, node))?;
     }
-    Ok(types)
+    nodes.truncate(base);
+    nodes.append(&mut own)?;
+    nodes.shrink_to_fit();
+    Ok(nodes)
+}
+
+/// A type that stands where a node was taken away. It takes no memory.
+fn nothing<'a>(alloc: Global) -> CType<'a>
+    ensures parts { result.label.parts ≡ [] }
+    ensures targets { result.targets ≡ [] }
+{
+    CType {
+        label: Label {
+            kind: 0,
+            name: Name::new(b""),
+            flag: false,
+            size: 0,
+            extra: 0,
+            parts: Parts::new(Vec::new(alloc)),
+        },
+        targets: Refs::new(Vec::new(alloc)),
+    }
 }
 
 /// A node as a type of the table: its label, and its targets as the types of their classes.
-fn renamed_type<'a>(
-    alloc: Global,
-    graph: &Graph<'a>,
-    places: &[u32],
-    source: u32,
-) -> Result<CType<'a>, AllocError>
-    requires covers { length places.now ≡ length graph.now.nodes }
-    requires node { source < length graph.now.nodes }
-    ensures { IfOk result (λ t. type_by graph.now places.now source ≡ Some t) }
+fn renamed_type<'a>(places: &[u32], node: CType<'a>) -> CType<'a>
+    requires { All (IsBelow (length places.now)) node.targets }
+    ensures { result ≡ renamed_type (slice_index places.now) node.entry }
 {
-    let node = graph.node(source);
-    // Each reference is to a node of the graph.
-    let _ = graph.len();
-    Ok(CType {
-        label: copy_of_label(alloc, &node.label)?,
-        targets: renamed_targets(alloc, places, node.targets.items())?,
-    })
-}
-
-fn renamed_targets(alloc: Global, places: &[u32], targets: &[Ref]) -> Result<Refs, AllocError>
-    requires { All (IsBelow (length places.now)) targets.now }
-    ensures { IfOk result (λ r. r ≡ map (renamed (slice_index places.now)) targets.now) }
-{
-    let mut named = Vec::with_capacity(alloc, targets.len())?;
-    for target in targets {
-        named.push(renamed_target(places, *target))?;
+    let mut targets = node.targets.into_items();
+    for target in targets.iter_mut() {
+        *target = renamed_target(places, *target);
     }
-    Ok(Refs::new(named))
+    CType {
+        label: node.label,
+        targets: Refs::new(targets),
+    }
 }
 
 fn renamed_target(places: &[u32], target: Ref) -> Ref

@@ -1,22 +1,31 @@
-use Rattle.std.proofs.Common.{◌≡◌, ◌+◌, ◌++◌, ◌∷◌, [], ℕ, List, Option, Some, get_or, take, length, ◌<◌, ap, ◌∙◌, sym, append_assoc}
-use Rattle.std.specs.List.{filter_map, cons_option}
-use Rattle.std.proofs.lemmas.List.{take_more}
-use Rattle.std.proofs.lemmas.List.Elements.{filter_map-append}
+use Rattle.std.proofs.Common.{◌≡◌, ◌++◌, ◌∷◌, [], ℕ, All, get_or, length, ◌<◌, ◌≤◌, refl, sym, ap, ◌∙◌, subst, arith}
+use Rattle.std.proofs.lemmas.List.{get_or_read}
+use Rattle.std.proofs.lemmas.List.Elements.{All-get_or}
+use Rattle.c_model.specs.Graph.{IsBelow}
 use Rattle.c_model.specs.declared.graph.CType.{CType}
-use Rattle.split_base.specs.Building.{type_by}
+use Rattle.split_base.proofs.Taking.{node_within, taken_more}
 use Rattle.split_base.proofs.types.types_of.Goals as goal
 
--- a type more
-more : (h : ℕ → Option CType) (front types new : List CType) (t : CType) (xs : List ℕ) (i : ℕ) → i < length xs → types ≡ front ++ filter_map h (take i xs)
-    → h (get_or xs i 0) ≡ Some t → new ≡ types ++ t ∷ [] → new ≡ front ++ filter_map h (take (i + 1) xs)
-more h front types new t xs i lt s e push =
-    push ∙ ap (λ (ts : List CType). ts ++ t ∷ []) s ∙ append_assoc front (filter_map h (take i xs)) (t ∷ [])
-    ∙ ap (λ (ts : List CType). front ++ ts)
-    (ap (λ (o : Option CType). filter_map h (take i xs) ++ cons_option o []) (sym e)
-    ∙ sym (filter_map-append h (take i xs) (get_or xs i 0 ∷ []))
-    ∙ ap (filter_map h) (sym (take_more xs i 0 lt)))
+pub renamed_type-requires : goal.renamed_type-requires
+renamed_type-requires c =
+    let i : ℕ = c.loop-source.source-index in
+    let s : ℕ = get_or c.args.sources.now i 0 in
+    let below : s < length c.args.graph.nodes = All-get_or (λ (k : ℕ). k < length c.args.graph.nodes) c.args.sources.now i 0 c.loop-source-test.true c.requires.sources in
+    let node : CType = c.replace-node.result in
+    let is : node ≡ get_or c.loop-source.nodes.items s node =
+    c.replace-node.ensures.value ∙ get_or_read c.loop-source.nodes.items s c.index_mut.result.now (omega (arith, below, c.loop-source.invariant.sized)) c.index_mut.ensures.value node in
+    subst (λ (n : ℕ). All (IsBelow n) node.targets) (sym c.requires.covers)
+    (node_within c.args.graph c.args.places.now c.args.sources.now i c.loop-source.own.items c.loop-source.nodes.items c.loop-source.invariant s
+    (c.requires.apart i c.loop-source-test.true) below node is c.len.ensures.within)
 
 pub loop-source-preserved : goal.loop-source-preserved
 loop-source-preserved c =
-    more (type_by c.args.graph.now c.args.places.now) (take c.args.graph.now.base c.args.graph.now.nodes) c.loop-source.types.items c.push.new.self.items c.in_ok-renamed_type.field-0 c.args.sources.now
-    c.loop-source.source-index c.loop-source-test.true c.loop-source.invariant c.in_ok-renamed_type.ensures c.in_ok-push.ensures.items
+    let i : ℕ = c.loop-source.source-index in
+    let s : ℕ = get_or c.args.sources.now i 0 in
+    let below : s < length c.args.graph.nodes = All-get_or (λ (k : ℕ). k < length c.args.graph.nodes) c.args.sources.now i 0 c.loop-source-test.true c.requires.sources in
+    let over = All-get_or (λ (k : ℕ). c.args.graph.base ≤ k) c.args.sources.now i 0 c.loop-source-test.true c.requires.own in
+    let node : CType = c.replace-node.result in
+    let is : node ≡ get_or c.loop-source.nodes.items s node =
+    c.replace-node.ensures.value ∙ get_or_read c.loop-source.nodes.items s c.index_mut.result.now (omega (arith, below, c.loop-source.invariant.sized)) c.index_mut.ensures.value node in
+    taken_more c.args.graph c.args.places.now c.args.sources.now i c.loop-source.own.items c.loop-source.nodes.items c.loop-source.invariant s
+    (c.requires.apart i c.loop-source-test.true) below node is c.loop-source-test.true refl over _ _ _ (c.in_ok-push.ensures.items ∙ ap (λ (t : CType). c.loop-source.own.items ++ t ∷ []) c.renamed_type.ensures) refl
