@@ -7,7 +7,6 @@ use Rattle.c_model.specs.declared.graph.CType.{CType}
 use Rattle.c_model.specs.declared.graph.Ref.{Ref}
 use Rattle.btf_codec.specs.Fields.{id_of, target_at}
 use Rattle.layout_printer.specs.Sizes.{ref_of, type_of, size_of}
-use Rattle.layout_printer.specs.Text.{byte_holes}
 use Rattle.layout_printer.specs.declared.slots.Slot.{Slot}
 use Rattle.layout_printer.specs.declared.slots.TypeLayout.{TypeLayout}
 
@@ -68,7 +67,6 @@ pub record IsLayout (types : List CType) (pointer id : ℕ) (shown : TypeLayout)
   pub size : shown.size ≡ t.label.size
   pub slots : AreSlots types pointer t shown.slots
   pub padding : shown.padding ≡ free_bits shown.slots (8 * shown.size)
-  pub holes : shown.holes ≡ byte_holes shown.slots
 
 -- whether the type of a member has no size; bit fields need none
 pub record LacksSize (types : List CType) (pointer : ℕ) (t : CType) (k : ℕ) : Type 0 where

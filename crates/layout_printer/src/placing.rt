@@ -6,7 +6,6 @@ ghost use Rattle.btf_codec.specs.Fields.{id_of};
 ghost use Rattle.layout_printer.specs.Sizes.{AreSizes, ref_of, type_of};
 ghost use Rattle.layout_printer.specs.Layout.{AreSlots, IsFirstLacking, IsLayout, IsSlot, IsStructure, bits_of, end_of, start_of, width_of};
 ghost use Rattle.layout_printer.specs.Measuring.{farthest};
-ghost use Rattle.layout_printer.specs.Text.{byte_holes};
 ghost use Rattle.layout_printer.specs.declared.slots.Slot.{Slot};
 
 use crate::lookups::{id_of, target_at};
@@ -38,21 +37,12 @@ pub fn layout(
     let size = t.label.size;
     let end = farthest(&slots);
     let padding = (8 * u128::from(size)).saturating_sub(end) as u64;
-    let holes = byte_holes(&slots);
     Ok(TypeLayout {
         id,
         size,
         slots: Slots::new(slots),
         padding,
-        holes,
     })
-}
-
-/// How many slots have a hole of whole bytes.
-fn byte_holes(slots: &[Slot]) -> usize
-    ensures { result ≡ byte_holes slots.now }
-{
-    slots.iter().filter(|s| s.hole / 8 > 0).count()
 }
 
 /// The slots of all members, by the sizes of the table.

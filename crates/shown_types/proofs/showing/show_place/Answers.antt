@@ -5,10 +5,6 @@ use Rattle.shown_types.proofs.Keeping.{place_within}
 use Rattle.shown_types.proofs.Lacking.{laid_out}
 use Rattle.shown_types.proofs.showing.show_place.Goals as goal
 
-pub put_shown-requires-clause-counted : goal.put_shown-requires-clause-counted
-put_shown-requires-clause-counted c =
-    (c.requires.kept c.unwrap-structure.result c.in-Some.shown.now (sym c.in-Some.ensures.value)).holes
-
 pub returns-in-Some-clause-shows : goal.returns-in-Some-clause-shows
 returns-in-Some-clause-shows c =
     let types : List CType = c.args.table.now.types in
