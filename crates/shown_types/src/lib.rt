@@ -11,6 +11,8 @@ mod shared;
 pub mod showing;
 #[cfg(test)]
 mod tests;
+#[cfg(test)]
+mod tests_long;
 
 pub use fault::ShowFault;
 pub use showing::{Style, show};

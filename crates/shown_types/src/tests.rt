@@ -11,7 +11,7 @@ use std::alloc::{AllocError, Global};
 use std::test::Fail;
 
 /// A type of these members, each with its name and its place in bits.
-fn node<'a>(
+pub fn node<'a>(
     alloc: Global,
     kind: u8,
     name: &'a [u8],
@@ -78,7 +78,7 @@ fn table(alloc: Global, last: Ref) -> Result<Table<'static>, AllocError>
     })
 }
 
-fn name(alloc: Global, text: &str) -> Result<Text, AllocError> {
+pub fn name(alloc: Global, text: &str) -> Result<Text, AllocError> {
     Ok(Text::new(String::from_str(alloc, text)?))
 }
 
@@ -172,29 +172,40 @@ fn are_within(count: usize, types: &[CType<'_>]) -> bool
     true
 }
 
-/// What is shown of a table whose references are its own.
+/// The lines of a table whose references are its own, of some names or of all that can be shown.
+pub fn lines_shown(
+    alloc: Global,
+    table: &Table<'_>,
+    names: Option<&[Text]>,
+    holes: u32,
+) -> Result<Result<Bytes, ShowFault>, Fail> {
+    let types = table.types.items();
+    if types.len() > 1_000_000 || !are_within(types.len(), types) {
+        return Err(Fail::from("no table"));
+    }
+    let style = Style { holes, ..LINES };
+    match names {
+        None => Ok(show(alloc, table, 8, None, style)),
+        Some(names) if names.len() <= 1_000_000 => Ok(show(alloc, table, 8, Some(names), style)),
+        Some(_) => Err(Fail::from("many names")),
+    }
+}
+
+/// The same by words.
 fn shown(
     alloc: Global,
     table: &Table<'_>,
     words: Option<&[&str]>,
     holes: u32,
 ) -> Result<Result<Bytes, ShowFault>, Fail> {
-    let types = table.types.items();
-    if types.len() > 1000 || !are_within(types.len(), types) {
-        return Err(Fail::from("no table"));
-    }
-    let style = Style { holes, ..LINES };
     let Some(words) = words else {
-        return Ok(show(alloc, table, 8, None, style));
+        return lines_shown(alloc, table, None, holes);
     };
     let mut names = Vec::new(alloc);
     for word in words {
         names.push(name(alloc, word)?)?;
     }
-    if names.len() > 1000 {
-        return Err(Fail::from("many names"));
-    }
-    Ok(show(alloc, table, 8, Some(names.as_slice()), style))
+    lines_shown(alloc, table, Some(names.as_slice()), holes)
 }
 
 /// A type of some kind, with so many members and the ids of its targets; 0 is void.
