@@ -13,6 +13,9 @@ use crate::shapes::{
 use c_model::{CType, Ref};
 use std::alloc::{AllocError, Global};
 
+/// How many types a declaration follows, and so each parameter in it.
+const FOLLOWED: u32 = 64;
+
 /// A declaration: what stands for the type, and what stands for the name.
 #[derive(Drop)]
 pub struct Declaration {
@@ -31,7 +34,7 @@ pub fn declare(
 {
     let mut written = named(alloc, name)?;
     let mut at = r;
-    for _ in 0..64u32 {
+    for _ in 0..FOLLOWED {
         let list = list_at(alloc, types, at)?;
         match follow(alloc, types, &list, at, &mut written)? {
             None => return Ok(written),
@@ -54,7 +57,7 @@ fn parameter(
 {
     let mut written = named(alloc, name)?;
     let mut at = r;
-    for _ in 0..64u32 {
+    for _ in 0..FOLLOWED {
         match follow(alloc, types, b"...", at, &mut written)? {
             None => return Ok(written),
             Some(next) => at = next,
