@@ -1,6 +1,6 @@
 //! Why the types of a unit are refused, and which of two refusals comes first.
 ghost use Rattle.std.specs.Prelude.{◌≡◌, [], ◌∷◌};
-ghost use Rattle.c_types.specs.Faults.{rank_of, form_rank, is_before, noted, refuse_if};
+ghost use Rattle.c_types.specs.Faults.{ranked, rank_of, form_rank, is_before, noted, refuse_if};
 
 use dwarf_abbrev::AbbrevFault;
 use dwarf_forms::FormFault;
@@ -92,53 +92,37 @@ struct Rank {
     number: u8,
 }
 
+/// The rank of a refusal that keeps these values beside its place.
+fn rank_keeping(at: u64, number: u8, kept: u64, more: u64) -> Rank
+    ensures { result ≡ ranked at number kept more }
+{
+    Rank {
+        at,
+        kept,
+        more,
+        number,
+    }
+}
+
+/// The rank of a refusal that needs nothing but its place.
+fn rank_at(at: u64, number: u8) -> Rank
+    ensures { result ≡ ranked at number 0 0 }
+{
+    rank_keeping(at, number, 0, 0)
+}
+
 /// The rank of a value's refusal.
 fn rank_form(at: u64, fault: FormFault) -> Rank
     ensures { result ≡ form_rank at fault }
 {
     match fault {
-        FormFault::LebWide(_) => Rank {
-            at,
-            kept: 0,
-            more: 0,
-            number: 33,
-        },
-        FormFault::FormUnknown(_) => Rank {
-            at,
-            kept: 0,
-            more: 0,
-            number: 40,
-        },
-        FormFault::ValueTruncated(_) => Rank {
-            at,
-            kept: 0,
-            more: 0,
-            number: 41,
-        },
-        FormFault::StringOut(offset) => Rank {
-            at,
-            kept: offset,
-            more: 0,
-            number: 42,
-        },
-        FormFault::StrxOut(index) => Rank {
-            at,
-            kept: index,
-            more: 0,
-            number: 43,
-        },
-        FormFault::AltForm(form) => Rank {
-            at,
-            kept: form,
-            more: 0,
-            number: 44,
-        },
-        FormFault::WrongClass(attribute, form) => Rank {
-            at,
-            kept: attribute,
-            more: form,
-            number: 46,
-        },
+        FormFault::LebWide(_) => rank_at(at, 33),
+        FormFault::FormUnknown(_) => rank_at(at, 40),
+        FormFault::ValueTruncated(_) => rank_at(at, 41),
+        FormFault::StringOut(offset) => rank_keeping(at, 42, offset, 0),
+        FormFault::StrxOut(index) => rank_keeping(at, 43, index, 0),
+        FormFault::AltForm(form) => rank_keeping(at, 44, form, 0),
+        FormFault::WrongClass(attribute, form) => rank_keeping(at, 46, attribute, form),
     }
 }
 
@@ -149,84 +133,19 @@ fn rank_fault(fault: TypeFault) -> Rank
 {
     match fault {
         TypeFault::Form(at, form) => rank_form(at, form),
-        TypeFault::MissingName(at) => Rank {
-            at,
-            kept: 0,
-            more: 0,
-            number: 60,
-        },
-        TypeFault::MissingSize(at) => Rank {
-            at,
-            kept: 0,
-            more: 0,
-            number: 61,
-        },
-        TypeFault::MissingType(at) => Rank {
-            at,
-            kept: 0,
-            more: 0,
-            number: 62,
-        },
-        TypeFault::UnnamedForward(at) => Rank {
-            at,
-            kept: 0,
-            more: 0,
-            number: 63,
-        },
-        TypeFault::MemberPlace(at) => Rank {
-            at,
-            kept: 0,
-            more: 0,
-            number: 64,
-        },
-        TypeFault::BitSize(at, _) => Rank {
-            at,
-            kept: 0,
-            more: 0,
-            number: 65,
-        },
-        TypeFault::MemberFar(at, _) => Rank {
-            at,
-            kept: 0,
-            more: 0,
-            number: 66,
-        },
-        TypeFault::TooMany(at, _) => Rank {
-            at,
-            kept: 0,
-            more: 0,
-            number: 67,
-        },
-        TypeFault::ArrayLength(at) => Rank {
-            at,
-            kept: 0,
-            more: 0,
-            number: 68,
-        },
-        TypeFault::EnumSize(at, _) => Rank {
-            at,
-            kept: 0,
-            more: 0,
-            number: 69,
-        },
-        TypeFault::EnumValue(at) => Rank {
-            at,
-            kept: 0,
-            more: 0,
-            number: 70,
-        },
-        TypeFault::SizeLarge(at, _) => Rank {
-            at,
-            kept: 0,
-            more: 0,
-            number: 71,
-        },
-        TypeFault::Abbrev(_) | TypeFault::Walk(_) | TypeFault::Memory => Rank {
-            at: 0,
-            kept: 0,
-            more: 0,
-            number: 0,
-        },
+        TypeFault::MissingName(at) => rank_at(at, 60),
+        TypeFault::MissingSize(at) => rank_at(at, 61),
+        TypeFault::MissingType(at) => rank_at(at, 62),
+        TypeFault::UnnamedForward(at) => rank_at(at, 63),
+        TypeFault::MemberPlace(at) => rank_at(at, 64),
+        TypeFault::BitSize(at, _) => rank_at(at, 65),
+        TypeFault::MemberFar(at, _) => rank_at(at, 66),
+        TypeFault::TooMany(at, _) => rank_at(at, 67),
+        TypeFault::ArrayLength(at) => rank_at(at, 68),
+        TypeFault::EnumSize(at, _) => rank_at(at, 69),
+        TypeFault::EnumValue(at) => rank_at(at, 70),
+        TypeFault::SizeLarge(at, _) => rank_at(at, 71),
+        TypeFault::Abbrev(_) | TypeFault::Walk(_) | TypeFault::Memory => rank_at(0, 0),
     }
 }
 
