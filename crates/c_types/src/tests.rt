@@ -1,6 +1,8 @@
 //! Units in bytes, and their types.
 mod compiled;
 mod large;
+mod refusals;
+mod worked;
 
 use crate::fault::TypeFault;
 use crate::source::{SourceType, Target, UnitTypes};
@@ -9,6 +11,7 @@ use dwarf_forms::FormFault;
 use elf_sections::Image;
 use entry_tree::units;
 use std::alloc::{AllocError, Global};
+use std::process::Abort;
 use std::test::Fail;
 
 /// The abbreviations of all cases: the code, the tag, children or none, attributes and forms.
@@ -53,6 +56,40 @@ const ABBREVIATIONS: &[u8] = &[
     38, 0x24, 0, 0x0b, 0x08, 0, 0, // base_type with byte_size by string
     39, 0x13, 0, 0x3c, 0x0b, 0x03, 0x0b, 0, 0, // structure_type with declaration, name by data1
     40, 0x11, 1, 0x13, 0x05, 0, 0, // compile_unit with language by data2
+    41, 0x17, 1, 0, 0, // union_type
+    42, 0x04, 1, 0, 0, // enumeration_type
+    43, 0x04, 0, 0x3c, 0x19, 0, 0, // enumeration_type, declared
+    44, 0x0d, 0, 0x49, 0x11, 0x38, 0x18, 0, 0, // member with type by ref1, location by exprloc
+    45, 0x0d, 0, 0x03, 0x1d, 0x49, 0x1c, 0, 0, // with name by strp_sup, type by ref_sup4
+    46, 0x0d, 0, 0x49, 0x1c, 0x03, 0x0e, 0, 0, // with type by ref_sup4, name by strp
+    47, 0x0d, 0, 0x49, 0x11, 0x0d, 0x0d, 0x6b, 0x0d, 0, 0, // with type by ref1, signed bit_size, data_bit_offset
+    48, 0x0d, 0, 0x38, 0x18, 0, 0, // with location by exprloc
+    49, 0x24, 0, 0x03, 0x08, 0x0b, 0x07, 0, 0, // base_type with name, byte_size by data8
+    50, 0x01, 1, 0, 0, // array_type
+    51, 0x28, 0, 0, 0, // enumerator
+    52, 0x16, 0, 0x49, 0x0b, 0, 0, // typedef with type by data1
+    53, 0x24, 0, 0x03, 0x1f, 0, 0, // base_type with name by line_strp
+    54, 0x24, 0, 0x03, 0xa1, 0x3e, 0, 0, // by GNU_strp_alt
+    55, 0x0d, 0, 0x49, 0xa0, 0x3e, 0, 0, // member with type by GNU_ref_alt
+    56, 0x0d, 0, 0x03, 0x0b, 0x49, 0x1c, 0, 0, // with name by data1, type by ref_sup4
+    57, 0x24, 0, 0x03, 0x08, 0x0b, 0x0b, 0x3e, 0x08, 0x0d, 0x08, 0, 0, // base_type with encoding, bit_size by string
+    58, 0x0d, 0, 0x38, 0x08, 0, 0, // member with location by string
+    59, 0x13, 1, 0, 0, // structure_type
+    60, 0x0d, 0, 0x03, 0x1d, 0x49, 0x0b, 0, 0, // member with name by strp_sup, type by data1
+    61, 0x0d, 0, 0x49, 0x11, 0x38, 0x18, 0x0d, 0x0b, 0, 0, // with type by ref1, location by exprloc, bit_size
+    62, 0x15, 1, 0x49, 0x0b, 0, 0, // subroutine_type with type by data1
+    63, 0x0d, 0, 0x49, 0x11, 0x6b, 0x0f, 0, 0, // member with type by ref1, data_bit_offset
+    64, 0x21, 0, 0x2f, 0x06, 0, 0, // subrange_type with upper_bound by data4
+    65, 0x17, 0, 0x3c, 0x19, 0, 0, // union_type, declared
+    66, 0x21, 0, 0x2f, 0x0d, 0, 0, // subrange_type with signed upper_bound
+    67, 0x0f, 0, 0, 0, // pointer_type
+    68, 0x26, 0, 0, 0, // const_type
+    69, 0x35, 0, 0, 0, // volatile_type
+    70, 0x37, 0, 0, 0, // restrict_type
+    71, 0x3b, 0, 0x03, 0x08, 0, 0, // unspecified_type with name
+    72, 0x16, 0, 0x03, 0x08, 0, 0, // typedef with name
+    73, 0x24, 0, 0x03, 0x08, 0x0b, 0x0b, 0x3e, 0x0b, 0x0d, 0x0b, 0, 0, // base_type with name, byte_size, encoding, bit_size
+    74, 0x34, 0, 0x03, 0x08, 0, 0, // variable with name
     0,
 ];
 
@@ -96,7 +133,18 @@ fn file_of<'x>(
     abbreviations: &'x [u8],
     strings: &'x [u8],
 ) -> Result<Vec<u8>, AllocError> {
-    let names = b"\0.debug_info\0.debug_abbrev\0.debug_str\0";
+    file_with(alloc, info, abbreviations, strings, &[])
+}
+
+/// The same with strings of lines.
+fn file_with<'x>(
+    alloc: Global,
+    info: &'x [u8],
+    abbreviations: &'x [u8],
+    strings: &'x [u8],
+    line_strings: &'x [u8],
+) -> Result<Vec<u8>, AllocError> {
+    let names = b"\0.debug_info\0.debug_abbrev\0.debug_str\0.debug_line_str\0";
     let mut file = Vec::new(alloc);
     file.extend_from_slice(b"\x7fELF\x02\x01\x01\0\0\0\0\0\0\0\0\0")?;
     put(&mut file, 2, 2)?;
@@ -106,16 +154,22 @@ fn file_of<'x>(
     put(&mut file, 0, 8)?;
     put(&mut file, 64, 8)?;
     put(&mut file, 0, 4)?;
-    for half in [64, 0, 0, 64, 5, 4] {
+    for half in [64, 0, 0, 64, 6, 5] {
         put(&mut file, half, 2)?;
     }
     put_header(&mut file, 0, 0, 0, 0)?;
-    let mut at = 64 + 5 * 64;
-    for (name, section) in [(1u64, info), (13, abbreviations), (27, strings), (0, names)] {
+    let mut at = 64 + 6 * 64;
+    for (name, section) in [
+        (1u64, info),
+        (13, abbreviations),
+        (27, strings),
+        (38, line_strings),
+        (0, names),
+    ] {
         put_header(&mut file, name, 1, at, section.len() as u64)?;
         at = at.wrapping_add(section.len() as u64);
     }
-    for section in [info, abbreviations, strings, names] {
+    for section in [info, abbreviations, strings, line_strings, names] {
         file.extend_from_slice(section)?;
     }
     Ok(file)
@@ -200,107 +254,19 @@ fn lines(alloc: Global, entries: &[u8]) -> Result<Result<Vec<String>, TypeFault>
     lines_in(alloc, file.as_slice())
 }
 
-/// The first refusal of entries that begin at offset 13, behind the root.
-#[test]
-fn first_refusals(rt: HostRuntime) -> Result<(), Fail> {
-    let cases: [(&[u8], TypeFault); 32] = [
-        (&[3, 4], TypeFault::MissingName(13)),
-        (&[4, 0x69, 0], TypeFault::MissingSize(13)),
-        (&[29], TypeFault::MissingName(13)),
-        (&[4, 0, 3, 4], TypeFault::MissingName(13)),
-        (&[2, 0x69, 0, 4, 5, 3, 4], TypeFault::MissingName(18)),
-        (&[7], TypeFault::MissingName(13)),
-        (&[6], TypeFault::MissingType(13)),
-        (&[11], TypeFault::UnnamedForward(13)),
-        (&[8, 0x73, 0, 4, 10, 0x6d, 0, 0], TypeFault::MissingType(17)),
-        (
-            &[8, 0x73, 0, 4, 9, 0x6d, 0, 13, 0, 0, 0, 0x7f, 0],
-            TypeFault::MemberPlace(17),
-        ),
-        (
-            &[8, 0x73, 0, 4, 12, 13, 0, 0, 0, 0, 0, 0],
-            TypeFault::BitSize(17, 0),
-        ),
-        (
-            &[8, 0x73, 0, 4, 12, 13, 0, 0, 0, 0x80, 2, 0, 0],
-            TypeFault::BitSize(17, 256),
-        ),
-        (
-            &[8, 0x73, 0, 4, 12, 13, 0, 0, 0, 1, 0x80, 0x80, 0x80, 8, 0],
-            TypeFault::MemberFar(17, 16_777_216),
-        ),
-        (
-            &[
-                8, 0x73, 0, 4, 9, 0x6d, 0, 13, 0, 0, 0, 0x80, 0x80, 0x80, 0x80, 2, 0,
-            ],
-            TypeFault::MemberFar(17, 4_294_967_296),
-        ),
-        (&[13, 13, 0, 0, 0, 14, 0x7e, 0], TypeFault::ArrayLength(13)),
-        (
-            &[13, 13, 0, 0, 0, 14, 0x80, 0x80, 4, 14, 0x80, 0x80, 4, 0],
-            TypeFault::ArrayLength(13),
-        ),
-        (
-            &[15, 0x65, 0, 3, 17, 0x41, 0, 0],
-            TypeFault::EnumSize(13, 3),
-        ),
-        (&[15, 0x65, 0, 4, 17, 0x41, 0, 0], TypeFault::EnumValue(17)),
-        (
-            &[
-                15, 0x65, 0, 4, 16, 0x41, 0, 0x7f, 16, 0x42, 0, 0x80, 0x80, 0x80, 0x80, 8, 0,
-            ],
-            TypeFault::EnumValue(21),
-        ),
-        (&[15, 0x65, 0, 4, 23, 1, 0], TypeFault::MissingName(17)),
-        (&[5, 0x69, 0, 0x7f], TypeFault::SizeLarge(13, -1)),
-        (
-            &[18, 9, 0, 0, 0],
-            TypeFault::Form(13, FormFault::StringOut(9)),
-        ),
-        (&[19, 1], TypeFault::Form(13, FormFault::StrxOut(1))),
-        (
-            &[20, 0, 0, 0, 0],
-            TypeFault::Form(13, FormFault::AltForm(0x1d)),
-        ),
-        (
-            &[21, 7],
-            TypeFault::Form(13, FormFault::WrongClass(0x03, 0x0b)),
-        ),
-        (
-            &[22, 0, 0, 0, 0],
-            TypeFault::Form(13, FormFault::WrongClass(0x49, 0x17)),
-        ),
-        (&[25, 26, 0], TypeFault::MissingType(14)),
-        (
-            &[8, 0x73, 0, 4, 10, 0x6d, 0, 29, 0],
-            TypeFault::MissingType(17),
-        ),
-        (
-            &[29, 8, 0x73, 0, 4, 10, 0x6d, 0, 0],
-            TypeFault::MissingName(13),
-        ),
-        (
-            &[38, 0],
-            TypeFault::Form(13, FormFault::WrongClass(0x0b, 0x08)),
-        ),
-        (
-            &[39, 1, 7],
-            TypeFault::Form(13, FormFault::WrongClass(0x03, 0x0b)),
-        ),
-        (
-            &[8, 0x73, 0, 4, 12, 13, 0, 0, 0, 0, 0x80, 0x80, 0x80, 8, 0],
-            TypeFault::BitSize(17, 0),
-        ),
-    ];
-    for (entries, fault) in cases {
-        let mut bytes = Vec::new(rt.alloc());
-        bytes.push(1)?;
-        bytes.extend_from_slice(entries)?;
-        bytes.push(0)?;
-        match lines(rt.alloc(), bytes.as_slice())? {
-            Ok(_) => assert!(rt; false, "no {fault:?}"),
-            Err(found) => assert_eq!(rt; found, fault),
+/// Holds the types of entries behind the root, which begin at offset 13, against lines.
+fn compare(rt: &impl Abort, alloc: Global, entries: &[u8], wanted: &[&str]) -> Result<(), Fail> {
+    let mut bytes = Vec::from_slice(alloc, &[1])?;
+    bytes.extend_from_slice(entries)?;
+    bytes.push(0)?;
+    match lines(alloc, bytes.as_slice())? {
+        Ok(found) => {
+            assert_eq!(rt; found.len(), wanted.len(), "{entries:?}");
+            for (one, line) in found.iter().zip(wanted.iter()) {
+                assert_eq!(rt; one.as_str(), *line);
+            }
         }
+        Err(fault) => assert!(rt; false, "{entries:?}: {fault:?}"),
     }
     Ok(())
 }
@@ -308,7 +274,43 @@ fn first_refusals(rt: HostRuntime) -> Result<(), Fail> {
 /// The types of entries: offset, kind, name, flag, size, last word, parts, and what they refer to.
 #[test]
 fn types_in_lines(rt: HostRuntime) -> Result<(), Fail> {
-    let cases: [(&[u8], &[&str]); 10] = [
+    let cases: [(&[u8], &[&str]); 14] = [
+        (
+            &[67, 68, 69, 70, 71, 0x6e, 0, 72, 0x74, 0, 74, 0x76, 0],
+            &[
+                "13 2 - false 0 0 void",
+                "14 10 - false 0 0 void",
+                "15 9 - false 0 0 void",
+                "16 11 - false 0 0 void",
+                "17 4 n false 0 0",
+                "20 8 t false 0 0 void",
+            ],
+        ),
+        (
+            &[
+                2, 0x62, 0, 1, 2, 2, 0x63, 0, 1, 6, 2, 0x75, 0, 1, 8, 2, 0x77, 0, 4, 16, 2, 0x71,
+                0, 16, 7, 2, 0x6c, 0, 16, 4,
+            ],
+            &[
+                "13 1 b false 1 67108872",
+                "18 1 c false 1 16777224",
+                "23 1 u false 1 8",
+                "28 1 w false 4 32",
+                "33 1 q false 16 128",
+                "38 16 l false 16 0",
+            ],
+        ),
+        (
+            &[
+                2, 0x7a, 0, 16, 3, 2, 0x70, 0, 3, 5, 73, 0x6e, 0, 4, 5, 32, 73, 0x6d, 0, 4, 5, 31,
+            ],
+            &[
+                "13 4 z false 16 0",
+                "18 4 p false 3 0",
+                "23 1 n false 4 16777248",
+                "29 4 m false 4 0",
+            ],
+        ),
         (
             &[2, 0x69, 0, 4, 5, 2, 0x66, 0, 4, 4, 2, 0x78, 0, 3, 5],
             &[
@@ -326,6 +328,10 @@ fn types_in_lines(rt: HostRuntime) -> Result<(), Fail> {
                 8, 0x73, 0, 8, 9, 0x6d, 0, 13, 0, 0, 0, 4, 12, 13, 0, 0, 0, 3, 33, 0,
             ],
             &["13 4 s true 8 0 m=32 -=50331681 17:13 25:13"],
+        ),
+        (
+            &[8, 0x73, 0, 8, 44, 13, 2, 0x23, 4, 0],
+            &["13 4 s false 8 0 -=32 17:13"],
         ),
         (
             &[
@@ -359,19 +365,7 @@ fn types_in_lines(rt: HostRuntime) -> Result<(), Fail> {
         (&[15, 0, 2, 0], &["13 6 - false 2 0"]),
     ];
     for (entries, wanted) in cases {
-        let mut bytes = Vec::new(rt.alloc());
-        bytes.push(1)?;
-        bytes.extend_from_slice(entries)?;
-        bytes.push(0)?;
-        match lines(rt.alloc(), bytes.as_slice())? {
-            Ok(found) => {
-                assert_eq!(rt; found.len(), wanted.len());
-                for (one, line) in found.iter().zip(wanted.iter()) {
-                    assert_eq!(rt; one.as_str(), *line);
-                }
-            }
-            Err(fault) => assert!(rt; false, "{fault:?}"),
-        }
+        compare(&rt, rt.alloc(), entries, wanted)?;
     }
     Ok(())
 }

@@ -42,7 +42,7 @@ fn many_parts(rt: HostRuntime) -> Result<(), Fail> {
     let structure: &[u8] = &[8, 0x73, 0, 4];
     let enumeration: &[u8] = &[15, 0x65, 0, 4];
     let rest: &[u8] = &[28, 0];
-    let cases: [(&[u8], &[u8], u32, &[u8], Result<(usize, usize), TypeFault>); 10] = [
+    let cases: [(&[u8], &[u8], u32, &[u8], Result<(usize, usize), TypeFault>); 11] = [
         (structure, member, 65_535, &[0], Ok((1, 65_535))),
         (
             structure,
@@ -54,6 +54,13 @@ fn many_parts(rt: HostRuntime) -> Result<(), Fail> {
         (enumeration, enumerator, 65_535, &[0], Ok((1, 65_535))),
         (
             enumeration,
+            enumerator,
+            65_536,
+            &[0],
+            Err(TypeFault::TooMany(13, 65_536)),
+        ),
+        (
+            &[15, 0x65, 0, 3],
             enumerator,
             65_536,
             &[0],
@@ -104,13 +111,26 @@ fn many_parts(rt: HostRuntime) -> Result<(), Fail> {
     Ok(())
 }
 
-/// 50,000 structures, each with a member and the next structure.
+/// The entries of a unit with so many structures in each other, each with a member.
+fn nest(alloc: Global, times: u32) -> Result<Vec<u8>, AllocError> {
+    let mut entries = Vec::from_slice(alloc, &[1])?;
+    put_times(&mut entries, &[36, 33, 13], times)?;
+    put_times(&mut entries, &[0], times)?;
+    entries.push(0)?;
+    Ok(entries)
+}
+
+/// Structures in each other, up to 50,000.
 #[test]
 fn nested_structures(rt: HostRuntime) -> Result<(), Fail> {
-    let mut entries = Vec::from_slice(rt.alloc(), &[1])?;
-    put_times(&mut entries, &[36, 33, 13], 50_000)?;
-    put_times(&mut entries, &[0], 50_001)?;
-    assert!(rt; counts(rt.alloc(), entries.as_slice())? == Ok((50_000, 50_000)));
+    for times in [1, 2, 1_000, 50_000] {
+        let entries = nest(rt.alloc(), times)?;
+        let count = times as usize;
+        assert!(rt;
+            counts(rt.alloc(), entries.as_slice())? == Ok((count, count)),
+            "{times}"
+        );
+    }
     Ok(())
 }
 
