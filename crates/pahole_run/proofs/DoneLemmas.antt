@@ -1,5 +1,5 @@
 -- A job from its steps.
-use Rattle.std.proofs.Common.{Bool, ◌≡◌, ◌+◌, ◌≤◌, ◌++◌, List, [], ℕ, Ok, Err, Result, ap, ◌∙◌, sym, length, subst, arith, refl, Option, None, Some, IfSome, OnOk, true, false, is_some}
+use Rattle.std.proofs.Common.{Bool, ◌≡◌, ◌+◌, ◌<◌, ◌≤◌, ◌^◌, ◌++◌, List, [], ℕ, Ok, Err, Result, ap, ◌∙◌, sym, length, subst, arith, refl, Option, None, Some, IfSome, OnOk, true, false, is_some}
 use Rattle.std.proofs.lemmas.List.{append-nil}
 use Rattle.std.specs.Option.{option_map, option_or, ForSome}
 use Rattle.std.specs.Global.{Vec}
@@ -9,10 +9,12 @@ use Rattle.world_io.specs.Calls.{Rose, Stores, Prints, Gains, GainsPart, raised,
 use Rattle.world_io.specs.declared.files.HeldFile.{HeldFile}
 use Rattle.world_io.specs.declared.fault.OutFault.{OutFault}
 use Rattle.world_io.specs.declared.fault.OutFault.TheVariants.{Failed as OutFailed, Memory as OutMemory}
-use Rattle.command_line.specs.declared.job.Job.TheVariants.{Encode, Show}
+use Rattle.command_line.specs.Words.{names_of}
+use Rattle.command_line.specs.declared.job.Job.{Job}
+use Rattle.command_line.specs.declared.job.Job.TheVariants.{Encode, Show, Selfmade}
 use Rattle.command_line.specs.declared.job.Format.{Format}
 use Rattle.command_line.specs.declared.job.Format.TheVariants.{Dwarf, Btf}
-use Rattle.pahole_run.specs.Tasks.{Display, Task, encode_task, show_task, shown_by, task_of}
+use Rattle.pahole_run.specs.Tasks.{Display, Task, encode_task, is_over_base, show_task, shown_by, task_of}
 use Rattle.pahole_run.specs.declared.refusal.Refusal.{Refusal}
 use Rattle.pahole_run.specs.declared.refusal.Refusal.TheVariants.{Missing, NoName, Fault as Numbered}
 use Rattle.pahole_run.specs.declared.refusal.Fault.{Fault}
@@ -372,6 +374,23 @@ pub done_show_base :
 done_show_base limits before format None names sizes holes line jobs files h = absurd (cc)
 done_show_base limits before format (Some b) names sizes holes line jobs files h =
     done_later limits (task_of (Show format (Some b) names sizes holes line jobs files)) before _ refl
+
+pub done_over_a_base :
+    (limits : Limits) (before : Meaning) (job : Job)
+    → is_over_base job ≡ true → Done limits (task_of job) before before (Err (of_whole 200 2))
+done_over_a_base limits before (Encode out base jobs files) h = done_over_base limits before out base jobs files h
+done_over_a_base limits before (Show format base names sizes holes line jobs files) h =
+    done_show_base limits before format base names sizes holes line jobs files h
+done_over_a_base limits before (Selfmade number jobs) h = absurd (cc)
+
+-- the names of a job that shows are few, where there are any
+pub few_shown :
+    (format : Format) (base : Option (List ℕ)) (names : Option (List (List ℕ))) (sizes : Bool) (holes line jobs : ℕ)
+    (files : List (List ℕ))
+    → length (names_of (Show format base names sizes holes line jobs files)) < 2 ^ 32
+    → IfSome names (λ (ns : List (List ℕ)). length ns < 2 ^ 32)
+few_shown format base None sizes holes line jobs files few = tt
+few_shown format base (Some ns) sizes holes line jobs files few = few
 
 own_cause :
     (V W : Type 0) (before after : Meaning) (e : Ended)

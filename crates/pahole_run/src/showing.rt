@@ -34,11 +34,13 @@ pub fn make_text<G: Gate>(
     requires jobs { 1 ≤ jobs }
     requires few { length files.now < 2 ^ 32 }
     requires size { bytes_in files.now < 2 ^ 32 }
+    requires names { IfSome (option_copied names) (λ ns. length ns < 2 ^ 32) }
+    requires line { 0 < style.line }
     ensures { Makes format (shown_by (option_copied names.entry) style) limits files.now result }
 {
     match format {
         Format::Dwarf => make_elf_text(alloc, gate, jobs, limits, names, style, files),
-        Format::Btf => make_btf_text(alloc, limits, names, style, files),
+        Format::Btf => make_btf_text(alloc, names, style, files),
     }
 }
 
@@ -55,6 +57,8 @@ fn make_elf_text<G: Gate>(
     requires jobs { 1 ≤ jobs }
     requires few { length files.now < 2 ^ 32 }
     requires size { bytes_in files.now < 2 ^ 32 }
+    requires names { IfSome (option_copied names) (λ ns. length ns < 2 ^ 32) }
+    requires line { 0 < style.line }
     ensures { Makes Format.Dwarf (shown_by (option_copied names.entry) style) limits files.now result }
 {
     let table = make_table(alloc, gate, jobs, limits, files)?;
@@ -86,26 +90,15 @@ pub fn show_table(
 ) -> Result<Bytes, Ended>
     requires table { IsShowable table.now }
     requires pointer { (pointer ≡ 4) ⊎ (pointer ≡ 8) }
+    requires names { IfSome (option_copied names) (λ ns. length ns < 2 ^ 32) }
+    requires line { 0 < style.line }
     ensures told { Tells (first (show_checks (shown_by (option_copied names.entry) style) pointer table.now.types))
         (λ v. IsText table.now.types pointer style (chosen table.now.types 0 (option_copied names.entry)) v) result }
     ensures own { IsOwn result }
 {
-    if count_of(names) > u32::MAX as usize || style.line == 0 {
-        return Err(Ended::Memory);
-    }
     match show(alloc, table, pointer, names, style) {
         Ok(text) => Ok(text),
         Err(fault) => Err(ended_of_show(fault)),
-    }
-}
-
-/// How many names there are.
-fn count_of(names: Option<&[Text]>) -> usize
-    ensures { IfSome (option_copied names.entry) (λ ns. result ≡ length ns) }
-{
-    match names {
-        None => 0,
-        Some(names) => names.len(),
     }
 }
 

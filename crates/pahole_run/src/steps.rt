@@ -1,10 +1,10 @@
 //! The steps of a task, from its files to what is stored.
-ghost use Rattle.std.specs.Prelude.{◌≡◌, ◌+◌, ◌<◌, ◌≤◌, ◌^◌, length};
+ghost use Rattle.std.specs.Prelude.{◌≡◌, ◌+◌, ◌<◌, ◌≤◌, ◌^◌, length, IfSome};
 ghost use Rattle.std.specs.Option.{option_copied};
-ghost use Rattle.command_line.specs.Words.{files_of, jobs_of};
+ghost use Rattle.command_line.specs.Words.{files_of, jobs_of, line_of, names_of};
 ghost use Rattle.pahole_run.specs.Refusals.{most_of};
 ghost use Rattle.pahole_run.specs.Steps.{LoadsOne, LoadsAll, StoresOut, PrintsOut, Done};
-ghost use Rattle.pahole_run.specs.Tasks.{task_of, encode_task, show_task};
+ghost use Rattle.pahole_run.specs.Tasks.{task_of, encode_task, show_task, is_over_base};
 
 use crate::faults::{ended_of_load, ended_of_print, ended_of_store};
 use crate::refusal::{Ended, ended_of_whole};
@@ -124,6 +124,8 @@ fn show_files<W: World, G: Gate>(
     requires bytes { (limits.file_bytes < 2 ^ 32) × (limits.all_bytes < 2 ^ 32) }
     requires few { length names.now < 2 ^ 32 }
     requires jobs { 1 ≤ jobs }
+    requires shown { IfSome (option_copied shown) (λ ns. length ns < 2 ^ 32) }
+    requires line { 0 < style.line }
     ensures { Done limits (show_task format (option_copied shown.entry) style names.now) (W.meaning world.old) (W.meaning world.new) result }
 {
     let files = load_all(alloc, world, limits, names)?;
@@ -152,41 +154,38 @@ pub fn do_job<W: World, G: Gate>(
     requires bytes { (limits.file_bytes < 2 ^ 32) × (limits.all_bytes < 2 ^ 32) }
     requires few { length (files_of job.now) < 2 ^ 32 }
     requires jobs { 1 ≤ jobs_of job.now }
+    requires names { length (names_of job.now) < 2 ^ 32 }
+    requires line { 0 < line_of job.now }
     ensures { Done limits (task_of job.now) (W.meaning world.old) (W.meaning world.new) result }
 {
+    if is_over_base(job) {
+        return Err(ended_of_whole(200, 2));
+    }
     match job {
         Job::Encode {
             out,
-            base,
             jobs,
             files,
-        } => {
-            if base.is_some() {
-                return Err(ended_of_whole(200, 2));
-            }
-            encode_files(
-                alloc,
-                world,
-                gate,
-                *jobs,
-                limits,
-                out.as_str(),
-                files.items(),
-            )
-        }
+            ..
+        } => encode_files(
+            alloc,
+            world,
+            gate,
+            *jobs,
+            limits,
+            out.as_str(),
+            files.items(),
+        ),
         Job::Show {
             format,
-            base,
             names,
             sizes,
             holes,
             line,
             jobs,
             files,
+            ..
         } => {
-            if base.is_some() {
-                return Err(ended_of_whole(200, 2));
-            }
             let style = Style {
                 sizes: *sizes,
                 holes: *holes,
@@ -205,6 +204,16 @@ pub fn do_job<W: World, G: Gate>(
             )
         }
         Job::Selfmade { .. } => Err(ended_of_whole(200, 3)),
+    }
+}
+
+/// Whether a job names a base.
+fn is_over_base(job: &Job) -> bool
+    ensures { result ≡ is_over_base job.now }
+{
+    match job {
+        Job::Encode { base, .. } | Job::Show { base, .. } => base.is_some(),
+        Job::Selfmade { .. } => false,
     }
 }
 

@@ -52,20 +52,20 @@ pub fn make_table<'a, G: Gate>(
 {
     let graph = make_graph(alloc, gate, jobs, limits, files)?;
     let classes = merge_graph(alloc, &graph)?;
-    build_table(alloc, &graph, &classes)
+    build_table(alloc, graph, &classes)
 }
 
 /// The table of a partition.
 fn build_table<'a>(
     alloc: Global,
-    graph: &Graph<'a>,
+    graph: Graph<'a>,
     classes: &Classes,
 ) -> Result<TableOut<'a>, Ended>
-    requires base { graph.now.base ≡ 0 }
-    requires covers { length classes.now ≡ length graph.now.nodes }
-    requires well { All IsWellFormed graph.now.nodes }
-    ensures told { Tells (first (table_checks (table_of graph.now classes.now)))
-        (λ t. t.types ≡ table_of graph.now classes.now) result }
+    requires base { graph.base ≡ 0 }
+    requires covers { length classes.now ≡ length graph.nodes }
+    requires well { All IsWellFormed graph.nodes }
+    ensures told { Tells (first (table_checks (table_of graph.entry classes.now)))
+        (λ t. t.types ≡ table_of graph.entry classes.now) result }
     ensures writable { IfOk result IsWritable }
     ensures own { IsOwn result }
 {

@@ -1,6 +1,6 @@
 //! A run.
 ghost use Rattle.std.specs.Prelude.{◌≡◌, ◌<◌, ◌≤◌, ◌^◌, length, map, string_bytes, Ok};
-ghost use Rattle.command_line.specs.Words.{job_of_words, files_of, jobs_of};
+ghost use Rattle.command_line.specs.Words.{job_of_words, files_of, jobs_of, line_of, names_of};
 ghost use Rattle.pahole_run.specs.Promises.{Succeeds, Refuses, Unnamed, Fails, RefusesWords, Keeps, IsComplete};
 ghost use Rattle.pahole_run.specs.Run.{Runs, Unworded};
 
@@ -93,6 +93,8 @@ fn run_job<W: World, G: Gate>(
     requires bytes { (limits.file_bytes < 2 ^ 32) × (limits.all_bytes < 2 ^ 32) }
     requires few { length (files_of job.now) < 2 ^ 32 }
     requires jobs { 1 ≤ jobs_of job.now }
+    requires names { length (names_of job.now) < 2 ^ 32 }
+    requires line { 0 < line_of job.now }
     ensures { Runs limits (Ok job.now) (W.meaning world.old) (W.meaning world.new) result }
 {
     match do_job(alloc, world, gate, limits, job) {
