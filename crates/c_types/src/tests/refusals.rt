@@ -199,7 +199,7 @@ fn ranges(rt: HostRuntime) -> Result<(), Fail> {
 }
 
 /// Two refusals of one entry: the lower number counts, and of two of one number the one that keeps the lower
-/// value. In the first half the one that counts is found first, in the second half later.
+/// value. In the first eight the one that counts is found first, in the rest later.
 #[test]
 fn two_at_one_entry(rt: HostRuntime) -> Result<(), Fail> {
     refuses(
