@@ -129,7 +129,7 @@ def tool(words, pattern=r"(.*)"):
     return found[1] if found else None
 
 
-def machine(program):
+def machine(program, runs):
     """What this was measured on, and with."""
     model = re.search(r"^model name\s*:\s*(.*)$", read("/proc/cpuinfo").decode(), re.M)
     memory = int(re.search(r"MemTotal:\s*(\d+)", read("/proc/meminfo").decode())[1]) * 1024
@@ -143,7 +143,7 @@ def machine(program):
     load = os.getloadavg()[0]
     print(f"Machine: {os.cpu_count()} processors ({name}), {round(memory / 1e9)} GB, Linux {platform.release()}, at a load of {load:.1f}.")
     print(f"Tools: {', '.join(what + version for what, version in told.items() if version)}.")
-    print(f"The program has {number(os.path.getsize(program))} bytes.")
+    print(f"The program has {number(os.path.getsize(program))} bytes. Each time is {'that of one run' if runs == 1 else f'the median of {runs} runs'}.")
     print()
     print("| What | Input | Time | Processor time | Memory | Answer |")
     print("|---|---|---|---|---|---|", flush=True)
@@ -198,7 +198,7 @@ def made_inputs(program, root, folder, runs):
 
 def main():
     program, root, folder, runs = os.path.abspath(sys.argv[1]), *sys.argv[2:4], int(sys.argv[4])
-    machine(program)
+    machine(program, runs)
     kernel(program, folder, runs, sys.argv[5] if len(sys.argv) > 5 else None)
     table(program, folder, runs)
     made_inputs(program, root, folder, runs)
