@@ -33,7 +33,8 @@ row() {
 }
 
 failed=0
-for crate in ${@:-$(listed)}; do
+if [ $# = 0 ]; then mapfile -t crates < <(listed); else crates=("$@"); fi
+for crate in "${crates[@]}"; do
   (cd "$root/crates/$crate" && rt plant --minutes "${MINUTES:-60}" --max "${PLANTS:-2000}") >"$scratch/log" 2>"$scratch/errors"
   told=$(grep '^plants crate=' "$scratch/log")
   if [ -z "$told" ]; then

@@ -44,8 +44,9 @@ PY
 }
 
 failed=0
-for name in ${@:-$(cd "$root/checks/lib/unseen" && printf '%s\n' *.edit)}; do
-  name=${name%.edit}
+if [ $# = 0 ]; then edits=("$root"/checks/lib/unseen/*.edit); else edits=("$@"); fi
+for name in "${edits[@]}"; do
+  name=$(basename "$name" .edit)
   edit=$root/checks/lib/unseen/$name.edit
   crate=$(sed -n 's/^crate: //p' "$edit")
   folder=$scratch/copy/crates/$crate
