@@ -4,6 +4,7 @@ none) and whether it is a bit field."""
 import os
 import random
 import re
+import shutil
 import subprocess
 import sys
 
@@ -195,6 +196,24 @@ def checked(program, flags, header, sources, types):
     return "passed", f"{len(types)} structures and unions with {count} members are as the compiler lays them out"
 
 
+HOLE = "struct s { int a : 1; int b; } kept;\nint main(void) { return 0; }\n"
+
+
+def behind_a_bit_field(program):
+    """The holes with whole bytes behind a bit of an int: here 31 bits are 3 bytes and 7 bits, and for Debian's tool pahole, which counts
+    them by the field's type, 31 bits."""
+    if not shutil.which("pahole"):
+        return "skipped", "pahole is not installed"
+    with open("hole.c", "w") as file:
+        file.write(HOLE)
+    if not built([], "hole", ["hole.c"]):
+        return "skipped", "the compiler can't build it"
+    ours, theirs = (subprocess.run([tool, "-s", "hole"], capture_output=True, text=True).stdout for tool in (program, "pahole"))
+    if (ours, theirs) != ("s\t8\t1\n", "s\t8\t0\n"):
+        return "failed", f"{ours!r}, and Debian's pahole says {theirs!r}"
+    return "passed", "one hole of whole bytes here, none by Debian's pahole"
+
+
 def main():
     program, demo, folder = (os.path.abspath(word) for word in sys.argv[1:4])
     os.chdir(folder)
@@ -214,6 +233,8 @@ def main():
         for name, header, sources, all_types in programs:
             verdict, why = checked(program, flags, header, sources, all_types)
             print(f"{verdict} layouts {' '.join([name, *flags])}: {why}")
+    verdict, why = behind_a_bit_field(program)
+    print(f"{verdict} layouts behind a bit field: {why}")
 
 
 main()
