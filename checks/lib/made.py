@@ -104,7 +104,7 @@ def nested(count):
     return [unit(b"".join(parts))], Made(1, count + 1, count, 2 * count + 2, count + 1)
 
 
-def flat(count=60_000, members=9):
+def flat(count=100_000, members=9):
     """One unit of structures that stand side by side."""
     body = b"".join(
         structure(f"s{i}", 4 * members, b"".join(member(f"m{j}", FIRST, 4 * j) for j in range(members))) + b"\0" for i in range(count)
