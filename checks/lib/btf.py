@@ -13,17 +13,26 @@ Type = collections.namedtuple("Type", "kind name last rows")
 Member = collections.namedtuple("Member", "bit bits")
 
 
-def count(data):
-    """How many types a table has, its base's not counted."""
+KINDS = ["void", "INT", "PTR", "ARRAY", "STRUCT", "UNION", "ENUM", "FWD", "TYPEDEF", "VOLATILE", "CONST", "RESTRICT", "FUNC", "FUNC_PROTO", "VAR",
+         "DATASEC", "FLOAT", "DECL_TAG", "TYPE_TAG", "ENUM64"]
+
+
+def kinds(data):
+    """How many types of each kind a table has, its base's not counted, by the kind's name."""
     order = "<" if data[:2] == b"\x9f\xeb" else ">"
     length = struct.unpack_from(order + "I", data, 12)[0]
-    found, at = 0, 24
+    found, at = collections.Counter(), 24
     while at < 24 + length:
         info = struct.unpack_from(order + "I", data, at + 4)[0]
         kind = info >> 24 & 0x1F
         at += 12 + 4 * (FIXED.get(kind, 0) + EACH.get(kind, 0) * (info & 0xFFFF))
-        found += 1
+        found[KINDS[kind]] += 1
     return found
+
+
+def count(data):
+    """How many types a table has, its base's not counted."""
+    return sum(kinds(data).values())
 
 
 def types(data):

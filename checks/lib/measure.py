@@ -14,7 +14,7 @@ import subprocess
 import sys
 import time
 
-from btf import count
+from btf import KINDS as BTF_KINDS, count, kinds
 from made import KINDS, Made
 
 KERNELS = "/usr/lib/debug/boot/vmlinux-*"
@@ -150,10 +150,12 @@ def machine(program, runs):
 
 
 def kernel(program, folder, runs, named):
-    """A kernel with its DWARF: its table by as many workers as there are processors and by one, a layout, and the table of another program."""
+    """A kernel with its DWARF: its table by as many workers as there are processors and by one, a layout, and the table of another program.
+    Answers both tables."""
     found = [named] if named else sorted(glob.glob(KERNELS))
     if not found:
-        return say(f"skipped {KERNEL}: there is no {KERNELS}; the package {PACKAGE}")
+        say(f"skipped {KERNEL}: there is no {KERNELS}; the package {PACKAGE}")
+        return b"", b""
     path, workers = os.path.abspath(found[-1]), min(os.cpu_count(), 256)
     given = f"`{os.path.basename(path)}`, {number(os.path.getsize(path))} bytes"
     encode = [program, "--btf_encode_detached=o"]
@@ -164,9 +166,20 @@ def kernel(program, folder, runs, named):
     show(Row(KERNEL_LAYOUT, "the same, `-C list_head`", [program, "-C", "list_head", path]), folder, runs)
     if tool(["pahole", "--version"], r"v(\S+)"):
         words = ["pahole", f"-j{workers}", "--btf_encode_detached=o", path]
-        show(Row(PEER, f"the same, `-j{workers}`", words), folder, runs)
-    else:
-        say(f"skipped {PEER}: it is not installed")
+        return one, show(Row(PEER, f"the same, `-j{workers}`", words), folder, runs)
+    say(f"skipped {PEER}: it is not installed")
+    return one, b""
+
+
+def compare(ours, theirs):
+    """How many types of each kind are in the kernel's two tables."""
+    here, there = kinds(ours), kinds(theirs)
+    print()
+    print("| Kind | Here | By the tool pahole |")
+    print("|---|---|---|")
+    for kind in BTF_KINDS:
+        if here[kind] or there[kind]:
+            print(f"| {kind} | {number(here[kind])} | {number(there[kind])} |")
 
 
 def table(program, folder, runs):
@@ -199,9 +212,11 @@ def made_inputs(program, root, folder, runs):
 def main():
     program, root, folder, runs = os.path.abspath(sys.argv[1]), *sys.argv[2:4], int(sys.argv[4])
     machine(program, runs)
-    kernel(program, folder, runs, sys.argv[5] if len(sys.argv) > 5 else None)
+    ours, theirs = kernel(program, folder, runs, sys.argv[5] if len(sys.argv) > 5 else None)
     table(program, folder, runs)
     made_inputs(program, root, folder, runs)
+    if ours and theirs:
+        compare(ours, theirs)
     return any(line.startswith("failed ") for line in said)
 
 
