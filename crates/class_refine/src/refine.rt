@@ -2,18 +2,24 @@
 ghost use Rattle.std.specs.Prelude.{◌≡◌, ◌<◌, ◌≤◌, ◌+◌, ◌*◌, length, nat_eq, IfOk};
 ghost use Rattle.std.specs.Set.{distinct_count};
 ghost use Rattle.c_model.specs.Forwards.{IsIndexOf, HasFittingForwards, IsCoarsestWith, KeepsForwards};
-ghost use Rattle.type_signature.specs.Numberings.{IsNumbering};
+ghost use Rattle.c_model.specs.Numberings.{IsNumbering};
 ghost use Rattle.type_signature.specs.Signatures.{signature_at};
 ghost use Rattle.class_refine.specs.Costs.{references};
 
 use crate::guess::{guessed, paired};
+use crate::keys::keys_between;
 use crate::placing::partition;
+use crate::settled::is_settled;
 use c_model::{Classes, Graph};
 use dw_base::Steps;
 use forward_rule::FwdIndex;
 use std::alloc::{AllocError, Global};
 use std::sync::ledger::Ledger;
-use type_signature::{Numbered, Numbering, key_uncounted, numbered_labels};
+use std::thread::Threads;
+use type_signature::{Numbered, Numbering, numbered_labels};
+
+/// How many keys are made before they are numbered.
+const PART: u32 = 65_536;
 
 /// A partition of the nodes of a graph, and the number of rounds that found it.
 #[derive(Debug, Drop)]
@@ -32,7 +38,8 @@ impl Refined {
 }
 
 /// One round: numbers of the nodes by their signatures under `now`.
-fn round<L: Ledger>(
+fn round<R: Threads + Sync, L: Ledger>(
+    rt: &R,
     alloc: Global,
     graph: &Graph<'_>,
     fwd: &FwdIndex,
@@ -47,10 +54,15 @@ fn round<L: Ledger>(
 {
     let mut numbering = Numbering::new(alloc)?;
     let mut numbers = Vec::with_capacity(alloc, graph.len() as usize)?;
-    for x in 0..graph.len() {
-        let key = key_uncounted(alloc, graph, fwd, now, x)?;
-        let place = numbering.take(key, steps)?;
-        numbers.push(place)?;
+    let mut from = 0;
+    while from < graph.len() {
+        let end = from + PART.min(graph.len() - from);
+        for made in keys_between(rt, alloc, graph, fwd, now, from, end)? {
+            let key = made?;
+            let place = numbering.take(key, steps)?;
+            numbers.push(place)?;
+        }
+        from = end;
     }
     let count = numbering.len();
     Ok(Numbered { numbers, count })
@@ -58,9 +70,10 @@ fn round<L: Ledger>(
 
 /// The coarsest agreeing partition of a graph: each pair of one class has a licence, and every partition
 /// of which that is true relates only pairs that it relates. Rounds begin at the labels and split the
-/// classes by the classes of their targets, until a round splits nothing. The counter rises by the numbers
+/// classes by the classes of their targets, until a round splits nothing; where the guess is right there is none. The counter rises by the numbers
 /// of all keys that are numbered.
-pub fn classes<L: Ledger>(
+pub fn classes<R: Threads + Sync, L: Ledger>(
+    rt: &R,
     alloc: Global,
     graph: &Graph<'_>,
     fwd: &FwdIndex,
@@ -80,9 +93,15 @@ pub fn classes<L: Ledger>(
     let first = paired(alloc, &start.numbers, &guess)?;
     let mut count = first.count;
     let mut now = partition(alloc, graph, fwd, &first.numbers)?;
+    if is_settled(alloc, graph, fwd, &first.numbers, &now)? {
+        return Ok(Refined {
+            classes: now,
+            number: 0,
+        });
+    }
     let mut number = 0;
     loop {
-        let next = round(alloc, graph, fwd, &now, steps)?;
+        let next = round(rt, alloc, graph, fwd, &now, steps)?;
         if next.count == count {
             return Ok(Refined {
                 classes: now,

@@ -5,7 +5,7 @@ ghost use Rattle.c_model.specs.Forwards.{forward_at, definitions_in, IsOpen, IsI
 
 use crate::families::declared_family;
 use crate::gather::{gathered, opened};
-use c_model::{Classes, Graph};
+use c_model::{Classes, TypeGraph};
 use std::alloc::{AllocError, Global};
 use std::marker::Model;
 
@@ -38,9 +38,11 @@ impl Model for FwdIndex {
 }
 
 impl FwdIndex {
+    ghost use Rattle.forward_rule.specs.Kept.{index_of, IsKept};
+
     /// The index of a graph where no forward is open.
-    pub fn plain(graph: &Graph<'_>) -> FwdIndex
-        ensures of { IsIndexOf graph.now result }
+    pub fn plain<'a, G: TypeGraph<'a>>(graph: &G) -> FwdIndex
+        ensures of { IsIndexOf (G.shape graph.now) result }
         ensures closed { (x : ℕ) → definitions_in result x ≡ [] }
     {
         FwdIndex {
@@ -51,9 +53,13 @@ impl FwdIndex {
 
     /// The index of a graph that opens exactly its open forwards. `base` is the coarsest plain agreement of
     /// the graph's base nodes.
-    pub fn build(alloc: Global, graph: &Graph<'_>, base: &Classes) -> Result<FwdIndex, AllocError>
-        requires { IsCoarsest (take graph.now.base graph.now.nodes) base.now }
-        ensures { IfOk result (λ f. IsForwardIndex graph.now f) }
+    pub fn build<'a, G: TypeGraph<'a>>(
+        alloc: Global,
+        graph: &G,
+        base: &Classes,
+    ) -> Result<FwdIndex, AllocError>
+        requires { let g = G.shape graph.now in IsCoarsest (take g.base g.nodes) base.now }
+        ensures { IfOk result (λ f. IsForwardIndex (G.shape graph.now) f) }
     {
         let Kept { tags, groups } = gathered(alloc, graph)?;
         let groups = opened(alloc, base.numbers(), groups)?;
@@ -64,11 +70,11 @@ impl FwdIndex {
     }
 
     /// Whether node `x` is a forward of the files. Base nodes are none.
-    pub fn is_forward(graph: &Graph<'_>, x: u32) -> bool
-        requires { x < length graph.now.nodes }
-        ensures { result ≡ is_some (forward_at graph.now x) }
+    pub fn is_forward<'a, G: TypeGraph<'a>>(graph: &G, x: u32) -> bool
+        requires { x < length (G.shape graph.now).nodes }
+        ensures { result ≡ is_some (forward_at (G.shape graph.now) x) }
     {
-        x >= graph.base() && declared_family(&graph.node(x).label).is_some()
+        x >= graph.base() && declared_family(graph.label(x)).is_some()
     }
 
     /// Whether node `x` is an open forward.
@@ -94,5 +100,12 @@ impl FwdIndex {
             return &[];
         }
         &kept.groups[tag as usize - 1]
+    }
+
+    /// The index as it is kept: the number of each node's tag, and the definitions of each tag.
+    pub fn kept(&self) -> &Option<Kept>
+        ensures { (n : ℕ) × (self.now ≡ index_of n result.now) × IsKept n result.now }
+    {
+        &self.kept
     }
 }
