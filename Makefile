@@ -3,9 +3,12 @@
 # `make measure` (docs/SPEED.md), `make plants` and `make unseen` (docs/AUDIT.md).
 PROGRAM = crates/pahole/out/pahole
 
-.PHONY: pahole demo test measure plants unseen
+SHELL = bash
+
+.PHONY: pahole demo test measure plants unseen edits
 
 pahole:
+	@. checks/lib/toolchain.sh
 	@# rt run also runs the program, which ends with status 2 without words
 	cd crates/pahole && rm -f out/pahole && { rt run || true; } && test -x out/pahole
 	@echo "the proved program is $(PROGRAM)"
@@ -27,3 +30,7 @@ plants:
 # EDITS='a b' tries these alone
 unseen:
 	bash checks/lib/unseen.sh $(EDITS)
+
+# tries the edits that must fail and are no part of the gate (crates/NAME/more-edits); CRATES='a b' those of these alone
+edits:
+	bash checks/lib/edits.sh $(CRATES)

@@ -11,3 +11,4 @@ if ! command -v python3 >/dev/null; then
 fi
 python3 -B "$root/checks/lib/docs.py" "$root"
 python3 -B "$root/checks/lib/counts.py" "$root"
+python3 -B "$root/checks/lib/bugs.py" "$root"

@@ -29,7 +29,7 @@ def exists(path):
 
 
 def crates():
-    return [line.split(":")[0] for line in read("crates.txt").splitlines()]
+    return [line.split(":")[0].split()[0] for line in read("crates.txt").splitlines() if line and not line.startswith("#")]
 
 
 def check_paths(page):

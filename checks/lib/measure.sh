@@ -5,6 +5,7 @@
 set -u
 export LC_ALL=C.UTF-8 PATH=$PATH:/usr/sbin:/sbin
 . "$(dirname "$0")/program.sh"
+. "$root/checks/lib/pages.sh"
 
 if ! command -v python3 >/dev/null; then
   echo "skipped measure: python3 is not installed"
@@ -15,10 +16,4 @@ trap 'rm -rf "$scratch"' EXIT
 mkdir "$scratch/runs"
 python3 -B "$root/checks/lib/measure.py" "$program" "$root" "$scratch/runs" "${RUNS:-3}" "$@" | tee "$scratch/table"
 [ "${PIPESTATUS[0]}" = 0 ] || exit 1
-[ -n "${WRITE:-}" ] || exit 0
-# what stands between the marks becomes the table
-awk -v table="$scratch/table" '
-  /^<!-- end of measured -->/ { inside = 0; while ((getline line <table) > 0) print line; print "" }
-  !inside { print }
-  /^<!-- measured -->/ { inside = 1; print "" }' "$root/docs/SPEED.md" >"$scratch/page"
-cp "$scratch/page" "$root/docs/SPEED.md"
+if [ -n "${WRITE:-}" ]; then put_between measured "$scratch/table" "$root/docs/SPEED.md"; fi

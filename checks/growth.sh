@@ -1,0 +1,15 @@
+#!/usr/bin/env bash
+# Small files that could make the program's work grow faster than its input: each kind at three sizes, each twice the one before. A kind
+# fails where a doubling multiplies the processor time by more than three once it passes half a second (checks/lib/growth.py). With
+# LARGE=1 the files are five times as large, as `make measure` runs it.
+set -u
+export LC_ALL=C
+. "$(dirname "$0")/lib/program.sh"
+
+if ! command -v python3 >/dev/null; then
+  echo "skipped growth: python3 is not installed"
+  exit 0
+fi
+scratch=$(mktemp -d) || exit 2
+trap 'rm -rf "$scratch"' EXIT
+python3 -B "$root/checks/lib/growth.py" "$program" "$scratch" "$([ -n "${LARGE:-}" ] && echo large || echo small)"

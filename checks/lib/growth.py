@@ -1,0 +1,246 @@
+"""growth.py PROGRAM FOLDER SIZE: runs PROGRAM over small files of each kind of KINDS that could make its work grow faster than its input, at
+the sizes n, 2n and 4n, and fails a kind where a doubling multiplies the processor time by more than MOST once it passes ENOUGH seconds.
+SIZE is `small` or `large`; a kind's large sizes are those times LARGER. The files are ELF files of 64 bits with units of DWARF 5, and
+files of BTF."""
+import os
+import resource
+import struct
+import subprocess
+import sys
+
+from made import elf
+
+MOST, ENOUGH, LARGER, LIMIT = 3, 0.5, 5, 120
+# tags, attributes and forms of DWARF 5, tables 7.3, 7.5 and 7.6 in its section 7.5
+ARRAY, ENUMERATION, PARAMETER, BLOCK, MEMBER, POINTER, UNIT, STRUCTURE, SUBROUTINE, TYPEDEF, SUBRANGE, BASE, ENUMERATOR = (
+    0x01, 0x04, 0x05, 0x0B, 0x0D, 0x0F, 0x11, 0x13, 0x15, 0x16, 0x21, 0x24, 0x28)
+NAME, SIZE, LANGUAGE, VALUE, COUNT, PLACE, DECLARATION, ENCODING, TYPE = 0x03, 0x0B, 0x13, 0x1C, 0x37, 0x38, 0x3C, 0x3E, 0x49
+DATA2, DATA4, STRING, DATA1, STRP, REF4, FLAG = 0x05, 0x06, 0x08, 0x0B, 0x0E, 0x13, 0x19
+C11 = 0x1D
+HEADER = 12
+# the first entry behind the unit's own, which has a code of one byte and a language
+FIRST = HEADER + 3
+
+
+def leb(value):
+    found = b""
+    while value > 127:
+        found += bytes([value & 127 | 128])
+        value >>= 7
+    return found + bytes([value])
+
+
+def abbreviation(code, tag, children, *pairs):
+    return leb(code) + leb(tag) + bytes([children]) + b"".join(leb(name) + leb(form) for name, form in pairs) + b"\0\0"
+
+
+ROOT = abbreviation(1, UNIT, 1, (LANGUAGE, DATA2))
+INT = abbreviation(2, BASE, 0, (NAME, STRING), (SIZE, DATA1), (ENCODING, DATA1))
+INT_ENTRY = b"\2int\0\4\5"
+
+
+def unit(body, table=0):
+    whole = struct.pack("<BH", 1, C11) + body + b"\0"
+    return struct.pack("<IHBBI", HEADER - 4 + len(whole), 5, 1, 8, table) + whole
+
+
+def file(table, *units, texts=None):
+    sections = [(b".debug_info", b"".join(units)), (b".debug_abbrev", table + b"\0")]
+    return elf(sections + ([(b".debug_str", texts)] if texts else []))
+
+
+def declarations(n):
+    table = ROOT + abbreviation(2, STRUCTURE, 0, (NAME, STRING), (DECLARATION, FLAG)) + abbreviation(3, STRUCTURE, 0, (NAME, STRING), (SIZE, DATA1))
+    return file(table, unit(b"\2a\0" * n + b"\3a\0\4" * n))
+
+
+def structures_of(n, middle):
+    """Structures of one name with three members, of which the one in the middle differs."""
+    table = ROOT + INT + abbreviation(3, STRUCTURE, 1, (NAME, STRING), (SIZE, DATA4)) + abbreviation(
+        4, MEMBER, 0, (NAME, STRING), (TYPE, REF4), (PLACE, DATA4))
+
+    def member(name, place):
+        return b"\4" + name + b"\0" + struct.pack("<II", FIRST, place)
+
+    parts = [struct.pack("<B2sI", 3, b"a", 8) + member(b"x", 0) + member(*middle(i)) + member(b"z", 4) + b"\0" for i in range(n)]
+    return file(table, unit(INT_ENTRY + b"".join(parts)))
+
+
+def enumerations(n):
+    table = ROOT + abbreviation(2, ENUMERATION, 1, (NAME, STRING), (SIZE, DATA1)) + abbreviation(3, ENUMERATOR, 0, (NAME, STRING), (VALUE, DATA4))
+    parts = [b"\2a\0\4" + b"".join(b"\3" + name + struct.pack("<I", value) for name, value in ((b"x\0", 0), (b"y\0", i), (b"z\0", 1))) + b"\0"
+             for i in range(n)]
+    return file(table, unit(b"".join(parts)))
+
+
+def units_of_one_table(n):
+    table = ROOT + b"".join(abbreviation(2 + i, BLOCK, 0) for i in range(n))
+    return file(table, *[unit(b"")] * n)
+
+
+def attributes_without_bytes(n):
+    return file(ROOT + abbreviation(2, BLOCK, 0, *[(0x2000 + i, FLAG) for i in range(n)]), unit(b"\2" * n))
+
+
+def pointers(n):
+    """A chain: each pointer is to the next one, and the last one to void."""
+    table = ROOT + abbreviation(2, POINTER, 0, (TYPE, REF4)) + abbreviation(3, POINTER, 0)
+    return file(table, unit(b"".join(struct.pack("<BI", 2, FIRST + 5 * (i + 1)) for i in range(n)) + b"\3"))
+
+
+def blocks(n):
+    return file(ROOT + abbreviation(2, BLOCK, 1), unit(b"\2" * n + b"\0" * n))
+
+
+def types_in_each_other(n):
+    table = ROOT + abbreviation(2, STRUCTURE, 1, (SIZE, DATA1)) + abbreviation(3, SUBROUTINE, 1)
+    return file(table, unit(b"\2\4\3" * n + b"\0" * 2 * n))
+
+
+def entries_that_are_no_members(n):
+    table = ROOT + abbreviation(2, STRUCTURE, 1, (SIZE, DATA1)) + abbreviation(3, BLOCK, 0)
+    return file(table, unit(b"\2\4" + b"\3" * n + b"\0"))
+
+
+def lengths(n):
+    table = ROOT + INT + abbreviation(3, ARRAY, 1, (TYPE, REF4)) + abbreviation(4, SUBRANGE, 0, (COUNT, DATA1))
+    return file(table, unit(INT_ENTRY + struct.pack("<BI", 3, FIRST) + b"\4\1" * n + b"\0"))
+
+
+def sections(n):
+    """So many sections without bytes, numbered in the first section's header, with one long name."""
+    names = b"\0" + b"a" * n + b"\0"
+    header = struct.pack("<HHIQQQIHHHHHH", 2, 62, 1, 0, 0, 64 + len(names), 0, 64, 0, 0, 64, 0, 0xFFFF)
+    first = struct.pack("<IIQQQQIIQQ", 0, 0, 0, 0, 0, n + 2, n + 1, 0, 0, 0)
+    row = struct.pack("<IIQQQQIIQQ", 1, 1, 0, 0, 64, 0, 0, 0, 1, 0)
+    last = struct.pack("<IIQQQQIIQQ", 0, 3, 0, 0, 64, len(names), 0, 0, 1, 0)
+    return b"\x7fELF\x02\x01\x01" + bytes(9) + header + names + first + row * n + last
+
+
+def codes_far_apart(n):
+    codes = [2 + i * 1_000_003 for i in range(n)]
+    table = ROOT + b"".join(abbreviation(code, BLOCK, 0) for code in codes)
+    return file(table, unit(b"".join(leb(code) for code in codes)))
+
+
+def ends_of_one_text(n):
+    table = ROOT + abbreviation(2, STRUCTURE, 0, (NAME, STRP), (SIZE, DATA1))
+    return file(table, unit(b"".join(struct.pack("<BIB", 2, i, 4) for i in range(n))), texts=b"a" * n + b"\0")
+
+
+def members(n):
+    table = ROOT + INT + abbreviation(3, STRUCTURE, 1, (NAME, STRING), (SIZE, DATA4)) + abbreviation(
+        4, MEMBER, 0, (NAME, STRING), (TYPE, REF4), (PLACE, DATA4))
+    body = b"".join(b"\4" + b"m%d\0" % i + struct.pack("<II", FIRST, 4 * i) for i in range(n))
+    return file(table, unit(INT_ENTRY + struct.pack("<B2sI", 3, b"a", 4 * n) + body + b"\0"))
+
+
+def btf(words, texts):
+    data = struct.pack(f"<{len(words)}I", *words)
+    return struct.pack("<HBBIIIII", 0xEB9F, 1, 0, 24, 0, len(data), len(data), len(texts)) + data + texts
+
+
+INT_KIND, ARRAY_KIND, STRUCT_KIND, TYPEDEF_KIND = 1 << 24, 3 << 24, 4 << 24, 8 << 24
+BTF_INT = [0, INT_KIND, 4, 32]
+
+
+def typedefs_of_btf(n):
+    """A chain of typedefs to a structure, and as many structures with a member of its last type."""
+    texts = b"\0t\0s\0m\0"
+    chain = [word for i in range(n) for word in (1, TYPEDEF_KIND, i + 1)]
+    shown = [3, STRUCT_KIND | 1, 4, 5, n + 1, 0] * n
+    return btf(BTF_INT + chain + shown, texts)
+
+
+def arrays_of_btf(n):
+    """Arrays of one item in each other, and a structure with a member of the outermost."""
+    arrays = [word for i in range(n) for word in (0, ARRAY_KIND, 0, i + 1, 1, 1)]
+    return btf(BTF_INT + arrays + [3, STRUCT_KIND | 1, 4, 5, n + 1, 0], b"\0t\0s\0m\0")
+
+
+DIGITS = "0123456789abcdefghijklmnopqrstuvwxyz"
+
+
+def short(i):
+    """A name of three letters and digits, so that many are one word of a command."""
+    return DIGITS[10 + i // 36 // 36] + DIGITS[i // 36 % 36] + DIGITS[i % 36]
+
+
+def structures_of_btf(n):
+    words = [word for i in range(n) for word in (3 + 4 * i, STRUCT_KIND | 1, 4, 1, 1, 0)]
+    return btf(BTF_INT + words, b"\0m\0" + b"".join(short(i).encode() + b"\0" for i in range(n)))
+
+
+def encoding(n):
+    return ["--btf_encode_detached=o", "a"]
+
+
+def showing(n):
+    return ["-F", "btf", "-s", "a"]
+
+
+def showing_names(n):
+    return ["-F", "btf", "-s", "-C", ",".join(map(short, range(n))), "a"]
+
+
+# a kind, the file for n, the least n, whether larger sizes are there too, and the program's words
+KINDS = [
+    ("declarations beside equal definitions", declarations, 10_000, True, encoding),
+    ("structures that differ in a member's place", lambda n: structures_of(n, lambda i: (b"y", i)), 5_000, True, encoding),
+    ("structures that differ in a member's name", lambda n: structures_of(n, lambda i: (b"y%d" % i, 0)), 5_000, True, encoding),
+    ("enumerations that differ in a value", enumerations, 10_000, True, encoding),
+    ("units of one table of abbreviations", units_of_one_table, 2_500, True, encoding),
+    ("attributes without bytes", attributes_without_bytes, 8_000, True, encoding),
+    ("a chain of pointers", pointers, 4_000, True, encoding),
+    ("blocks in each other", blocks, 25_000, True, encoding),
+    ("types in each other", types_in_each_other, 12_500, True, encoding),
+    ("entries that are no members", entries_that_are_no_members, 12_500, True, encoding),
+    ("lengths of one array", lengths, 125_000, True, encoding),
+    ("sections of one long name", sections, 50_000, True, encoding),
+    ("codes of abbreviations far apart", codes_far_apart, 12_500, True, encoding),
+    ("names that are ends of one text", ends_of_one_text, 5_000, True, encoding),
+    ("members of one structure", members, 16_383, False, encoding),
+    ("typedefs of a BTF file", typedefs_of_btf, 12_500, True, showing),
+    ("arrays of a BTF file", arrays_of_btf, 12_500, True, showing),
+    ("names of `-C`", structures_of_btf, 5_000, False, showing_names),
+]
+
+
+def run(program, folder, words):
+    """The processor time of a run, and its complaint; None where it did not end in time or by a signal."""
+    before = resource.getrusage(resource.RUSAGE_CHILDREN)
+    try:
+        done = subprocess.run([program, *words], cwd=folder, stdin=subprocess.DEVNULL, capture_output=True, timeout=LIMIT)
+    except subprocess.TimeoutExpired:
+        return None, f"it had not ended after {LIMIT} seconds"
+    after = resource.getrusage(resource.RUSAGE_CHILDREN)
+    said = done.stderr.decode(errors="replace").strip()[:100]
+    if done.returncode < 0:
+        return None, f"it ended by signal {-done.returncode}"
+    return after.ru_utime + after.ru_stime - before.ru_utime - before.ru_stime, said
+
+
+def check(program, folder, name, make, sizes, words):
+    times, told = [], []
+    for n in sizes:
+        with open(os.path.join(folder, "a"), "wb") as it:
+            it.write(make(n))
+        time, said = run(program, folder, words(n))
+        told.append(f"{n:,}: {said if time is None else f'{time:.2f} s'}")
+        if time is None:
+            return f"failed growth {name}: {'; '.join(told)}"
+        times.append(time)
+    grows = any(after > ENOUGH and after > MOST * before for before, after in zip(times, times[1:]))
+    return f"{'failed' if grows else 'passed'} growth {name}: {', '.join(told)}{f' ({said})' if said else ''}"
+
+
+def main():
+    program, folder, size = sys.argv[1:]
+    for name, make, least, has_larger, words in KINDS:
+        if size == "large" and not has_larger:
+            continue
+        n = least * (LARGER if size == "large" else 1)
+        print(check(program, folder, name, make, [n, 2 * n, 4 * n], words), flush=True)
+
+
+main()
