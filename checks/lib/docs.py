@@ -90,9 +90,9 @@ def check_map():
     return faults, f"{len(rows)} crates"
 
 
-def check_readme():
-    """The README has a paragraph on each crate with definitions."""
-    told = set(re.findall(r"^\*\*(\w+)\*\*", read("README.md"), re.M))
+def check_promises():
+    """The page on promises has a paragraph on each crate with definitions."""
+    told = set(re.findall(r"^\*\*(\w+)\*\*", read("docs/PROMISES.md"), re.M))
     wanted = [crate for crate in crates() if exists(f"crates/{crate}/specs")]
     return [f"nothing on {crate}" for crate in wanted if crate not in told], f"{len(wanted)} crates"
 
@@ -118,7 +118,7 @@ def check_refusals():
 def main():
     checks = [(f"paths of {page}", lambda page=page: check_paths(page)) for page in ["README.md"] + [
         os.path.relpath(path, ROOT) for path in sorted(glob.glob(f"{ROOT}/docs/*.md"))]]
-    checks += [("headline", check_headline), ("map", check_map), ("readme", check_readme), ("refusals", check_refusals)]
+    checks += [("headline", check_headline), ("map", check_map), ("promises", check_promises), ("refusals", check_refusals)]
     for name, check in checks:
         faults, what = check()
         print(f"failed docs {name}: {'; '.join(faults)}" if faults else f"passed docs {name}: {what}")
