@@ -4,6 +4,7 @@
 #![tactic(auto)]
 
 pub mod abbrevs;
+pub mod constants;
 pub mod fault;
 pub mod law;
 mod pieces;
