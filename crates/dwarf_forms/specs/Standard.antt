@@ -65,3 +65,7 @@ Uses c spec at form mid = ((spec.form ≢ DW_FORM_indirect) × (form ≡ spec.fo
 -- the value of an attribute is one of the form that is used
 abbrev pub IsValue : Within → Spec → ℕ → Shown → ℕ → Type 0
 IsValue c spec at v end = (form mid : ℕ) × Uses c spec at form mid × IsOfForm c spec form mid v end
+
+-- and it stands in the unit: it begins and ends not past the unit's end, one without bytes too
+abbrev pub IsValueIn : Within → Spec → ℕ → Shown → ℕ → Type 0
+IsValueIn c spec at v end = IsValue c spec at v end × (at ≤ length c.unit) × (end ≤ length c.unit)
