@@ -530,8 +530,8 @@ const SIZED_ABBREV: &[u8] =
 /// A unit with offsets and addresses of these bytes, of whose entries so many bytes are kept.
 fn sized_unit(
     alloc: Global,
-    offset_bytes: u64,
-    address_bytes: u64,
+    offset_bytes: u32,
+    address_bytes: u32,
     kept: usize,
 ) -> Result<Vec<u8>, AllocError> {
     let mut body = Vec::new(alloc);
@@ -539,8 +539,8 @@ fn sized_unit(
     for _ in 0..2 {
         body.push(2)?;
         put(&mut body, 0, 2)?;
-        put(&mut body, 0, offset_bytes as u32)?;
-        put(&mut body, 0, address_bytes as u32)?;
+        put(&mut body, 0, offset_bytes)?;
+        put(&mut body, 0, address_bytes)?;
     }
     body.extend_from_slice(&[3, 0])?;
     let end = kept.min(body.len());
@@ -548,12 +548,14 @@ fn sized_unit(
     if offset_bytes == 8 {
         put(&mut info, 0xffff_ffff, 4)?;
     }
-    let size = (end as u64).wrapping_add(4).wrapping_add(offset_bytes);
-    put(&mut info, size, offset_bytes as u32)?;
+    let size = (end as u64)
+        .wrapping_add(4)
+        .wrapping_add(u64::from(offset_bytes));
+    put(&mut info, size, offset_bytes)?;
     put(&mut info, 5, 2)?;
     put(&mut info, 1, 1)?;
-    put(&mut info, address_bytes, 1)?;
-    put(&mut info, 0, offset_bytes as u32)?;
+    put(&mut info, u64::from(address_bytes), 1)?;
+    put(&mut info, 0, offset_bytes)?;
     info.extend_from_slice(&body[..end])?;
     Ok(info)
 }
