@@ -7,7 +7,7 @@ use Rattle.std.proofs.lemmas.Bool.{cases_eq, cases_lt, eq-eqb, ne_eqb, both_ways
 use Rattle.std.proofs.lemmas.List.{get_or-map, map_push, get_or_append_left, get_or_push, length-map, length_push}
 use Rattle.dwarf_abbrev.specs.Declarations.{Declaration, place_of, declaration_with}
 use Rattle.dwarf_abbrev.specs.Rows.{IsPlaced, code_at, declarations_of, declaration_of}
-use Rattle.dwarf_abbrev.specs.declared.abbrevs.Row.{Row}
+use Rattle.dwarf_abbrev.specs.declared.row.Row.{Row}
 
 pub place_found : (declarations : List Declaration) (i q : ℕ) → i < length declarations → code_at declarations i ≡ q → ((j : ℕ) → j < i → code_at declarations j ≡ q → ⊥) → place_of q declarations ≡ Some i
 place_found [] i q lt is before = absurd (omega arith)

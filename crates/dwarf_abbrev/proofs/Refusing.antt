@@ -7,6 +7,7 @@ use Rattle.dw_base.specs.Leb128.{uleb_of, sleb_of, leb_bytes}
 use Rattle.dw_base.specs.Collect.{collect}
 use Rattle.dw_base.specs.declared.leb128.LebFault.{LebFault}
 use Rattle.dw_base.specs.declared.leb128.LebFault.TheVariants.{Truncated, TooWide}
+use Rattle.dwarf_abbrev.specs.declared.constants.TheConstants.{DW_FORM_implicit_const}
 use Rattle.dwarf_abbrev.specs.declared.spec.Spec.{Spec}
 use Rattle.dwarf_abbrev.specs.declared.fault.AbbrevFault.{AbbrevFault}
 use Rattle.dwarf_abbrev.specs.declared.fault.AbbrevFault.TheVariants.{AbbrevTruncated, AbbrevTwice, LebWide, ChildrenByte, Memory}
@@ -50,8 +51,8 @@ leb_fails : {A : Type 0} (start at : ℕ) (r : Result A LebFault) (f : AbbrevFau
 leb_fails start at r f h = ap (of_leb start at) h.1 ∙ told start at h.0 ∙ ap (λ (g : AbbrevFault). Err g) (sym h.2)
 
 -- a pair
-pick : (bytes : List ℕ) (start : ℕ) (name form : ℕ × ℕ) (f : AbbrevFault) (t : Bool) → (form.0 == 0x21) ≡ t → (if t then with_value bytes start name form else without name form) ≡ Err f → (form.0 ≡ 0x21) × (signed_at bytes start form.1 ≡ Err f)
-pick bytes start name form f true t e = (eqb-true form.0 0x21 t, by (bind_err (signed_at bytes start form.1) (λ (value : ℤ × ℕ). Ok (Some (made_of name.0 form.0 value.0), value.1)) f e))
+pick : (bytes : List ℕ) (start : ℕ) (name form : ℕ × ℕ) (f : AbbrevFault) (t : Bool) → (form.0 == DW_FORM_implicit_const) ≡ t → (if t then with_value bytes start name form else without name form) ≡ Err f → (form.0 ≡ DW_FORM_implicit_const) × (signed_at bytes start form.1 ≡ Err f)
+pick bytes start name form f true t e = (eqb-true form.0 DW_FORM_implicit_const t, by (bind_err (signed_at bytes start form.1) (λ (value : ℤ × ℕ). Ok (Some (made_of name.0 form.0 value.0), value.1)) f e))
   where
     by : (signed_at bytes start form.1 ≡ Err f) ⊎ ((x : ℤ × ℕ) × (signed_at bytes start form.1 ≡ Ok x) × (◌≡◌ {A = Result (Option Spec × ℕ) AbbrevFault} (Ok (Some (made_of name.0 form.0 x.0), x.1)) (Err f))) → signed_at bytes start form.1 ≡ Err f
     by (inl h) = h
@@ -76,14 +77,14 @@ spec_refused bytes start at f e = by (bind_err (number_at bytes start at) (λ (n
         form : (name : ℕ × ℕ) → (number_at bytes start name.1 ≡ Err f) ⊎ ((x : ℕ × ℕ) × (number_at bytes start name.1 ≡ Ok x) × (after_form bytes start name x ≡ Err f)) → NoForm bytes start name.1 f
         form name (inl h) = inl (leb_fault start name.1 (uleb_of bytes name.1) f h)
         form name (inr h) =
-            let p = pick bytes start name h.0 f (h.0.0 == 0x21) refl h.2 in
+            let p = pick bytes start name h.0 f (h.0.0 == DW_FORM_implicit_const) refl h.2 in
             inr (h.0.1, subst (λ (k : ℕ). IsNumber bytes name.1 k h.0.1) p.0 (number_is bytes start name.1 h.0 h.1), leb_fault start h.0.1 (sleb_of bytes h.0.1) f p.1)
 
 form_fails : (bytes : List ℕ) (start name mid : ℕ) (f : AbbrevFault) → NoForm bytes start mid f → (number_at bytes start mid >>= after_form bytes start (name, mid)) ≡ Err f
 form_fails bytes start name mid f (inl h) = bind_fails (number_at bytes start mid) (after_form bytes start (name, mid)) f (leb_fails start mid (uleb_of bytes mid) f h)
 form_fails bytes start name mid f (inr h) =
-    bind_gives (number_at bytes start mid) (after_form bytes start (name, mid)) (0x21, h.0) (number_gives bytes start mid 0x21 h.0 h.1)
-    ∙ bind_fails (signed_at bytes start h.0) (λ (value : ℤ × ℕ). Ok (Some (made_of name 0x21 value.0), value.1)) f (leb_fails start h.0 (sleb_of bytes h.0) f h.2)
+    bind_gives (number_at bytes start mid) (after_form bytes start (name, mid)) (DW_FORM_implicit_const, h.0) (number_gives bytes start mid DW_FORM_implicit_const h.0 h.1)
+    ∙ bind_fails (signed_at bytes start h.0) (λ (value : ℤ × ℕ). Ok (Some (made_of name DW_FORM_implicit_const value.0), value.1)) f (leb_fails start h.0 (sleb_of bytes h.0) f h.2)
 
 spec_fails : (bytes : List ℕ) (start at : ℕ) (f : AbbrevFault) → NoPair bytes start at f → spec_at bytes start at ≡ Err f
 unfolding spec_at

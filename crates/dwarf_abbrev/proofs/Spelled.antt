@@ -8,6 +8,7 @@ use Rattle.dw_base.specs.Leb128.{sleb_of}
 use Rattle.dw_base.specs.Collect.{collect, Chain}
 use Rattle.dw_base.proofs.Chains.{sound, complete}
 use Rattle.dw_base.proofs.Ends.{ok_parts, uleb_after, sleb_after}
+use Rattle.dwarf_abbrev.specs.declared.constants.TheConstants.{DW_FORM_implicit_const}
 use Rattle.dwarf_abbrev.specs.declared.spec.Spec.{Spec}
 use Rattle.dwarf_abbrev.specs.declared.fault.AbbrevFault.{AbbrevFault}
 use Rattle.dwarf_abbrev.specs.declared.fault.AbbrevFault.TheVariants.{AbbrevTruncated, AbbrevTwice, ChildrenByte}
@@ -35,7 +36,7 @@ spec_found bytes start at mid (Some s) e =
     let c : p.value_at ≤ mid = up p.value_at p.value in
     (omega (arith, a.0, b.0, c), omega (arith, a.0, a.1))
   where
-    up : (value_at : ℕ) → ((s.form ≡ 0x21) × (sleb_of bytes value_at ≡ Ok (s.implicit, mid))) ⊎ (IsPlain s × (value_at ≡ mid)) → value_at ≤ mid
+    up : (value_at : ℕ) → ((s.form ≡ DW_FORM_implicit_const) × (sleb_of bytes value_at ≡ Ok (s.implicit, mid))) ⊎ (IsPlain s × (value_at ≡ mid)) → value_at ≤ mid
     up value_at (inl h) = let g = sleb_after bytes value_at s.implicit mid h.1 in omega (arith, g.0)
     up value_at (inr h) = omega (arith, h.1)
 

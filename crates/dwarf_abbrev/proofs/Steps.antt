@@ -5,6 +5,7 @@ use Rattle.dw_base.specs.Leb128.{uleb_of, sleb_of}
 use Rattle.dw_base.specs.declared.leb128.LebFault.{LebFault}
 use Rattle.dw_base.specs.declared.leb128.LebFault.TheVariants.{Truncated, TooWide}
 use Rattle.dw_base.proofs.Ends.{ok_parts}
+use Rattle.dwarf_abbrev.specs.declared.constants.TheConstants.{DW_FORM_implicit_const}
 use Rattle.dwarf_abbrev.specs.declared.spec.Spec.{Spec}
 use Rattle.dwarf_abbrev.specs.declared.fault.AbbrevFault.{AbbrevFault}
 use Rattle.dwarf_abbrev.specs.Table.{◌>>=◌, of_leb, number_at, signed_at, spec_at}
@@ -40,7 +41,7 @@ abbrev pub without : ℕ × ℕ → ℕ × ℕ → Result (Option Spec × ℕ) A
 without name form = if name.0 == 0 && form.0 == 0 then Ok (None, form.1) else Ok (Some (made_of name.0 form.0 (pos 0)), form.1)
 
 abbrev pub after_form : List ℕ → ℕ → ℕ × ℕ → ℕ × ℕ → Result (Option Spec × ℕ) AbbrevFault
-after_form bytes start name form = if form.0 == 0x21 then with_value bytes start name form else without name form
+after_form bytes start name form = if form.0 == DW_FORM_implicit_const then with_value bytes start name form else without name form
 
 both_true : (a b : Bool) → (a && b) ≡ true → (a ≡ true) × (b ≡ true)
 both_true true b e = (refl, e)
@@ -59,7 +60,7 @@ pub record Found (bytes : List ℕ) (at : ℕ) (o : Option Spec) (after : ℕ) :
   pub pair : (s : Spec) → o ≡ Some s → IsPair bytes at s after
   pub last : o ≡ None → IsLast bytes at after
 
-wide : (bytes : List ℕ) (start at after : ℕ) (o : Option Spec) (name form : ℕ × ℕ) → IsNumber bytes at name.0 name.1 → IsNumber bytes name.1 form.0 form.1 → form.0 ≡ 0x21
+wide : (bytes : List ℕ) (start at after : ℕ) (o : Option Spec) (name form : ℕ × ℕ) → IsNumber bytes at name.0 name.1 → IsNumber bytes name.1 form.0 form.1 → form.0 ≡ DW_FORM_implicit_const
     → with_value bytes start name form ≡ Ok (o, after) → Found bytes at o after
 wide bytes start at after o name form n f is e =
     let b = bind_ok (signed_at bytes start form.1) (λ (value : ℤ × ℕ). Ok (Some (made_of name.0 form.0 value.0), value.1)) (o, after) e in
@@ -78,7 +79,7 @@ wide bytes start at after o name form n f is e =
     some_none : (a : Spec) → ◌≡◌ {A = Option Spec} (Some a) None → ⊥
     some_none a e = cc
 
-narrow : (bytes : List ℕ) (at after : ℕ) (o : Option Spec) (name form : ℕ × ℕ) (t : Bool) → IsNumber bytes at name.0 name.1 → IsNumber bytes name.1 form.0 form.1 → (form.0 ≡ 0x21 → ⊥)
+narrow : (bytes : List ℕ) (at after : ℕ) (o : Option Spec) (name form : ℕ × ℕ) (t : Bool) → IsNumber bytes at name.0 name.1 → IsNumber bytes name.1 form.0 form.1 → (form.0 ≡ DW_FORM_implicit_const → ⊥)
     → (name.0 == 0 && form.0 == 0) ≡ t → ◌≡◌ {A = Result (Option Spec × ℕ) AbbrevFault} (if t then Ok (None, form.1) else Ok (Some (made_of name.0 form.0 (pos 0)), form.1)) (Ok (o, after)) → Found bytes at o after
 narrow bytes at after o name form true n f other t e =
     let b = both_true (name.0 == 0) (form.0 == 0) t in
@@ -104,27 +105,27 @@ narrow bytes at after o name form false n f other t e =
     some_none : (a : Spec) → ◌≡◌ {A = Option Spec} (Some a) None → ⊥
     some_none a e = cc
 
-by_form : (bytes : List ℕ) (start at after : ℕ) (o : Option Spec) (name form : ℕ × ℕ) (t : Bool) → IsNumber bytes at name.0 name.1 → IsNumber bytes name.1 form.0 form.1 → (form.0 == 0x21) ≡ t
+by_form : (bytes : List ℕ) (start at after : ℕ) (o : Option Spec) (name form : ℕ × ℕ) (t : Bool) → IsNumber bytes at name.0 name.1 → IsNumber bytes name.1 form.0 form.1 → (form.0 == DW_FORM_implicit_const) ≡ t
     → (if t then with_value bytes start name form else without name form) ≡ Ok (o, after) → Found bytes at o after
-by_form bytes start at after o name form true n f t e = wide bytes start at after o name form n f (eqb-true form.0 0x21 t) e
-by_form bytes start at after o name form false n f t e = narrow bytes at after o name form (name.0 == 0 && form.0 == 0) n f (eqb-false form.0 0x21 t) refl e
+by_form bytes start at after o name form true n f t e = wide bytes start at after o name form n f (eqb-true form.0 DW_FORM_implicit_const t) e
+by_form bytes start at after o name form false n f t e = narrow bytes at after o name form (name.0 == 0 && form.0 == 0) n f (eqb-false form.0 DW_FORM_implicit_const t) refl e
 
 pub spec_is : (bytes : List ℕ) (start at after : ℕ) (o : Option Spec) → spec_at bytes start at ≡ Ok (o, after) → Found bytes at o after
 unfolding spec_at
 spec_is bytes start at after o e =
     let a = bind_ok (number_at bytes start at) (λ (name : ℕ × ℕ). number_at bytes start name.1 >>= after_form bytes start name) (o, after) e in
     let b = bind_ok (number_at bytes start a.0.1) (after_form bytes start a.0) (o, after) a.2 in
-    by_form bytes start at after o a.0 b.0 (b.0.0 == 0x21) (number_is bytes start at a.0 a.1) (number_is bytes start a.0.1 b.0 b.1) refl b.2
+    by_form bytes start at after o a.0 b.0 (b.0.0 == DW_FORM_implicit_const) (number_is bytes start at a.0 a.1) (number_is bytes start a.0.1 b.0 b.1) refl b.2
 
-after_pair : (bytes : List ℕ) (start after : ℕ) (s : Spec) (name_end value_at : ℕ) → ((s.form ≡ 0x21) × (sleb_of bytes value_at ≡ Ok (s.implicit, after))) ⊎ (IsPlain s × (value_at ≡ after))
+after_pair : (bytes : List ℕ) (start after : ℕ) (s : Spec) (name_end value_at : ℕ) → ((s.form ≡ DW_FORM_implicit_const) × (sleb_of bytes value_at ≡ Ok (s.implicit, after))) ⊎ (IsPlain s × (value_at ≡ after))
     → after_form bytes start (s.attribute, name_end) (s.form, value_at) ≡ Ok (Some s, after)
 after_pair bytes start after s name_end value_at (inl h) =
     let v : signed_at bytes start value_at ≡ Ok (s.implicit, after) = ap (of_leb start value_at) h.1 in
-    rw (eq-eqb s.form 0x21 h.0) (bind_gives (signed_at bytes start value_at) (λ (value : ℤ × ℕ). Ok (Some (made_of s.attribute s.form value.0), value.1)) (s.implicit, after) v)
+    rw (eq-eqb s.form DW_FORM_implicit_const h.0) (bind_gives (signed_at bytes start value_at) (λ (value : ℤ × ℕ). Ok (Some (made_of s.attribute s.form value.0), value.1)) (s.implicit, after) v)
 after_pair bytes start after s name_end value_at (inr h) =
     let t : (s.attribute == 0 && s.form == 0) ≡ false = one_false (s.attribute == 0) (s.form == 0) (λ (a : (s.attribute == 0) ≡ true). ne_eqb s.form 0 (h.0.some (eqb-true s.attribute 0 a))) in
     let m : made_of s.attribute s.form (pos 0) ≡ s = ap (λ (z : ℤ). made_of s.attribute s.form z) (sym h.0.none) in
-    rw (ne_eqb s.form 0x21 h.0.other, t, h.1) (ap (λ (s : Spec). Ok (Some s, after)) m)
+    rw (ne_eqb s.form DW_FORM_implicit_const h.0.other, t, h.1) (ap (λ (s : Spec). Ok (Some s, after)) m)
 
 pub pair_read : (bytes : List ℕ) (start at after : ℕ) (s : Spec) → IsPair bytes at s after → spec_at bytes start at ≡ Ok (Some s, after)
 unfolding spec_at

@@ -4,3 +4,4 @@ pub mod Refusals
 pub mod Rows
 pub mod Standard
 pub mod Table
+pub mod Sizes

@@ -3,6 +3,7 @@ use Rattle.std.specs.Prelude.{ℕ, ◌≡◌, ◌≢◌, ◌+◌, ◌<◌, ◌�
 use Rattle.dw_base.specs.Leb128.{uleb_of, sleb_of}
 use Rattle.dw_base.specs.declared.leb128.LebFault.{LebFault}
 use Rattle.dw_base.specs.declared.leb128.LebFault.TheVariants.{Truncated, TooWide}
+use Rattle.dwarf_abbrev.specs.declared.constants.TheConstants.{DW_FORM_implicit_const}
 use Rattle.dwarf_abbrev.specs.declared.fault.AbbrevFault.{AbbrevFault}
 use Rattle.dwarf_abbrev.specs.declared.fault.AbbrevFault.TheVariants.{AbbrevTruncated, AbbrevTwice, LebWide, ChildrenByte}
 use Rattle.dwarf_abbrev.specs.declared.spec.Spec.{Spec}
@@ -26,7 +27,7 @@ NoChildren bytes start at f = ((slice_get bytes at ≡ None) × (f ≡ AbbrevTru
 
 -- the form, or after implicit_const its value
 abbrev pub NoForm : List ℕ → ℕ → ℕ → AbbrevFault → Type 0
-NoForm bytes start at f = NoNumber bytes start at f ⊎ ((value_at : ℕ) × IsNumber bytes at 0x21 value_at × NoSigned bytes start value_at f)
+NoForm bytes start at f = NoNumber bytes start at f ⊎ ((value_at : ℕ) × IsNumber bytes at DW_FORM_implicit_const value_at × NoSigned bytes start value_at f)
 
 -- the attribute, or what follows it
 abbrev pub NoPair : List ℕ → ℕ → ℕ → AbbrevFault → Type 0

@@ -3,8 +3,8 @@ use Rattle.std.specs.Prelude.{ℕ, ◌≡◌, ◌+◌, ◌<◌, ◌⊎◌, List,
 use Rattle.std.specs.Ordering.{nat_cmp}
 use Rattle.std.specs.BTreeMap.{BTreeMap, get}
 use Rattle.dwarf_abbrev.specs.Declarations.{Declaration}
-use Rattle.dwarf_abbrev.specs.declared.abbrevs.Row.{Row}
-use Rattle.dwarf_abbrev.specs.declared.abbrevs.Abbrev.{Abbrev}
+use Rattle.dwarf_abbrev.specs.declared.row.Row.{Row}
+use Rattle.dwarf_abbrev.specs.declared.row.Abbrev.{Abbrev}
 
 abbrev pub declaration_of : Row → Declaration
 declaration_of r = record { code = r.code; tag = r.tag; children = r.children; specs = r.specs.items }

@@ -1,6 +1,7 @@
 -- Tables of abbreviations as the standard lays them out (DWARF 5, section 7.5.3): what the bytes are, given the whole list.
 use Rattle.std.specs.Prelude.{ℕ, ◌≡◌, ◌≢◌, ◌+◌, ◌⊎◌, pos, List, [], ◌∷◌, slice_get, Some, Ok, if◌then◌else◌, ⊤}
 use Rattle.dw_base.specs.Leb128.{uleb_of, sleb_of}
+use Rattle.dwarf_abbrev.specs.declared.constants.TheConstants.{DW_FORM_implicit_const}
 use Rattle.dwarf_abbrev.specs.Declarations.{Declaration}
 use Rattle.dwarf_abbrev.specs.declared.spec.Spec.{Spec}
 
@@ -10,7 +11,7 @@ IsNumber bytes at value after = uleb_of bytes at ≡ Ok (value, after)
 
 -- a form that is not implicit_const, in a pair that is not the one of two zeros
 pub record IsPlain (s : Spec) : Type 0 where
-  pub other : s.form ≢ 0x21
+  pub other : s.form ≢ DW_FORM_implicit_const
   pub some : s.attribute ≡ 0 → s.form ≢ 0
   pub none : s.implicit ≡ pos 0
 
@@ -20,7 +21,7 @@ pub record IsPair (bytes : List ℕ) (at : ℕ) (s : Spec) (after : ℕ) : Type 
   pub value_at : ℕ
   pub attribute : IsNumber bytes at s.attribute form_at
   pub form : IsNumber bytes form_at s.form value_at
-  pub value : ((s.form ≡ 0x21) × (sleb_of bytes value_at ≡ Ok (s.implicit, after))) ⊎ (IsPlain s × (value_at ≡ after))
+  pub value : ((s.form ≡ DW_FORM_implicit_const) × (sleb_of bytes value_at ≡ Ok (s.implicit, after))) ⊎ (IsPlain s × (value_at ≡ after))
 
 -- pairs that follow one another
 abbrev pub ArePairs : List ℕ → ℕ → List Spec → ℕ → Type 0

@@ -4,6 +4,7 @@ use Rattle.dw_base.specs.Leb128.{uleb_of, sleb_of}
 use Rattle.dw_base.specs.Collect.{collect}
 use Rattle.dw_base.specs.declared.leb128.LebFault.{LebFault}
 use Rattle.dw_base.specs.declared.leb128.LebFault.TheVariants.{Truncated, TooWide}
+use Rattle.dwarf_abbrev.specs.declared.constants.TheConstants.{DW_FORM_implicit_const}
 use Rattle.dwarf_abbrev.specs.declared.fault.AbbrevFault.{AbbrevFault}
 use Rattle.dwarf_abbrev.specs.declared.fault.AbbrevFault.TheVariants.{AbbrevTruncated, AbbrevTwice, LebWide, ChildrenByte, Memory}
 use Rattle.dwarf_abbrev.specs.declared.spec.Spec.{Spec}
@@ -40,7 +41,7 @@ unfoldable pub spec_at : List ℕ → ℕ → ℕ → Result (Option Spec × ℕ
 spec_at bytes start at = do
   name ← number_at bytes start at
   form ← number_at bytes start name.1
-  if form.0 == 0x21
+  if form.0 == DW_FORM_implicit_const
       then (signed_at bytes start form.1 >>= λ (value : ℤ × ℕ). Ok (Some (record { attribute = name.0; form = form.0; implicit = value.0 }), value.1))
       else (if name.0 == 0 && form.0 == 0 then Ok (None, form.1) else Ok (Some (record { attribute = name.0; form = form.0; implicit = pos 0 }), form.1))
 

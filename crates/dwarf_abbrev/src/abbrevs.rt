@@ -7,32 +7,11 @@ ghost use Rattle.dwarf_abbrev.specs.Table.{Gives, declaration_at, table_at};
 
 use crate::fault::AbbrevFault;
 use crate::pieces::{read_flag, read_number, read_specs};
-use crate::spec::Spec;
+use crate::row::{Abbrev, Row};
+use crate::size::fixed_size;
 use std::alloc::{AllocError, Global};
 use std::collections::BTreeMap;
 use std::marker::Model;
-
-/// An abbreviation as the table owns it.
-#[derive(Debug, Drop)]
-struct Row {
-    code: u64,
-    tag: u64,
-    specs: Vec<Spec>,
-    children: bool,
-}
-
-/// An abbreviation of a table (DWARF 5, section 7.5.3).
-#[derive(Clone, Copy, Debug)]
-pub struct Abbrev<'t> {
-    /// The code by which entries name it; never 0.
-    pub code: u64,
-    /// The tag of its entries, a DW_TAG number.
-    pub tag: u64,
-    /// Whether a list of children follows each of its entries.
-    pub children: bool,
-    /// Its attributes, in the order in which an entry holds their values.
-    pub specs: &'t [Spec],
-}
 
 /// A table of abbreviations. Contracts see it as the list of its declarations, in the order of the
 /// bytes.
@@ -110,12 +89,14 @@ fn read_row(
     let (tag, after) = read_number(bytes, at, after)?;
     let (children, after) = read_flag(bytes, at, after)?;
     let (specs, after) = read_specs(alloc, bytes, at, after)?;
+    let size = fixed_size(specs.as_slice());
     Ok((
         Some(Row {
             code,
             tag,
             specs,
             children,
+            size,
         }),
         after,
     ))
@@ -189,6 +170,7 @@ impl Abbrevs {
             tag: row.tag,
             children: row.children,
             specs: row.specs.as_slice(),
+            size: row.size,
         })
     }
 }

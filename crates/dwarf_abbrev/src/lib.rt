@@ -4,14 +4,19 @@
 #![tactic(auto)]
 
 pub mod abbrevs;
+pub mod constants;
 pub mod fault;
 pub mod law;
 mod pieces;
+pub mod row;
 mod shared;
+pub mod size;
 pub mod spec;
 #[cfg(test)]
 mod tests;
 
-pub use abbrevs::{Abbrev, Abbrevs};
+pub use abbrevs::Abbrevs;
 pub use fault::AbbrevFault;
+pub use row::Abbrev;
+pub use size::{Size, Width};
 pub use spec::Spec;

@@ -2,13 +2,11 @@
 ghost use Rattle.std.specs.Prelude.{◌≡◌};
 ghost use Rattle.dwarf_abbrev.specs.Table.{Gives, number_at, signed_at, spec_at, specs_of, flag_at};
 
+use crate::constants::DW_FORM_implicit_const;
 use crate::fault::AbbrevFault;
 use crate::spec::Spec;
 use dw_base::{LebFault, sleb, uleb};
 use std::alloc::Global;
-
-/// DW_FORM_implicit_const, whose value stands in the abbreviation.
-const IMPLICIT_CONST: u64 = 0x21;
 
 /// An unsigned number of the abbreviation that begins at `start`, and the offset after it.
 #[inline(always)]
@@ -57,7 +55,7 @@ fn read_spec(bytes: &[u8], start: u64, at: u64) -> Result<(Option<Spec>, u64), A
 {
     let (attribute, after) = read_number(bytes, start, at)?;
     let (form, after) = read_number(bytes, start, after)?;
-    if form == IMPLICIT_CONST {
+    if form == DW_FORM_implicit_const {
         let (implicit, after) = read_signed(bytes, start, after)?;
         return Ok((
             Some(Spec {

@@ -1,6 +1,8 @@
 //! What workers share or give back may be shared and sent.
-use crate::abbrevs::{Abbrev, Abbrevs};
+use crate::abbrevs::Abbrevs;
 use crate::fault::AbbrevFault;
+use crate::row::Abbrev;
+use crate::size::{Size, Width};
 use crate::spec::Spec;
 
 fn crosses<T: Send + Sync>() {}
@@ -9,5 +11,7 @@ fn all_cross<'t>() {
     crosses::<Abbrevs>();
     crosses::<Abbrev<'t>>();
     crosses::<Spec>();
+    crosses::<Size>();
+    crosses::<Width>();
     crosses::<AbbrevFault>();
 }

@@ -1,6 +1,7 @@
 //! Tables in bytes, and what reading them answers.
 use crate::abbrevs::Abbrevs;
 use crate::fault::AbbrevFault;
+use crate::size::Size;
 use crate::spec::Spec;
 
 /// A table with codes out of order: 2 with a padded number and an implicit_const of -2, then 1.
@@ -80,9 +81,52 @@ fn a_code_finds_its_abbreviation(rt: HostRuntime) -> Result<(), AbbrevFault> {
         }
         None => assert!(rt; false),
     }
+    assert_eq!(rt; size_of(&table, 2), None);
+    assert_eq!(rt; size_of(&table, 1), size(0, 0, 0));
     assert!(rt; table.get(0).is_none());
     assert!(rt; table.get(3).is_none());
     let empty = Abbrevs::read(rt.alloc(), TWO, 16)?;
     assert!(rt; empty.get(1).is_none());
+    Ok(())
+}
+
+fn size(bytes: u32, offsets: u32, addresses: u32) -> Option<Size> {
+    Some(Size {
+        bytes,
+        offsets,
+        addresses,
+    })
+}
+
+fn size_of(table: &Abbrevs, code: u64) -> Option<Size> {
+    table.get(code)?.size
+}
+
+/// Abbreviations with: strp, data2, addr, strp, flag; implicit_const and flag_present; an indirect form; a form that
+/// is unknown; data16 and udata.
+const SIZED: &[u8] = &[
+    1, 0x2e, 0, 3, 0x0e, 0x0b, 0x05, 0x11, 0x01, 0x6e, 0x0e, 0x3f, 0x0c, 0, 0, // 1
+    2, 0x2e, 0, 0x0b, 0x21, 0x7e, 0x3c, 0x19, 0, 0, // 2
+    3, 0x2e, 0, 0x0b, 0x0b, 0x3c, 0x16, 0, 0, // 3
+    4, 0x2e, 0, 0x0b, 0x0b, 0x3c, 0x02, 0, 0, // 4
+    5, 0x2e, 0, 0x1c, 0x1e, 0x0b, 0x0f, 0, 0, // 5
+    6, 0x2e, 0, 0x1c, 0x1e, 0x0b, 0x07, 0, 0, // 6
+    0,
+];
+
+#[test]
+fn an_abbreviation_tells_its_size(rt: HostRuntime) -> Result<(), AbbrevFault> {
+    let table = Abbrevs::read(rt.alloc(), SIZED, 0)?;
+    let cases = [
+        (1, size(3, 2, 1)),
+        (2, size(0, 0, 0)),
+        (3, None),
+        (4, None),
+        (5, None),
+        (6, size(24, 0, 0)),
+    ];
+    for (code, expected) in cases {
+        assert_eq!(rt; size_of(&table, code), expected);
+    }
     Ok(())
 }

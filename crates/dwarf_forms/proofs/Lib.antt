@@ -1,3 +1,5 @@
+pub mod Bounds
+pub mod Fixed
 pub mod Pieces
 pub mod Progress
 pub mod Refused

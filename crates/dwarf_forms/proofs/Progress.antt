@@ -7,6 +7,7 @@ use Rattle.dw_base.specs.declared.numbers.Order.{Order}
 use Rattle.dw_base.specs.declared.leb128.LebFault.{LebFault}
 use Rattle.dw_base.specs.declared.leb128.LebFault.TheVariants.{Truncated, TooWide}
 use Rattle.dw_base.proofs.Ends.{ok_parts, uleb_after, sleb_after}
+use Rattle.dwarf_abbrev.specs.declared.constants.TheConstants.{DW_FORM_implicit_const, DW_FORM_indirect}
 use Rattle.dwarf_abbrev.specs.declared.spec.Spec.{Spec}
 use Rattle.dwarf_forms.specs.declared.fault.FormFault.{FormFault}
 use Rattle.dwarf_forms.specs.declared.fault.FormFault.TheVariants.{FormUnknown, ValueTruncated}
@@ -92,13 +93,13 @@ known : (at : ℕ) (f : ℕ × ℕ) (t : Bool) → at ≤ f.1 → Grows at (if t
 known at f true le v end e = cc
 known at f false le v end e = let p = ok_parts {F = FormFault} f.0 v f.1 end e in omega (arith, p.1)
 
-form_test : (unit : List ℕ) (at : ℕ) (spec : Spec) (t : Bool) → Grows at (if t then (uleb_at unit at spec.attribute >>= λ (f : ℕ × ℕ). if f.0 == 0x16 || f.0 == 0x21 then Err (FormUnknown f.0) else Ok f) else Ok (spec.form, at))
-form_test unit at spec true = grows_on at (uleb_at unit at spec.attribute) (λ (f : ℕ × ℕ). if f.0 == 0x16 || f.0 == 0x21 then Err (FormUnknown f.0) else Ok f) (uleb_grows unit at spec.attribute) (λ (f : ℕ × ℕ). known f.1 f (f.0 == 0x16 || f.0 == 0x21) (omega arith))
+form_test : (unit : List ℕ) (at : ℕ) (spec : Spec) (t : Bool) → Grows at (if t then (uleb_at unit at spec.attribute >>= λ (f : ℕ × ℕ). if f.0 == DW_FORM_indirect || f.0 == DW_FORM_implicit_const then Err (FormUnknown f.0) else Ok f) else Ok (spec.form, at))
+form_test unit at spec true = grows_on at (uleb_at unit at spec.attribute) (λ (f : ℕ × ℕ). if f.0 == DW_FORM_indirect || f.0 == DW_FORM_implicit_const then Err (FormUnknown f.0) else Ok f) (uleb_grows unit at spec.attribute) (λ (f : ℕ × ℕ). known f.1 f (f.0 == DW_FORM_indirect || f.0 == DW_FORM_implicit_const) (omega arith))
 form_test unit at spec false = ends at spec.form at (omega arith)
 
 form_grows : (unit : List ℕ) (at : ℕ) (spec : Spec) → Grows at (form_at unit at spec)
 unfolding form_at
-form_grows unit at spec = form_test unit at spec (spec.form == 0x16)
+form_grows unit at spec = form_test unit at spec (spec.form == DW_FORM_indirect)
 
 unknown_grows : {B : Type 0} (at form : ℕ) (o : Option Layout) (f : Layout → Result (B × ℕ) FormFault) → ((l : Layout) → Grows at (f l)) → Grows at (or_unknown form o >>= f)
 unknown_grows at form None f g v end e = cc

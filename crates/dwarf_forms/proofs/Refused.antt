@@ -9,6 +9,7 @@ use Rattle.dw_base.specs.Texts.{text_from, text_of}
 use Rattle.dw_base.specs.declared.numbers.Order.{Order}
 use Rattle.dw_base.specs.declared.leb128.LebFault.TheVariants.{TooWide}
 use Rattle.dw_base.proofs.Numbering.{is_out}
+use Rattle.dwarf_abbrev.specs.declared.constants.TheConstants.{DW_FORM_implicit_const, DW_FORM_indirect}
 use Rattle.dwarf_abbrev.specs.declared.spec.Spec.{Spec}
 use Rattle.dwarf_forms.specs.declared.fault.FormFault.{FormFault}
 use Rattle.dwarf_forms.specs.declared.fault.FormFault.TheVariants.{FormUnknown, LebWide, ValueTruncated}
@@ -226,18 +227,18 @@ read_out (layouts.Elsewhere w) form unit at order spec f wide h = bind_fails (fi
 
 -- the form that is used
 abbrev known : ℕ × ℕ → Result (ℕ × ℕ) FormFault
-known f = if f.0 == 0x16 || f.0 == 0x21 then Err (FormUnknown f.0) else Ok f
+known f = if f.0 == DW_FORM_indirect || f.0 == DW_FORM_implicit_const then Err (FormUnknown f.0) else Ok f
 
-known_err : (n : ℕ × ℕ) (f : FormFault) (t u : Bool) → (n.0 == 0x16) ≡ t → (n.0 == 0x21) ≡ u → ◌≡◌ {A = Result (ℕ × ℕ) FormFault} (if t || u then Err (FormUnknown n.0) else Ok n) (Err f) → ((n.0 ≡ 0x16) ⊎ (n.0 ≡ 0x21)) × (f ≡ FormUnknown n.0)
-known_err n f true u t' u' e = (inl (eqb-true n.0 0x16 t'), sym (same_fault {A = ℕ × ℕ} (FormUnknown n.0) f e))
-known_err n f false true t' u' e = (inr (eqb-true n.0 0x21 u'), sym (same_fault {A = ℕ × ℕ} (FormUnknown n.0) f e))
+known_err : (n : ℕ × ℕ) (f : FormFault) (t u : Bool) → (n.0 == DW_FORM_indirect) ≡ t → (n.0 == DW_FORM_implicit_const) ≡ u → ◌≡◌ {A = Result (ℕ × ℕ) FormFault} (if t || u then Err (FormUnknown n.0) else Ok n) (Err f) → ((n.0 ≡ DW_FORM_indirect) ⊎ (n.0 ≡ DW_FORM_implicit_const)) × (f ≡ FormUnknown n.0)
+known_err n f true u t' u' e = (inl (eqb-true n.0 DW_FORM_indirect t'), sym (same_fault {A = ℕ × ℕ} (FormUnknown n.0) f e))
+known_err n f false true t' u' e = (inr (eqb-true n.0 DW_FORM_implicit_const u'), sym (same_fault {A = ℕ × ℕ} (FormUnknown n.0) f e))
 known_err n f false false t' u' e = never n f e
 
-known_out : (n : ℕ × ℕ) → (n.0 ≡ 0x16) ⊎ (n.0 ≡ 0x21) → known n ≡ Err (FormUnknown n.0)
-known_out n (inl h) = rw (eq-eqb n.0 0x16 h) refl
-known_out n (inr h) = either (n.0 == 0x16) (eq-eqb n.0 0x21 h)
+known_out : (n : ℕ × ℕ) → (n.0 ≡ DW_FORM_indirect) ⊎ (n.0 ≡ DW_FORM_implicit_const) → known n ≡ Err (FormUnknown n.0)
+known_out n (inl h) = rw (eq-eqb n.0 DW_FORM_indirect h) refl
+known_out n (inr h) = either (n.0 == DW_FORM_indirect) (eq-eqb n.0 DW_FORM_implicit_const h)
   where
-    either : (t : Bool) → (n.0 == 0x21) ≡ true → ◌≡◌ {A = Result (ℕ × ℕ) FormFault} (if t || (n.0 == 0x21) then Err (FormUnknown n.0) else Ok n) (Err (FormUnknown n.0))
+    either : (t : Bool) → (n.0 == DW_FORM_implicit_const) ≡ true → ◌≡◌ {A = Result (ℕ × ℕ) FormFault} (if t || (n.0 == DW_FORM_implicit_const) then Err (FormUnknown n.0) else Ok n) (Err (FormUnknown n.0))
     either true e = refl
     either false e = rw e refl
 
@@ -245,25 +246,25 @@ named_err : (c : Within) (spec : Spec) (at : ℕ) (f : FormFault)
     → (uleb_at c.unit at spec.attribute ≡ Err f) ⊎ ((n : ℕ × ℕ) × (uleb_at c.unit at spec.attribute ≡ Ok n) × (known n ≡ Err f)) → NoneNamed c spec at f
 named_err c spec at f (inl h) = inl (uleb_err c.unit at spec.attribute f h)
 named_err c spec at f (inr h) =
-    let k = known_err h.0 f (h.0.0 == 0x16) (h.0.0 == 0x21) refl refl h.2 in
+    let k = known_err h.0 f (h.0.0 == DW_FORM_indirect) (h.0.0 == DW_FORM_implicit_const) refl refl h.2 in
     inr (h.0.0, h.0.1, number_is c.unit at spec.attribute h.0.0 h.0.1 h.1, k.0, k.1)
 
-used_err : (c : Within) (spec : Spec) (at : ℕ) (f : FormFault) (t : Bool) → (spec.form == 0x16) ≡ t → (if t then named_form c.unit at spec else Ok (spec.form, at)) ≡ Err f → (spec.form ≡ 0x16) × NoneNamed c spec at f
-used_err c spec at f true t e = (eqb-true spec.form 0x16 t, named_err c spec at f (bind_err (uleb_at c.unit at spec.attribute) known f e))
+used_err : (c : Within) (spec : Spec) (at : ℕ) (f : FormFault) (t : Bool) → (spec.form == DW_FORM_indirect) ≡ t → (if t then named_form c.unit at spec else Ok (spec.form, at)) ≡ Err f → (spec.form ≡ DW_FORM_indirect) × NoneNamed c spec at f
+used_err c spec at f true t e = (eqb-true spec.form DW_FORM_indirect t, named_err c spec at f (bind_err (uleb_at c.unit at spec.attribute) known f e))
 used_err c spec at f false t e = never {A = ℕ × ℕ} (spec.form, at) f e
 
-form_err : (c : Within) (spec : Spec) (at : ℕ) (f : FormFault) → form_at c.unit at spec ≡ Err f → (spec.form ≡ 0x16) × NoneNamed c spec at f
+form_err : (c : Within) (spec : Spec) (at : ℕ) (f : FormFault) → form_at c.unit at spec ≡ Err f → (spec.form ≡ DW_FORM_indirect) × NoneNamed c spec at f
 unfolding form_at
-form_err c spec at f e = used_err c spec at f (spec.form == 0x16) refl e
+form_err c spec at f e = used_err c spec at f (spec.form == DW_FORM_indirect) refl e
 
 named_out : (c : Within) (spec : Spec) (at : ℕ) (f : FormFault) → NoneNamed c spec at f → named_form c.unit at spec ≡ Err f
 named_out c spec at f (inl h) = bind_fails (uleb_at c.unit at spec.attribute) known f (uleb_out c.unit at spec.attribute f h)
 named_out c spec at f (inr h) =
     bind_gives (uleb_at c.unit at spec.attribute) known (h.0, h.1) (number_gives c.unit at spec.attribute h.0 h.1 h.2) ∙ known_out (h.0, h.1) h.3 ∙ ap (λ (f : FormFault). Err f) (sym h.4)
 
-form_out : (c : Within) (spec : Spec) (at : ℕ) (f : FormFault) → spec.form ≡ 0x16 → NoneNamed c spec at f → form_at c.unit at spec ≡ Err f
+form_out : (c : Within) (spec : Spec) (at : ℕ) (f : FormFault) → spec.form ≡ DW_FORM_indirect → NoneNamed c spec at f → form_at c.unit at spec ≡ Err f
 unfolding form_at
-form_out c spec at f is h = ap (λ (t : Bool). if t then named_form c.unit at spec else Ok (spec.form, at)) (eq-eqb spec.form 0x16 is) ∙ named_out c spec at f h
+form_out c spec at f is h = ap (λ (t : Bool). if t then named_form c.unit at spec else Ok (spec.form, at)) (eq-eqb spec.form DW_FORM_indirect is) ∙ named_out c spec at f h
 
 -- the value
 abbrev shown_after : ℕ → Plain × ℕ → Result (Shown × ℕ) FormFault

@@ -11,6 +11,7 @@ use Rattle.dw_base.specs.declared.numbers.Order.TheVariants as orders
 use Rattle.dw_base.specs.declared.leb128.LebFault.{LebFault}
 use Rattle.dw_base.specs.declared.leb128.LebFault.TheVariants.{Truncated, TooWide}
 use Rattle.dw_base.proofs.Ends.{ok_parts}
+use Rattle.dwarf_abbrev.specs.declared.constants.TheConstants.{DW_FORM_implicit_const, DW_FORM_indirect}
 use Rattle.dwarf_abbrev.specs.declared.spec.Spec.{Spec}
 use Rattle.dwarf_forms.specs.declared.fault.FormFault.{FormFault}
 use Rattle.dwarf_forms.specs.declared.fault.FormFault.TheVariants.{FormUnknown, ValueTruncated}
@@ -239,46 +240,46 @@ read_gives (layouts.Elsewhere w) form unit at order spec v end h r =
     bind_gives (fixed_at unit at w order spec.attribute) (λ (n : ℕ × ℕ). Ok (elsewhere form, n.1)) (ordered order r.0, end) (fixed_gives unit at w order spec.attribute end r.0 h.0 r.1 r.2.0) ∙ ap (λ (v : Plain). Ok (v, end)) (sym r.2.1)
 
 -- the form that is used
-known_is : (f : ℕ × ℕ) (form mid : ℕ) (t u : Bool) → (f.0 == 0x16) ≡ t → (f.0 == 0x21) ≡ u → ◌≡◌ {A = Result (ℕ × ℕ) FormFault} (if t || u then Err (FormUnknown f.0) else Ok f) (Ok (form, mid))
-    → (f.0 ≡ form) × (f.1 ≡ mid) × (f.0 ≢ 0x16) × (f.0 ≢ 0x21)
+known_is : (f : ℕ × ℕ) (form mid : ℕ) (t u : Bool) → (f.0 == DW_FORM_indirect) ≡ t → (f.0 == DW_FORM_implicit_const) ≡ u → ◌≡◌ {A = Result (ℕ × ℕ) FormFault} (if t || u then Err (FormUnknown f.0) else Ok f) (Ok (form, mid))
+    → (f.0 ≡ form) × (f.1 ≡ mid) × (f.0 ≢ DW_FORM_indirect) × (f.0 ≢ DW_FORM_implicit_const)
 known_is f form mid true u t' u' e = cc
 known_is f form mid false true t' u' e = cc
-known_is f form mid false false t' u' e = let p = ok_parts {F = FormFault} f.0 form f.1 mid e in (p.0, p.1, eqb-false f.0 0x16 t', eqb-false f.0 0x21 u')
+known_is f form mid false false t' u' e = let p = ok_parts {F = FormFault} f.0 form f.1 mid e in (p.0, p.1, eqb-false f.0 DW_FORM_indirect t', eqb-false f.0 DW_FORM_implicit_const u')
 
 abbrev pub named_form : List ℕ → ℕ → Spec → Result (ℕ × ℕ) FormFault
-named_form unit at spec = uleb_at unit at spec.attribute >>= λ (f : ℕ × ℕ). if f.0 == 0x16 || f.0 == 0x21 then Err (FormUnknown f.0) else Ok f
+named_form unit at spec = uleb_at unit at spec.attribute >>= λ (f : ℕ × ℕ). if f.0 == DW_FORM_indirect || f.0 == DW_FORM_implicit_const then Err (FormUnknown f.0) else Ok f
 
-used_test : (c : Within) (spec : Spec) (at form mid : ℕ) (t : Bool) → (spec.form == 0x16) ≡ t → (if t then named_form c.unit at spec else Ok (spec.form, at)) ≡ Ok (form, mid) → Uses c spec at form mid
+used_test : (c : Within) (spec : Spec) (at form mid : ℕ) (t : Bool) → (spec.form == DW_FORM_indirect) ≡ t → (if t then named_form c.unit at spec else Ok (spec.form, at)) ≡ Ok (form, mid) → Uses c spec at form mid
 used_test c spec at form mid true t e =
-    let b = bind_ok (uleb_at c.unit at spec.attribute) (λ (f : ℕ × ℕ). if f.0 == 0x16 || f.0 == 0x21 then Err (FormUnknown f.0) else Ok f) (form, mid) e in
-    let k = known_is b.0 form mid (b.0.0 == 0x16) (b.0.0 == 0x21) refl refl b.2 in
+    let b = bind_ok (uleb_at c.unit at spec.attribute) (λ (f : ℕ × ℕ). if f.0 == DW_FORM_indirect || f.0 == DW_FORM_implicit_const then Err (FormUnknown f.0) else Ok f) (form, mid) e in
+    let k = known_is b.0 form mid (b.0.0 == DW_FORM_indirect) (b.0.0 == DW_FORM_implicit_const) refl refl b.2 in
     let d = uleb_is c.unit at b.0.0 b.0.1 (uleb_at_is c.unit at spec.attribute b.0.0 b.0.1 b.1) in
     inr (
-      eqb-true spec.form 0x16 t,
+      eqb-true spec.form DW_FORM_indirect t,
       record {
         digits = d.digits;
         stands = subst (λ (k : ℕ). Stands c.unit at d.digits k) k.1 d.stands;
         leb = d.leb;
         fits = d.fits;
         is = sym k.0 ∙ d.is;
-        other = λ (h : form ≡ 0x16). k.2 (k.0 ∙ h);
-        read = λ (h : form ≡ 0x21). k.3 (k.0 ∙ h);
+        other = λ (h : form ≡ DW_FORM_indirect). k.2 (k.0 ∙ h);
+        read = λ (h : form ≡ DW_FORM_implicit_const). k.3 (k.0 ∙ h);
       },
     )
-used_test c spec at form mid false t e = let p = ok_parts {F = FormFault} spec.form form at mid e in inl (eqb-false spec.form 0x16 t, sym p.0, sym p.1)
+used_test c spec at form mid false t e = let p = ok_parts {F = FormFault} spec.form form at mid e in inl (eqb-false spec.form DW_FORM_indirect t, sym p.0, sym p.1)
 
 pub form_is : (c : Within) (spec : Spec) (at form mid : ℕ) → form_at c.unit at spec ≡ Ok (form, mid) → Uses c spec at form mid
 unfolding form_at
-form_is c spec at form mid e = used_test c spec at form mid (spec.form == 0x16) refl e
+form_is c spec at form mid e = used_test c spec at form mid (spec.form == DW_FORM_indirect) refl e
 
 pub form_gives : (c : Within) (spec : Spec) (at form mid : ℕ) → Uses c spec at form mid → form_at c.unit at spec ≡ Ok (form, mid)
 unfolding form_at
-form_gives c spec at form mid (inl h) = rw (ne_eqb spec.form 0x16 h.0, h.1, h.2) refl
+form_gives c spec at form mid (inl h) = rw (ne_eqb spec.form DW_FORM_indirect h.0, h.1, h.2) refl
 form_gives c spec at form mid (inr h) =
     let n = h.1 in
-    let k : (unsigned_of n.digits == 0x16 || unsigned_of n.digits == 0x21) ≡ false = rw (ne_eqb (unsigned_of n.digits) 0x16 (λ (e : unsigned_of n.digits ≡ 0x16). n.other (n.is ∙ e)), ne_eqb (unsigned_of n.digits) 0x21 (λ (e : unsigned_of n.digits ≡ 0x21). n.read (n.is ∙ e))) refl in
-    ap (λ (t : Bool). if t then named_form c.unit at spec else Ok (spec.form, at)) (eq-eqb spec.form 0x16 h.0)
-    ∙ (bind_gives (uleb_at c.unit at spec.attribute) (λ (f : ℕ × ℕ). if f.0 == 0x16 || f.0 == 0x21 then Err (FormUnknown f.0) else Ok f) (unsigned_of n.digits, mid) (uleb_at_gives c.unit at spec.attribute mid n.digits n.stands n.leb n.fits)
+    let k : (unsigned_of n.digits == DW_FORM_indirect || unsigned_of n.digits == DW_FORM_implicit_const) ≡ false = rw (ne_eqb (unsigned_of n.digits) DW_FORM_indirect (λ (e : unsigned_of n.digits ≡ DW_FORM_indirect). n.other (n.is ∙ e)), ne_eqb (unsigned_of n.digits) DW_FORM_implicit_const (λ (e : unsigned_of n.digits ≡ DW_FORM_implicit_const). n.read (n.is ∙ e))) refl in
+    ap (λ (t : Bool). if t then named_form c.unit at spec else Ok (spec.form, at)) (eq-eqb spec.form DW_FORM_indirect h.0)
+    ∙ (bind_gives (uleb_at c.unit at spec.attribute) (λ (f : ℕ × ℕ). if f.0 == DW_FORM_indirect || f.0 == DW_FORM_implicit_const then Err (FormUnknown f.0) else Ok f) (unsigned_of n.digits, mid) (uleb_at_gives c.unit at spec.attribute mid n.digits n.stands n.leb n.fits)
     ∙ ap (λ (t : Bool). if t then Err (FormUnknown (unsigned_of n.digits)) else Ok (unsigned_of n.digits, mid)) k ∙ ap (λ (f : ℕ). Ok (f, mid)) (sym n.is))
 
 -- the value

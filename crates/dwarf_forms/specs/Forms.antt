@@ -1,6 +1,7 @@
 -- The table of forms (DWARF 5, section 7.5.6, table 7.6, and the two forms of GNU): one row a form.
 use Rattle.std.specs.Prelude.{ℕ, ◌==◌, ◌≤◌, ⊤, List, [], ◌∷◌, Option}
 use Rattle.std.specs.Map.{lookup}
+use Rattle.dwarf_abbrev.specs.declared.constants.TheConstants.{DW_FORM_addr, DW_FORM_block2, DW_FORM_block4, DW_FORM_data2, DW_FORM_data4, DW_FORM_data8, DW_FORM_string, DW_FORM_block, DW_FORM_block1, DW_FORM_data1, DW_FORM_flag, DW_FORM_sdata, DW_FORM_strp, DW_FORM_udata, DW_FORM_ref_addr, DW_FORM_ref1, DW_FORM_ref2, DW_FORM_ref4, DW_FORM_ref8, DW_FORM_ref_udata, DW_FORM_sec_offset, DW_FORM_exprloc, DW_FORM_flag_present, DW_FORM_strx, DW_FORM_addrx, DW_FORM_ref_sup4, DW_FORM_strp_sup, DW_FORM_data16, DW_FORM_line_strp, DW_FORM_ref_sig8, DW_FORM_implicit_const, DW_FORM_loclistx, DW_FORM_rnglistx, DW_FORM_ref_sup8, DW_FORM_strx1, DW_FORM_strx2, DW_FORM_strx3, DW_FORM_strx4, DW_FORM_addrx1, DW_FORM_addrx2, DW_FORM_addrx3, DW_FORM_addrx4, DW_FORM_GNU_ref_alt, DW_FORM_GNU_strp_alt}
 use Rattle.dwarf_forms.specs.declared.layout.Layout.{Layout}
 use Rattle.dwarf_forms.specs.declared.layout.Layout.TheVariants.{Fixed, Leb, Signed, Implicit, Flag, Present, Text, Sixteen, Counted, LebCounted, Elsewhere}
 use Rattle.dwarf_forms.specs.declared.layout.Kind.TheVariants.{Address, Unsigned, Strp, LineStrp, Strx, Index, UnitRef, InfoRef, SecOffset}
@@ -9,50 +10,50 @@ use Rattle.dwarf_forms.specs.declared.layout.Held.TheVariants.{Block, Expr}
 -- for offsets of o bytes and addresses of a bytes
 abbrev pub rows : ℕ → ℕ → List (ℕ × Layout)
 rows o a =
-    (0x01, Fixed a Address)  -- addr
-    ∷ (0x03, Counted 2 Block)  -- block2
-    ∷ (0x04, Counted 4 Block)  -- block4
-    ∷ (0x05, Fixed 2 Unsigned)  -- data2
-    ∷ (0x06, Fixed 4 Unsigned)  -- data4
-    ∷ (0x07, Fixed 8 Unsigned)  -- data8
-    ∷ (0x08, Text)  -- string
-    ∷ (0x09, LebCounted Block)  -- block
-    ∷ (0x0a, Counted 1 Block)  -- block1
-    ∷ (0x0b, Fixed 1 Unsigned)  -- data1
-    ∷ (0x0c, Flag)  -- flag
-    ∷ (0x0d, Signed)  -- sdata
-    ∷ (0x0e, Fixed o Strp)  -- strp
-    ∷ (0x0f, Leb Unsigned)  -- udata
-    ∷ (0x10, Fixed o InfoRef)  -- ref_addr
-    ∷ (0x11, Fixed 1 UnitRef)  -- ref1
-    ∷ (0x12, Fixed 2 UnitRef)  -- ref2
-    ∷ (0x13, Fixed 4 UnitRef)  -- ref4
-    ∷ (0x14, Fixed 8 UnitRef)  -- ref8
-    ∷ (0x15, Leb UnitRef)  -- ref_udata
-    ∷ (0x17, Fixed o SecOffset)  -- sec_offset
-    ∷ (0x18, LebCounted Expr)  -- exprloc
-    ∷ (0x19, Present)  -- flag_present
-    ∷ (0x1a, Leb Strx)  -- strx
-    ∷ (0x1b, Leb Index)  -- addrx
-    ∷ (0x1c, Elsewhere 4)  -- ref_sup4
-    ∷ (0x1d, Elsewhere o)  -- strp_sup
-    ∷ (0x1e, Sixteen)  -- data16
-    ∷ (0x1f, Fixed o LineStrp)  -- line_strp
-    ∷ (0x20, Elsewhere 8)  -- ref_sig8
-    ∷ (0x21, Implicit)  -- implicit_const
-    ∷ (0x22, Leb Index)  -- loclistx
-    ∷ (0x23, Leb Index)  -- rnglistx
-    ∷ (0x24, Elsewhere 8)  -- ref_sup8
-    ∷ (0x25, Fixed 1 Strx)  -- strx1
-    ∷ (0x26, Fixed 2 Strx)  -- strx2
-    ∷ (0x27, Fixed 3 Strx)  -- strx3
-    ∷ (0x28, Fixed 4 Strx)  -- strx4
-    ∷ (0x29, Fixed 1 Index)  -- addrx1
-    ∷ (0x2a, Fixed 2 Index)  -- addrx2
-    ∷ (0x2b, Fixed 3 Index)  -- addrx3
-    ∷ (0x2c, Fixed 4 Index)  -- addrx4
-    ∷ (0x1f20, Elsewhere o)  -- GNU_ref_alt
-    ∷ (0x1f21, Elsewhere o)  -- GNU_strp_alt
+    (DW_FORM_addr, Fixed a Address)
+    ∷ (DW_FORM_block2, Counted 2 Block)
+    ∷ (DW_FORM_block4, Counted 4 Block)
+    ∷ (DW_FORM_data2, Fixed 2 Unsigned)
+    ∷ (DW_FORM_data4, Fixed 4 Unsigned)
+    ∷ (DW_FORM_data8, Fixed 8 Unsigned)
+    ∷ (DW_FORM_string, Text)
+    ∷ (DW_FORM_block, LebCounted Block)
+    ∷ (DW_FORM_block1, Counted 1 Block)
+    ∷ (DW_FORM_data1, Fixed 1 Unsigned)
+    ∷ (DW_FORM_flag, Flag)
+    ∷ (DW_FORM_sdata, Signed)
+    ∷ (DW_FORM_strp, Fixed o Strp)
+    ∷ (DW_FORM_udata, Leb Unsigned)
+    ∷ (DW_FORM_ref_addr, Fixed o InfoRef)
+    ∷ (DW_FORM_ref1, Fixed 1 UnitRef)
+    ∷ (DW_FORM_ref2, Fixed 2 UnitRef)
+    ∷ (DW_FORM_ref4, Fixed 4 UnitRef)
+    ∷ (DW_FORM_ref8, Fixed 8 UnitRef)
+    ∷ (DW_FORM_ref_udata, Leb UnitRef)
+    ∷ (DW_FORM_sec_offset, Fixed o SecOffset)
+    ∷ (DW_FORM_exprloc, LebCounted Expr)
+    ∷ (DW_FORM_flag_present, Present)
+    ∷ (DW_FORM_strx, Leb Strx)
+    ∷ (DW_FORM_addrx, Leb Index)
+    ∷ (DW_FORM_ref_sup4, Elsewhere 4)
+    ∷ (DW_FORM_strp_sup, Elsewhere o)
+    ∷ (DW_FORM_data16, Sixteen)
+    ∷ (DW_FORM_line_strp, Fixed o LineStrp)
+    ∷ (DW_FORM_ref_sig8, Elsewhere 8)
+    ∷ (DW_FORM_implicit_const, Implicit)
+    ∷ (DW_FORM_loclistx, Leb Index)
+    ∷ (DW_FORM_rnglistx, Leb Index)
+    ∷ (DW_FORM_ref_sup8, Elsewhere 8)
+    ∷ (DW_FORM_strx1, Fixed 1 Strx)
+    ∷ (DW_FORM_strx2, Fixed 2 Strx)
+    ∷ (DW_FORM_strx3, Fixed 3 Strx)
+    ∷ (DW_FORM_strx4, Fixed 4 Strx)
+    ∷ (DW_FORM_addrx1, Fixed 1 Index)
+    ∷ (DW_FORM_addrx2, Fixed 2 Index)
+    ∷ (DW_FORM_addrx3, Fixed 3 Index)
+    ∷ (DW_FORM_addrx4, Fixed 4 Index)
+    ∷ (DW_FORM_GNU_ref_alt, Elsewhere o)
+    ∷ (DW_FORM_GNU_strp_alt, Elsewhere o)
     ∷ []
 
 abbrev pub layout_of : ℕ → ℕ → ℕ → Option Layout

@@ -2,5 +2,6 @@ pub mod Forms
 pub mod Law
 pub mod Meanings
 pub mod Refusals
+pub mod Sizes
 pub mod Standard
 pub mod Values

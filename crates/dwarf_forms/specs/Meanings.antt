@@ -5,6 +5,7 @@ use Rattle.dw_base.specs.Numbers.{number_of}
 use Rattle.dw_base.specs.Texts.{text_of}
 use Rattle.dw_base.specs.declared.numbers.Order.{Order}
 use Rattle.dw_base.specs.declared.leb128.LebFault.{LebFault}
+use Rattle.dwarf_abbrev.specs.declared.constants.TheConstants.{DW_OP_plus_uconst}
 use Rattle.dwarf_forms.specs.declared.fault.FormFault.{FormFault}
 use Rattle.dwarf_forms.specs.declared.fault.FormFault.TheVariants.{StringOut, StrxOut, AltForm, WrongClass}
 use Rattle.dwarf_forms.specs.declared.layout.Kind.{Kind}
@@ -108,13 +109,13 @@ plain_target c attribute form other = Err (WrongClass attribute form)
 abbrev pub target_in : Sections → ℕ → Shown → Result ℕ FormFault
 target_in c attribute g = plain_target c attribute g.form g.value
 
--- the operand of an expression that is one plus_uconst (0x23) and no more (DWARF 5, section 2.5.1.4)
+-- the operand of an expression that is one plus_uconst and no more (DWARF 5, section 2.5.1.4)
 abbrev pub whole_to : ℕ → Result (ℕ × ℕ) LebFault → Option ℤ
 whole_to end (Ok x) = if x.1 == end then Some (pos x.0) else None
 whole_to end (Err e) = None
 
 unfoldable pub operand_of : List ℕ → Option ℤ
-operand_of expression = if slice_index expression 0 == 0x23 then whole_to (length expression) (uleb_of expression 1) else None
+operand_of expression = if slice_index expression 0 == DW_OP_plus_uconst then whole_to (length expression) (uleb_of expression 1) else None
 
 abbrev pub bytes_offset : ℕ → ℕ → Held → List ℕ → Result (Option ℤ) FormFault
 bytes_offset attribute form Expr bs = Ok (operand_of bs)

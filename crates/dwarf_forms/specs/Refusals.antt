@@ -5,6 +5,7 @@ use Rattle.std.specs.Prelude.{ℕ, ◌≡◌, ◌+◌, ◌≤◌, ◌<◌, ◌^�
 use Rattle.dw_base.specs.Leb128.{unsigned_of, signed_of, fits_i64}
 use Rattle.dw_base.specs.Numbers.{ordered}
 use Rattle.dw_base.specs.declared.numbers.Order.{Order}
+use Rattle.dwarf_abbrev.specs.declared.constants.TheConstants.{DW_FORM_implicit_const, DW_FORM_indirect}
 use Rattle.dwarf_abbrev.specs.declared.spec.Spec.{Spec}
 use Rattle.dwarf_forms.specs.declared.fault.FormFault.{FormFault}
 use Rattle.dwarf_forms.specs.declared.fault.FormFault.TheVariants.{LebWide, FormUnknown, ValueTruncated}
@@ -68,8 +69,8 @@ NoneOfForm c spec form at f =
 
 -- of a form named in front of its value: the number, or it is that of indirect or implicit_const
 abbrev pub NoneNamed : Within → Spec → ℕ → FormFault → Type 0
-NoneNamed c spec at f = NoNumber c.unit spec.attribute at f ⊎ ((form mid : ℕ) × IsNumber c.unit at form mid × ((form ≡ 0x16) ⊎ (form ≡ 0x21)) × (f ≡ FormUnknown form))
+NoneNamed c spec at f = NoNumber c.unit spec.attribute at f ⊎ ((form mid : ℕ) × IsNumber c.unit at form mid × ((form ≡ DW_FORM_indirect) ⊎ (form ≡ DW_FORM_implicit_const)) × (f ≡ FormUnknown form))
 
 -- of the value of an attribute: after indirect the form, and then a value of the form that is used
 abbrev pub IsRefused : Within → Spec → ℕ → FormFault → Type 0
-IsRefused c spec at f = ((spec.form ≡ 0x16) × NoneNamed c spec at f) ⊎ ((form mid : ℕ) × Uses c spec at form mid × NoneOfForm c spec form mid f)
+IsRefused c spec at f = ((spec.form ≡ DW_FORM_indirect) × NoneNamed c spec at f) ⊎ ((form mid : ℕ) × Uses c spec at form mid × NoneOfForm c spec form mid f)

@@ -3,6 +3,7 @@ use Rattle.std.specs.Prelude.{ℕ, ◌≡◌, ◌≢◌, ◌+◌, ◌≤◌, ◌
 use Rattle.dw_base.specs.Leb128.{unsigned_of, signed_of, fits_i64}
 use Rattle.dw_base.specs.Numbers.{ordered}
 use Rattle.dw_base.specs.declared.numbers.Order.{Order}
+use Rattle.dwarf_abbrev.specs.declared.constants.TheConstants.{DW_FORM_implicit_const, DW_FORM_indirect}
 use Rattle.dwarf_abbrev.specs.declared.spec.Spec.{Spec}
 use Rattle.dwarf_forms.specs.declared.layout.Layout.{Layout}
 use Rattle.dwarf_forms.specs.declared.layout.Layout.TheVariants.{Fixed, Leb, Signed, Implicit, Flag, Present, Text, Sixteen, Counted, LebCounted, Elsewhere}
@@ -54,13 +55,17 @@ pub record IsNamed (c : Within) (at form mid : ℕ) : Type 0 where
   pub leb : IsLeb digits
   pub fits : unsigned_of digits < 2 ^ 64
   pub is : form ≡ unsigned_of digits
-  pub other : form ≢ 0x16
-  pub read : form ≢ 0x21
+  pub other : form ≢ DW_FORM_indirect
+  pub read : form ≢ DW_FORM_implicit_const
 
 -- the form that is used, and the place of its value: the attribute's own one, or where that is indirect the one named there
 abbrev pub Uses : Within → Spec → ℕ → ℕ → ℕ → Type 0
-Uses c spec at form mid = ((spec.form ≢ 0x16) × (form ≡ spec.form) × (mid ≡ at)) ⊎ ((spec.form ≡ 0x16) × IsNamed c at form mid)
+Uses c spec at form mid = ((spec.form ≢ DW_FORM_indirect) × (form ≡ spec.form) × (mid ≡ at)) ⊎ ((spec.form ≡ DW_FORM_indirect) × IsNamed c at form mid)
 
 -- the value of an attribute is one of the form that is used
 abbrev pub IsValue : Within → Spec → ℕ → Shown → ℕ → Type 0
 IsValue c spec at v end = (form mid : ℕ) × Uses c spec at form mid × IsOfForm c spec form mid v end
+
+-- and it stands in the unit: it begins and ends not past the unit's end, one without bytes too
+abbrev pub IsValueIn : Within → Spec → ℕ → Shown → ℕ → Type 0
+IsValueIn c spec at v end = IsValue c spec at v end × (at ≤ length c.unit) × (end ≤ length c.unit)

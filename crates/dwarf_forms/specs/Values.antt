@@ -6,6 +6,7 @@ use Rattle.dw_base.specs.Texts.{text_of}
 use Rattle.dw_base.specs.declared.numbers.Order.{Order}
 use Rattle.dw_base.specs.declared.leb128.LebFault.{LebFault}
 use Rattle.dw_base.specs.declared.leb128.LebFault.TheVariants.{Truncated, TooWide}
+use Rattle.dwarf_abbrev.specs.declared.constants.TheConstants.{DW_FORM_implicit_const, DW_FORM_indirect}
 use Rattle.dwarf_abbrev.specs.declared.spec.Spec.{Spec}
 use Rattle.dwarf_forms.specs.declared.fault.FormFault.{FormFault}
 use Rattle.dwarf_forms.specs.declared.fault.FormFault.TheVariants.{LebWide, FormUnknown, ValueTruncated}
@@ -112,8 +113,8 @@ or_unknown form (Some l) = Ok l
 -- the form that is used, and the place of its value: an indirect form is named by the number that stands first
 unfoldable pub form_at : List ℕ → ℕ → Spec → Result (ℕ × ℕ) FormFault
 form_at unit at spec =
-    if spec.form == 0x16
-    then (uleb_at unit at spec.attribute >>= λ (f : ℕ × ℕ). if f.0 == 0x16 || f.0 == 0x21 then Err (FormUnknown f.0) else Ok f)
+    if spec.form == DW_FORM_indirect
+    then (uleb_at unit at spec.attribute >>= λ (f : ℕ × ℕ). if f.0 == DW_FORM_indirect || f.0 == DW_FORM_implicit_const then Err (FormUnknown f.0) else Ok f)
     else Ok (spec.form, at)
 
 -- a form and its value

@@ -1,5 +1,6 @@
 //! What reading a value means, in the standard's own words.
-ghost use Rattle.dwarf_forms.specs.Law.{ValuesAreRead, RefusalsAreFirst};
+ghost use Rattle.dwarf_forms.specs.Law.{ValuesAreRead, ValuesStandInUnits, RefusalsAreFirst};
+ghost use Rattle.dwarf_forms.specs.Sizes.{WidthsAreOfLayouts};
 
 /// A value is read exactly where one stands, and then it is that one and ends where that one does.
 pub fn values_are_read()
@@ -9,4 +10,14 @@ pub fn values_are_read()
 /// A value is refused exactly for the first piece of it, in the order of the bytes, that can't be read.
 pub fn refusals_are_first()
     ensures { RefusalsAreFirst }
+{}
+
+/// At a place that is not past the unit's end a value is read exactly where one stands that ends not past it either.
+pub fn values_stand_in_units()
+    ensures { ValuesStandInUnits }
+{}
+
+/// The widths of the table of forms of abbreviations are those of the layouts here, form by form.
+pub fn widths_are_of_layouts()
+    ensures { WidthsAreOfLayouts }
 {}

@@ -6,9 +6,7 @@ ghost use Rattle.dwarf_forms.specs.Meanings.{sections, string_at, indexed_at, na
 use crate::fault::FormFault;
 use crate::given::{FormCtx, FormValue, Given};
 use dw_base::{Name, number, text_at, uleb};
-
-/// DW_OP_plus_uconst, which adds its operand.
-const PLUS_UCONST: u8 = 0x23;
+use dwarf_abbrev::constants::DW_OP_plus_uconst;
 
 /// The text at an offset of a section of strings.
 fn string<'a>(section: &'a [u8], offset: u64) -> Result<Name<'a>, FormFault>
@@ -100,7 +98,7 @@ fn operand(expression: &[u8]) -> Option<i128>
     ensures value { result ≡ operand_of expression.now }
     ensures small { IfSome result Fits64 }
 {
-    if expression.is_empty() || expression[0] != PLUS_UCONST {
+    if expression.is_empty() || expression[0] != DW_OP_plus_uconst {
         return None;
     }
     match uleb(expression, 1) {

@@ -8,11 +8,7 @@ use crate::given::{FormCtx, FormValue, Given};
 use crate::layout::{Held, Kind, Layout, form_layout};
 use dw_base::{LebFault, Name, Order, number, sleb, text_at as name_at, uleb};
 use dwarf_abbrev::Spec;
-
-/// DW_FORM_indirect, which names another form in front of its value.
-const INDIRECT: u64 = 0x16;
-/// DW_FORM_implicit_const, whose value stands in the abbreviation.
-const IMPLICIT_CONST: u64 = 0x21;
+use dwarf_abbrev::constants::{DW_FORM_implicit_const, DW_FORM_indirect};
 
 #[tactic(auto, unfolding(crate::specs::Values::fixed_at))]
 #[inline(always)]
@@ -183,11 +179,11 @@ fn read<'a>(
 fn used_form(bytes: &[u8], at: u64, spec: &Spec) -> Result<(u64, u64), FormFault>
     ensures { result ≡ form_at bytes.now at spec.now }
 {
-    if spec.form != INDIRECT {
+    if spec.form != DW_FORM_indirect {
         return Ok((spec.form, at));
     }
     let (form, after) = unsigned(bytes, at, spec.attribute)?;
-    if form == INDIRECT || form == IMPLICIT_CONST {
+    if form == DW_FORM_indirect || form == DW_FORM_implicit_const {
         return Err(FormFault::FormUnknown(form));
     }
     Ok((form, after))

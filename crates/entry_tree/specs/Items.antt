@@ -3,6 +3,7 @@ use Rattle.std.specs.Prelude.{ℕ, zero, suc, ◌+◌, ◌-◌, Bool, not, List,
 use Rattle.dw_base.specs.Leb128.{uleb_of}
 use Rattle.dw_base.specs.declared.leb128.LebFault.{LebFault}
 use Rattle.dw_base.specs.declared.leb128.LebFault.TheVariants.{Truncated, TooWide}
+use Rattle.dwarf_abbrev.specs.declared.constants.TheConstants.{DW_TAG_compile_unit, DW_TAG_partial_unit}
 use Rattle.dwarf_abbrev.specs.Declarations.{Declaration, declaration_with}
 use Rattle.dwarf_abbrev.specs.Rows.{shown}
 use Rattle.dwarf_forms.specs.declared.fault.FormFault.{FormFault}
@@ -51,7 +52,7 @@ of_form at (Ok x) = Ok x
 of_form at (Err e) = Err (Form at e)
 
 abbrev pub is_root : ℕ → Bool
-is_root tag = tag == 0x11 || tag == 0x3c
+is_root tag = tag == DW_TAG_compile_unit || tag == DW_TAG_partial_unit
 
 -- the item at a place, with so many lists open
 unfoldable pub item_at : Within → List Declaration → ℕ → ℕ → ℕ → Result Standing WalkFault

@@ -1,5 +1,6 @@
 -- The root of a unit: its first entry, which is a compilation unit or a partial unit.
 use Rattle.std.specs.Prelude.{ℕ, ◌==◌, ℤ, List, Option, None, Some, Result, Ok, Err, if◌then◌else◌}
+use Rattle.dwarf_abbrev.specs.declared.constants.TheConstants.{DW_AT_language, DW_AT_str_offsets_base}
 use Rattle.dwarf_abbrev.specs.Declarations.{Declaration}
 use Rattle.dwarf_forms.specs.Values.{Plain, Shown, Within}
 use Rattle.dwarf_forms.specs.Values.Plain.{number}
@@ -22,18 +23,18 @@ as_some (Err e) = Err e
 -- the language of a unit, where its root gives one: a constant
 abbrev pub language_in : Option Shown → Result (Option ℤ) FormFault
 language_in None = Ok None
-language_in (Some g) = as_some (constant_in 0x13 g)
+language_in (Some g) = as_some (constant_in DW_AT_language g)
 
 -- where the unit's indices into .debug_str_offsets count from: an offset of a section or a constant; without one they count from
 -- behind the section's header (DWARF 5, section 7.26), which has 8 bytes, and 16 where offsets have 8
 abbrev pub number_base : ℕ → Kind → ℕ → Result ℕ FormFault
 number_base form SecOffset n = Ok n
 number_base form Unsigned n = Ok n
-number_base form other n = Err (WrongClass 0x72 form)
+number_base form other n = Err (WrongClass DW_AT_str_offsets_base form)
 
 abbrev pub plain_base : ℕ → Plain → Result ℕ FormFault
 plain_base form (number kind n) = number_base form kind n
-plain_base form other = Err (WrongClass 0x72 form)
+plain_base form other = Err (WrongClass DW_AT_str_offsets_base form)
 
 abbrev pub base_in : ℕ → Option Shown → Result ℕ FormFault
 base_in offset_bytes None = Ok (if offset_bytes == 4 then 8 else 16)
@@ -52,6 +53,6 @@ first_given c declarations first = item_at c declarations first first 0 >>= firs
 unfoldable pub root_of : Within → List Declaration → ℕ → Result RootInfo WalkFault
 root_of c declarations first =
     first_given c declarations first >>= λ (g : Given).
-    of_form first (language_in (value_with 0x13 g.values)) >>= λ (language : Option ℤ).
-    of_form first (base_in c.offset_bytes (value_with 0x72 g.values)) >>= λ (base : ℕ).
+    of_form first (language_in (value_with DW_AT_language g.values)) >>= λ (language : Option ℤ).
+    of_form first (base_in c.offset_bytes (value_with DW_AT_str_offsets_base g.values)) >>= λ (base : ℕ).
     Ok (record { tag = g.tag; language = language; str_base = base })

@@ -3,6 +3,7 @@ use Rattle.std.specs.Prelude.{ℕ, zero, suc, ◌≡◌, ◌+◌, ◌<◌, ◌�
 use Rattle.std.specs.Option.{unwrap_or}
 use Rattle.dw_base.specs.Numbers.{number_of}
 use Rattle.dw_base.specs.declared.numbers.Order.{Order}
+use Rattle.dwarf_abbrev.specs.declared.constants.TheConstants.{DW_UT_compile, DW_UT_partial}
 use Rattle.dwarf_forms.specs.Forms.{HasWidth}
 use Rattle.entry_tree.specs.declared.unit.Unit.{Unit}
 use Rattle.entry_tree.specs.declared.unit.UnitFault.{UnitFault}
@@ -50,9 +51,9 @@ fields_of at version after offset_bytes = if version == 5 then Ok (fields_of_5 a
 abbrev pub offset_in : List ℕ → Order → ℕ → ℕ → ℕ
 offset_in unit order at width = unwrap_or (number_of unit at width order) 0
 
--- DW_UT_compile and DW_UT_partial
+-- compilation units and partial units
 abbrev pub check_type : ℕ → ℕ → Result ℕ UnitFault
-check_type at unit_type = if unit_type == 1 || unit_type == 3 then Ok unit_type else Err (UnitType at unit_type)
+check_type at unit_type = if unit_type == DW_UT_compile || unit_type == DW_UT_partial then Ok unit_type else Err (UnitType at unit_type)
 
 abbrev pub check_address : ℕ → ℕ → Result ℕ UnitFault
 check_address at size = if size == 4 || size == 8 then Ok size else Err (AddressSize at size)

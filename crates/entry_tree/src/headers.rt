@@ -11,13 +11,10 @@ ghost use Rattle.dwarf_forms.specs.Forms.{HasWidth};
 
 use crate::unit::{Unit, UnitFault, UnitList};
 use dw_base::{Order, number};
+use dwarf_abbrev::constants::{DW_UT_compile, DW_UT_partial};
 use elf_sections::{Image, Kind};
 use std::alloc::Global;
 
-/// DW_UT_compile and DW_UT_partial.
-const COMPILE: u8 = 1;
-
-const PARTIAL: u8 = 3;
 /// The escape to lengths of 8 bytes, and the first reserved length.
 const LONG: u64 = 0xffff_ffff;
 
@@ -136,7 +133,7 @@ fn read_fields(at: u64, version: u16, after: u64, offset_bytes: u32) -> Result<F
 fn check_unit_type(at: u64, unit_type: u8) -> Result<u8, UnitFault>
     ensures { result ≡ check_type at unit_type }
 {
-    if unit_type == COMPILE || unit_type == PARTIAL {
+    if unit_type == DW_UT_compile || unit_type == DW_UT_partial {
         Ok(unit_type)
     } else {
         Err(UnitFault::UnitType(at, unit_type))

@@ -2,6 +2,7 @@
 ghost use Rattle.entry_tree.specs.Tree.{EntriesAreTree};
 ghost use Rattle.entry_tree.specs.Refusals.{FaultsAreFirst};
 ghost use Rattle.entry_tree.specs.Rising.{EntriesRise};
+ghost use Rattle.entry_tree.specs.Firsts.{HasByAbbreviation};
 
 /// A walk gives just the entries of the tree that the items of a unit are, with their depths by counting.
 pub fn entries_are_tree()
@@ -18,4 +19,9 @@ pub fn faults_are_first()
 /// and before its end.
 pub fn entries_rise()
     ensures { EntriesRise }
+{}
+
+/// An entry whose values can be read has a value of an attribute exactly where its abbreviation has the attribute.
+pub fn attributes_are_abbreviations()
+    ensures { HasByAbbreviation }
 {}

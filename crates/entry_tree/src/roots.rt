@@ -12,13 +12,9 @@ use crate::fault::WalkFault;
 use crate::unit::Unit;
 use crate::walk::first_entry;
 use dwarf_abbrev::Abbrevs;
+use dwarf_abbrev::constants::{DW_AT_language, DW_AT_str_offsets_base};
 use dwarf_forms::{FormFault, FormValue, Given, constant_of};
 use elf_sections::Image;
-
-/// DW_AT_language and DW_AT_str_offsets_base.
-const LANGUAGE: u64 = 0x13;
-
-const STR_OFFSETS_BASE: u64 = 0x72;
 
 /// What the root of a unit says of the whole unit.
 #[derive(Clone, Copy, Debug, PartialEq, Eq)]
@@ -39,7 +35,7 @@ fn read_language(given: Option<Given<'_>>) -> Result<Option<i128>, FormFault>
     let Some(given) = given else {
         return Ok(None);
     };
-    match constant_of(LANGUAGE, &given) {
+    match constant_of(DW_AT_language, &given) {
         Ok(language) => Ok(Some(language)),
         Err(fault) => Err(fault),
     }
@@ -55,7 +51,7 @@ fn read_base(offset_bytes: u32, given: Option<Given<'_>>) -> Result<u64, FormFau
     match &given.value {
         FormValue::SecOffset(offset) => Ok(*offset),
         FormValue::Unsigned(offset) => Ok(*offset),
-        _ => Err(FormFault::WrongClass(STR_OFFSETS_BASE, given.form)),
+        _ => Err(FormFault::WrongClass(DW_AT_str_offsets_base, given.form)),
     }
 }
 
@@ -72,8 +68,8 @@ pub fn root(image: &Image<'_>, unit: &Unit, abbrevs: &Abbrevs) -> Result<RootInf
 {
     let ctx = context(image, unit, 0);
     let entry = first_entry(&ctx, abbrevs, unit.first)?;
-    let language = at_root(unit, read_language(entry.attr(LANGUAGE)?))?;
-    let base = read_base(unit.offset_bytes, entry.attr(STR_OFFSETS_BASE)?);
+    let language = at_root(unit, read_language(entry.attr(DW_AT_language)?))?;
+    let base = read_base(unit.offset_bytes, entry.attr(DW_AT_str_offsets_base)?);
     let str_base = at_root(unit, base)?;
     Ok(RootInfo {
         tag: entry.tag,

@@ -1,6 +1,7 @@
 //! What workers share or give back may be shared and sent.
 use crate::entry::Entry;
 use crate::fault::WalkFault;
+use crate::firsts::Wanted;
 use crate::roots::RootInfo;
 use crate::unit::{Unit, UnitFault, UnitList};
 use crate::walk::Walk;
@@ -13,6 +14,7 @@ fn all_cross<'w, 'a>() {
     crosses::<UnitFault>();
     crosses::<RootInfo>();
     crosses::<WalkFault>();
+    crosses::<Wanted<'a>>();
     crosses::<Entry<'w, 'a>>();
     crosses::<Walk<'w, 'a>>();
 }

@@ -522,3 +522,148 @@ fn the_values_of_a_real_unit(rt: HostRuntime) -> Result<(), Fail> {
     }
     Ok(())
 }
+
+/// A root; strp, addr, data2, flag_present and implicit_const; two attributes of one name, without bytes.
+const SIZED_ABBREV: &[u8] =
+    b"\x01\x11\x01\x13\x0b\0\0\x02\x34\0\x03\x0e\x02\x01\x0b\x05\x3c\x19\x1c\x21\x7e\0\0\x03\x34\0\x0b\x21\x05\x0b\x21\x06\0\0\0";
+
+/// A unit with offsets and addresses of these bytes, of whose entries so many bytes are kept.
+fn sized_unit(
+    alloc: Global,
+    offset_bytes: u32,
+    address_bytes: u32,
+    kept: usize,
+) -> Result<Vec<u8>, AllocError> {
+    let mut body = Vec::new(alloc);
+    body.extend_from_slice(&[1, 29])?;
+    for _ in 0..2 {
+        body.push(2)?;
+        put(&mut body, 0, 2)?;
+        put(&mut body, 0, offset_bytes)?;
+        put(&mut body, 0, address_bytes)?;
+    }
+    body.extend_from_slice(&[3, 0])?;
+    let end = kept.min(body.len());
+    let mut info = Vec::new(alloc);
+    if offset_bytes == 8 {
+        put(&mut info, 0xffff_ffff, 4)?;
+    }
+    let size = (end as u64)
+        .wrapping_add(4)
+        .wrapping_add(u64::from(offset_bytes));
+    put(&mut info, size, offset_bytes)?;
+    put(&mut info, 5, 2)?;
+    put(&mut info, 1, 1)?;
+    put(&mut info, u64::from(address_bytes), 1)?;
+    put(&mut info, 0, offset_bytes)?;
+    info.extend_from_slice(&body[..end])?;
+    Ok(info)
+}
+
+/// Entries of fixed size, with offsets and addresses of 4 and 8 bytes; and one that is cut in each of its values.
+#[test]
+fn entries_of_fixed_size(rt: HostRuntime) -> Result<(), Fail> {
+    let alloc = rt.alloc();
+    for (offset_bytes, address_bytes, places) in [
+        (4, 4, [12, 14, 25, 36]),
+        (4, 8, [12, 14, 29, 44]),
+        (8, 4, [24, 26, 41, 56]),
+        (8, 8, [24, 26, 45, 64]),
+    ] {
+        let info = sized_unit(alloc, offset_bytes, address_bytes, 1000)?;
+        let file = file_of(alloc, &info, SIZED_ABBREV, &[], &[])?;
+        match walked(alloc, &file) {
+            Ok(entries) => assert_eq!(rt;
+                entries.as_slice(),
+                [
+                    (places[0], 0, 0x11),
+                    (places[1], 1, 0x34),
+                    (places[2], 1, 0x34),
+                    (places[3], 1, 0x34),
+                ]
+                .as_slice()
+            ),
+            Err(fault) => assert!(rt; false, "{fault:?}"),
+        }
+    }
+    for (kept, want) in [
+        (18, WalkFault::Form(29, FormFault::ValueTruncated(3))),
+        (21, WalkFault::Form(29, FormFault::ValueTruncated(3))),
+        (22, WalkFault::Form(29, FormFault::ValueTruncated(2))),
+        (29, WalkFault::Form(29, FormFault::ValueTruncated(2))),
+        (31, WalkFault::Form(29, FormFault::ValueTruncated(0x0b))),
+        (32, WalkFault::TreeOpen(44)),
+        (33, WalkFault::TreeOpen(45)),
+    ] {
+        let info = sized_unit(alloc, 4, 8, kept)?;
+        let file = file_of(alloc, &info, SIZED_ABBREV, &[], &[])?;
+        match walked(alloc, &file) {
+            Ok(_) => assert!(rt; false, "{kept} bytes"),
+            Err(found) => assert_eq!(rt; found, Outcome::Tree(want)),
+        }
+    }
+    Ok(())
+}
+
+/// What an entry has: whether a name and a size, its size, and its value.
+type Held = (bool, bool, String, String);
+
+fn held(alloc: Global, image: &Image<'_>, unit: &Unit, index: u64) -> Result<Held, Fail>
+    requires { IsUnitOf (bytes_of image.now) unit.now }
+{
+    let none = || Ok((false, false, format!(in alloc; "")?, format!(in alloc; "")?));
+    let Ok(abbrevs) = Abbrevs::read(alloc, SIZED_ABBREV, unit.abbrev_at) else {
+        return none();
+    };
+    let Ok(first) = root(image, unit, &abbrevs) else {
+        return none();
+    };
+    if unit.end.saturating_sub(unit.at) >= 1 << 32 {
+        return none();
+    }
+    let mut walk = Walk::new(image, unit, &abbrevs, &first);
+    for _ in 0..index {
+        if walk.next().is_err() {
+            return none();
+        }
+    }
+    let Ok(Some(entry)) = walk.next() else {
+        return none();
+    };
+    let Ok(wanted) = entry.wanted() else {
+        return none();
+    };
+    let size = format!(in alloc; "{:?}", wanted.byte_size)?;
+    let value = format!(in alloc; "{:?}", wanted.const_value)?;
+    Ok((entry.has(3), entry.has(0x0b), size, value))
+}
+
+/// The first of two attributes of one name counts; a value can stand in the abbreviation.
+#[test]
+fn wanted_attributes(rt: HostRuntime) -> Result<(), Fail> {
+    let alloc = rt.alloc();
+    let info = sized_unit(alloc, 4, 8, 1000)?;
+    let file = file_of(alloc, &info, SIZED_ABBREV, &[], &[])?;
+    let Ok(image) = Image::read(&file) else {
+        return Ok(assert!(rt; false));
+    };
+    let Ok(list) = units(alloc, &image) else {
+        return Ok(assert!(rt; false));
+    };
+    let Some(unit) = list.items().first() else {
+        return Ok(assert!(rt; false, "no unit"));
+    };
+    let zero = "Some(Given { form: 5, value: Unsigned(0) })";
+    let minus = "Some(Given { form: 33, value: Signed(-2) })";
+    let five = "Some(Given { form: 33, value: Signed(5) })";
+    for (index, name, size, first, value) in [
+        (0, false, false, "None", "None"),
+        (1, true, true, zero, minus),
+        (3, false, true, five, "None"),
+    ] {
+        let found = held(alloc, &image, unit, index)?;
+        assert_eq!(rt; (found.0, found.1), (name, size));
+        assert_eq!(rt; (found.2.as_str(), found.3.as_str()), (first, value));
+    }
+    Ok(())
+}

@@ -7,7 +7,7 @@ use Rattle.dw_base.proofs.Collecting.{goes_on, ends, fails, is_cut_off}
 use Rattle.dwarf_abbrev.specs.Rows.{declarations_of, declaration_of, Places}
 use Rattle.dwarf_abbrev.specs.Declarations.{Declaration, place_of}
 use Rattle.dwarf_abbrev.specs.Table.{declaration_at, table_at, ◌>>=◌}
-use Rattle.dwarf_abbrev.specs.declared.abbrevs.Row.{Row}
+use Rattle.dwarf_abbrev.specs.declared.row.Row.{Row}
 use Rattle.dwarf_abbrev.specs.declared.fault.AbbrevFault.{AbbrevFault}
 use Rattle.dwarf_abbrev.specs.declared.fault.AbbrevFault.TheVariants.{AbbrevTruncated}
 use Rattle.dwarf_abbrev.proofs.Placing.{one_more, declarations_length}

@@ -1,7 +1,7 @@
 use Rattle.std.proofs.Common.{◌≡◌, ◌<◌, length, List, [], false, Some, None, sym, ap, ◌∙◌, arith}
 use Rattle.dwarf_abbrev.specs.Rows.{declarations_of, declaration_of}
 use Rattle.dwarf_abbrev.specs.Declarations.{Declaration, place_of, declaration_with}
-use Rattle.dwarf_abbrev.specs.declared.abbrevs.Row.{Row}
+use Rattle.dwarf_abbrev.specs.declared.row.Row.{Row}
 use Rattle.dwarf_abbrev.specs.declared.spec.Spec.{Spec}
 use Rattle.dwarf_abbrev.proofs.Placing.{declaration_there, no_declaration, declarations_length, declaration_of_row}
 use Rattle.dwarf_abbrev.proofs.abbrevs.Abbrevs.get.Goals as goal

@@ -1,0 +1,126 @@
+//! How many bytes the values of an abbreviation have, where that is known without the values.
+ghost use Rattle.std.specs.Prelude.{◌≡◌, ◌+◌, ℕ, Some, IfSome};
+ghost use Rattle.dwarf_abbrev.specs.Sizes.{width_of, bytes_of, width_in, total, IsSize};
+
+use crate::constants::{
+    DW_FORM_GNU_ref_alt, DW_FORM_GNU_strp_alt, DW_FORM_addr, DW_FORM_addrx1, DW_FORM_addrx2,
+    DW_FORM_addrx3, DW_FORM_addrx4, DW_FORM_data1, DW_FORM_data2, DW_FORM_data4, DW_FORM_data8,
+    DW_FORM_data16, DW_FORM_flag, DW_FORM_flag_present, DW_FORM_implicit_const, DW_FORM_line_strp,
+    DW_FORM_ref_addr, DW_FORM_ref_sig8, DW_FORM_ref_sup4, DW_FORM_ref_sup8, DW_FORM_ref1,
+    DW_FORM_ref2, DW_FORM_ref4, DW_FORM_ref8, DW_FORM_sec_offset, DW_FORM_strp, DW_FORM_strp_sup,
+    DW_FORM_strx1, DW_FORM_strx2, DW_FORM_strx3, DW_FORM_strx4,
+};
+use crate::spec::Spec;
+
+/// How many bytes the value of a form has.
+#[derive(Clone, Copy, Debug, PartialEq, Eq)]
+pub enum Width {
+    /// So many bytes.
+    Bytes(u32),
+    /// The bytes of an offset of the unit.
+    Offset,
+    /// The bytes of an address of the unit.
+    Address,
+}
+
+/// So many bytes, offsets and addresses.
+#[derive(Clone, Copy, Debug, PartialEq, Eq)]
+pub struct Size {
+    /// How many bytes, besides those of offsets and addresses.
+    pub bytes: u32,
+    /// How many offsets.
+    pub offsets: u32,
+    /// How many addresses.
+    pub addresses: u32,
+}
+
+/// The width of a form (DWARF 5, section 7.5.6, table 7.6). `None` where it is not fixed, and where the table has no
+/// row for the form.
+pub fn form_width(form: u64) -> Option<Width>
+    ensures row { result ≡ width_of form }
+    ensures bytes { (o a : ℕ) → IfSome result (λ w. bytes_of o a form ≡ Some (width_in o a w)) }
+{
+    match form {
+        DW_FORM_addr => Some(Width::Address),
+        DW_FORM_data2 => Some(Width::Bytes(2)),
+        DW_FORM_data4 => Some(Width::Bytes(4)),
+        DW_FORM_data8 => Some(Width::Bytes(8)),
+        DW_FORM_data1 => Some(Width::Bytes(1)),
+        DW_FORM_flag => Some(Width::Bytes(1)),
+        DW_FORM_strp => Some(Width::Offset),
+        DW_FORM_ref_addr => Some(Width::Offset),
+        DW_FORM_ref1 => Some(Width::Bytes(1)),
+        DW_FORM_ref2 => Some(Width::Bytes(2)),
+        DW_FORM_ref4 => Some(Width::Bytes(4)),
+        DW_FORM_ref8 => Some(Width::Bytes(8)),
+        DW_FORM_sec_offset => Some(Width::Offset),
+        DW_FORM_flag_present => Some(Width::Bytes(0)),
+        DW_FORM_ref_sup4 => Some(Width::Bytes(4)),
+        DW_FORM_strp_sup => Some(Width::Offset),
+        DW_FORM_data16 => Some(Width::Bytes(16)),
+        DW_FORM_line_strp => Some(Width::Offset),
+        DW_FORM_ref_sig8 => Some(Width::Bytes(8)),
+        DW_FORM_implicit_const => Some(Width::Bytes(0)),
+        DW_FORM_ref_sup8 => Some(Width::Bytes(8)),
+        DW_FORM_strx1 => Some(Width::Bytes(1)),
+        DW_FORM_strx2 => Some(Width::Bytes(2)),
+        DW_FORM_strx3 => Some(Width::Bytes(3)),
+        DW_FORM_strx4 => Some(Width::Bytes(4)),
+        DW_FORM_addrx1 => Some(Width::Bytes(1)),
+        DW_FORM_addrx2 => Some(Width::Bytes(2)),
+        DW_FORM_addrx3 => Some(Width::Bytes(3)),
+        DW_FORM_addrx4 => Some(Width::Bytes(4)),
+        DW_FORM_GNU_ref_alt => Some(Width::Offset),
+        DW_FORM_GNU_strp_alt => Some(Width::Offset),
+        _ => None,
+    }
+}
+
+/// One form more. `None` where a sum passes 32 bits.
+fn with_width(size: Size, width: Width) -> Option<Size>
+    ensures { (o a : ℕ) → IfSome result (λ z. total o a z ≡ total o a size + width_in o a width) }
+{
+    match width {
+        Width::Bytes(n) => {
+            let bytes = size.bytes.checked_add(n)?;
+            Some(Size {
+                bytes,
+                offsets: size.offsets,
+                addresses: size.addresses,
+            })
+        }
+        Width::Offset => {
+            let offsets = size.offsets.checked_add(1)?;
+            Some(Size {
+                bytes: size.bytes,
+                offsets,
+                addresses: size.addresses,
+            })
+        }
+        Width::Address => {
+            let addresses = size.addresses.checked_add(1)?;
+            Some(Size {
+                bytes: size.bytes,
+                offsets: size.offsets,
+                addresses,
+            })
+        }
+    }
+}
+
+/// The bytes of the values of some pairs, where they are known without the values. `None` where a form has no fixed
+/// width, and where a sum passes 32 bits.
+pub(crate) fn fixed_size(specs: &[Spec]) -> Option<Size>
+    ensures { IfSome result (IsSize specs.now) }
+{
+    let mut size = Size {
+        bytes: 0,
+        offsets: 0,
+        addresses: 0,
+    };
+    for spec in specs {
+        let width = form_width(spec.form)?;
+        size = with_width(size, width)?;
+    }
+    Some(size)
+}
