@@ -126,12 +126,12 @@ pub fn classes<'a, R: Threads + Sync, G: TypeGraph<'a>, L: Ledger>(
     ensures cost { let g = G.shape graph.now in IfOk result (λ r. steps.new ≤ steps.old + (length g.nodes + references g.nodes) * (r.number + 1)) }
     ensures bound { let g = G.shape graph.now in OnErr result (steps.new ≤ steps.old + (length g.nodes + references g.nodes) * (length g.nodes + 1)) }
 {
-    let _nodes = graph.len();
+    let most = graph.len();
     let Guess {
         first,
         classes,
         is_settled,
-    } = guess_classes(alloc, graph, fwd)?;
+    } = guess_classes(alloc, graph, fwd, most)?;
     if is_settled {
         return Ok(Refined { classes, number: 0 });
     }
