@@ -1,22 +1,22 @@
 //! Rounds, until nothing is split any more.
-ghost use Rattle.std.specs.Prelude.{◌≡◌, ◌<◌, ◌≤◌, ◌+◌, ◌*◌, length, nat_eq, IfOk};
+ghost use Rattle.std.specs.Prelude.{◌≡◌, ◌<◌, ℕ, List, ◌≤◌, ◌+◌, ◌*◌, length, nat_eq, IfOk, OnErr};
 ghost use Rattle.std.specs.Set.{distinct_count};
 ghost use Rattle.c_model.specs.Forwards.{IsIndexOf, HasFittingForwards, IsCoarsestWith, KeepsForwards};
+ghost use Rattle.c_model.specs.Graph.{references};
 ghost use Rattle.c_model.specs.Numberings.{IsNumbering};
+ghost use Rattle.type_signature.specs.Placing.{IsAbove};
 ghost use Rattle.type_signature.specs.Signatures.{signature_at};
-ghost use Rattle.class_refine.specs.Costs.{references};
 
-use crate::guess::{guessed, paired};
 use crate::keys::keys_between;
-use crate::placing::partition;
-use crate::settled::is_settled;
-use c_model::{Classes, Graph};
+use c_model::{Classes, Graph, TypeGraph};
 use dw_base::Steps;
 use forward_rule::FwdIndex;
+use packed_graph::unpack::unpacked;
 use std::alloc::{AllocError, Global};
 use std::sync::ledger::Ledger;
 use std::thread::Threads;
-use type_signature::{Numbered, Numbering, numbered_labels};
+use type_signature::placing::partition;
+use type_signature::{Guess, Numbered, Numbering, guess_classes};
 
 /// How many keys are made before they are numbered.
 const PART: u32 = 65_536;
@@ -50,7 +50,7 @@ fn round<R: Threads + Sync, L: Ledger>(
     requires covers { length now.now ≡ length graph.now.nodes }
     ensures numbers { IfOk result (λ r. IsNumbering (signature_at graph.now.nodes fwd.now now.now) (length graph.now.nodes) r.numbers.items) }
     ensures count { IfOk result (λ r. distinct_count nat_eq r.numbers.items ≡ r.count) }
-    ensures cost { IfOk result (λ r. steps.new ≤ steps.old + (length graph.now.nodes + references graph.now.nodes)) }
+    ensures cost { steps.new ≤ steps.old + (length graph.now.nodes + references graph.now.nodes) }
 {
     let mut numbering = Numbering::new(alloc)?;
     let mut numbers = Vec::with_capacity(alloc, graph.len() as usize)?;
@@ -68,37 +68,28 @@ fn round<R: Threads + Sync, L: Ledger>(
     Ok(Numbered { numbers, count })
 }
 
-/// The coarsest agreeing partition of a graph: each pair of one class has a licence, and every partition
-/// of which that is true relates only pairs that it relates. Rounds begin at the labels and split the
-/// classes by the classes of their targets, until a round splits nothing; where the guess is right there is none. The counter rises by the numbers
-/// of all keys that are numbered.
-pub fn classes<R: Threads + Sync, L: Ledger>(
+/// Rounds from a partition on that no agreeing one is coarser than, until a round splits nothing.
+fn rounds_from<R: Threads + Sync, L: Ledger>(
     rt: &R,
     alloc: Global,
     graph: &Graph<'_>,
     fwd: &FwdIndex,
+    first: u32,
+    classes: Classes,
     steps: &mut Steps<L>,
 ) -> Result<Refined, AllocError>
     requires index { IsIndexOf graph.now fwd.now }
     requires fitting { HasFittingForwards graph.now }
+    requires above { (raw : List ℕ) × IsAbove graph.now fwd.now raw classes × (distinct_count nat_eq raw ≡ first) }
     ensures coarsest { IfOk result (λ r. IsCoarsestWith graph.now fwd.now r.classes) }
     ensures forwards { IfOk result (λ r. KeepsForwards graph.now fwd.now r.classes) }
     ensures rounds { IfOk result (λ r. r.number ≤ distinct_count nat_eq r.classes) }
     ensures cost { IfOk result (λ r. steps.new ≤ steps.old + (length graph.now.nodes + references graph.now.nodes) * (r.number + 1)) }
+    ensures bound { OnErr result (steps.new ≤ steps.old + (length graph.now.nodes + references graph.now.nodes) * (length graph.now.nodes + 1)) }
 {
     let _nodes = graph.len();
-    let start = numbered_labels(alloc, graph, fwd)?;
-    let labelled = partition(alloc, graph, fwd, &start.numbers)?;
-    let guess = guessed(alloc, graph, fwd, &start.numbers, labelled)?;
-    let first = paired(alloc, &start.numbers, &guess)?;
-    let mut count = first.count;
-    let mut now = partition(alloc, graph, fwd, &first.numbers)?;
-    if is_settled(alloc, graph, fwd, &first.numbers, &now)? {
-        return Ok(Refined {
-            classes: now,
-            number: 0,
-        });
-    }
+    let mut count = first;
+    let mut now = classes;
     let mut number = 0;
     loop {
         let next = round(rt, alloc, graph, fwd, &now, steps)?;
@@ -112,4 +103,39 @@ pub fn classes<R: Threads + Sync, L: Ledger>(
         now = partition(alloc, graph, fwd, &next.numbers)?;
         number += 1;
     }
+}
+
+/// The coarsest agreeing partition of a graph: each pair of one class has a licence, and every partition
+/// of which that is true relates only pairs that it relates. A guess by hashes is compared first; where it
+/// is right there are no rounds. Else rounds split its classes by the classes of their targets, until a
+/// round splits nothing. Keys are made by as many workers as there are processors, and numbered in node
+/// order; the counter rises by the numbers of all keys that are numbered. After want of memory it has risen
+/// by no more than as many rounds as there are nodes would make it.
+pub fn classes<'a, R: Threads + Sync, G: TypeGraph<'a>, L: Ledger>(
+    rt: &R,
+    alloc: Global,
+    graph: &G,
+    fwd: &FwdIndex,
+    steps: &mut Steps<L>,
+) -> Result<Refined, AllocError>
+    requires index { IsIndexOf (G.shape graph.now) fwd.now }
+    requires fitting { HasFittingForwards (G.shape graph.now) }
+    ensures coarsest { IfOk result (λ r. IsCoarsestWith (G.shape graph.now) fwd.now r.classes) }
+    ensures forwards { IfOk result (λ r. KeepsForwards (G.shape graph.now) fwd.now r.classes) }
+    ensures rounds { IfOk result (λ r. r.number ≤ distinct_count nat_eq r.classes) }
+    ensures cost { let g = G.shape graph.now in IfOk result (λ r. steps.new ≤ steps.old + (length g.nodes + references g.nodes) * (r.number + 1)) }
+    ensures bound { let g = G.shape graph.now in OnErr result (steps.new ≤ steps.old + (length g.nodes + references g.nodes) * (length g.nodes + 1)) }
+{
+    let most = graph.len();
+    let Guess {
+        first,
+        classes,
+        is_settled,
+    } = guess_classes(alloc, graph, fwd, most)?;
+    if is_settled {
+        return Ok(Refined { classes, number: 0 });
+    }
+    let whole = unpacked(alloc, graph)?;
+    let refined = rounds_from(rt, alloc, &whole, fwd, first.count, classes, steps)?;
+    Ok(refined)
 }
