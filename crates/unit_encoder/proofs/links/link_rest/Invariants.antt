@@ -1,0 +1,8 @@
+use Rattle.std.proofs.Common.{ℕ, Bool, List, IsTrue}
+use Rattle.unit_encoder.specs.Sources.{Source}
+use Rattle.unit_encoder.specs.Held.{PlacesRise, Holds}
+use Rattle.unit_encoder.proofs.Resting.{IsResting}
+use Rattle.unit_encoder.proofs.links.link_rest.Given as goal
+
+abbrev pub invariant-loop-x : goal.invariant-loop-x
+invariant-loop-x l = (local : Bool) (nodes : ℕ → List Source) → Holds local nodes nodes l.fn.piece → (IsTrue local → PlacesRise (nodes 0)) → IsResting (nodes 0) l.fn.piece.unlinked.items l.x l.next l.linked

@@ -1,0 +1,57 @@
+use Rattle.std.proofs.Common.{◌≡◌, ◌+◌, ◌++◌, ◌∷◌, [], ℕ, List, Option, Some, Ok, Vec, Global, inl, inr, refl, sym, ap, subst, ◌∙◌, append-nil, arith, map, length}
+use Rattle.std.specs.Prelude.{IfSome}
+use Rattle.std.proofs.lemmas.Option.{none-some}
+use Rattle.c_model.specs.declared.graph.CType.{CType}
+use Rattle.c_model.specs.declared.graph.Ref.{Ref}
+use Rattle.packed_graph.specs.Packed.{moved}
+use Rattle.unit_encoder.specs.declared.piece.Piece.{Piece}
+use Rattle.unit_encoder.specs.declared.piece.Unlinked.{Unlinked}
+use Rattle.unit_encoder.specs.Sources.{source_of}
+use Rattle.unit_encoder.specs.Graph.{refs_from}
+use Rattle.unit_encoder.specs.Held.{rows_at}
+use Rattle.unit_encoder.proofs.Holding.{holds-pushed, get-one}
+use Rattle.unit_encoder.proofs.piece.Piece.push_type.Goals as goal
+
+pub returns-in_ok-push-in-Some : goal.returns-in_ok-push-in-Some
+returns-in_ok-push-in-Some c given nodes finds h =
+    let u = c.args.unit.now in
+    let one = c.args.one in
+    let p : Piece = c.args.self.now in
+    let at : c.in-Ok.node ≡ length p.nodes = c.in-Ok.ensures.1 ∙ c.len.ensures in
+    let q : Piece = record { nodes = c.push-in-Some.new.self; rows = c.push.new.self; unlinked = p.unlinked } in
+    let t : CType = record { label = one.label; targets = c.in-Some.refs.items } in
+    let none : List Unlinked = [] in
+    holds-pushed u.local given nodes (λ n. source_of u.file (n + u.index) one) p q t none h
+    (record {
+      pushed = c.in_ok-push-in-Some.ensures.pushed ∙ ap (λ (rs : List Ref). p.nodes ++ record { label = one.label; targets = rs } ∷ []) c.as_slice.ensures.value;
+      rows = λ n. c.in_ok-push.ensures.items ∙ ap (λ (k : ℕ). p.rows.items ++ rows_at k u.file (Some one.at)) at;
+      unlinked = sym (append-nil p.unlinked.items);
+      label = λ n. refl;
+      few = omega arith;
+      node = λ i v e. absurd (none-some v e);
+      kept = λ n i v e. absurd (none-some v e);
+      linked = λ all n stands rise. inl (subst (λ (o : Option (Vec Ref Global)). IfSome o (λ (v : Vec Ref Global). refs_from all u.file (n + u.index) [] one.targets ≡ Ok (map (moved n) v.items))) c.in-Some.is (rw c.items.ensures at (c.in_ok-refs.ensures.linked all n (finds all n stands rise))));
+    })
+
+pub returns-in_ok-push-in-None-2 : goal.returns-in_ok-push-in-None-2
+returns-in_ok-push-in-None-2 c given nodes finds h =
+    let u = c.args.unit.now in
+    let one = c.args.one in
+    let p : Piece = c.args.self.now in
+    let at : c.in-Ok.node ≡ length p.nodes = c.in-Ok.ensures.1 ∙ c.len.ensures in
+    let q : Piece = record { nodes = c.push-in-None-2.new.self; rows = c.push.new.self; unlinked = c.push-in-None.new.self } in
+    let t : CType = record { label = one.label; targets = [] } in
+    let kept : Unlinked = record { node = c.in-Ok.node; file = u.file; index = c.from.result; targets = one.targets } in
+    holds-pushed u.local given nodes (λ n. source_of u.file (n + u.index) one) p q t (kept ∷ []) h
+    (record {
+      pushed = c.in_ok-push-in-None-2.ensures.pushed;
+      rows = λ n. c.in_ok-push.ensures.items ∙ ap (λ (k : ℕ). p.rows.items ++ rows_at k u.file (Some one.at)) at;
+      unlinked = c.in_ok-push-in-None.ensures.items;
+      label = λ n. refl;
+      few = omega arith;
+      node = λ i v e. ap (λ (w : Unlinked). w.node) (sym (get-one kept v i e).1) ∙ at;
+      kept = λ n i v e.
+          let is = (get-one kept v i e).1 in
+          record { file = ap (λ (w : Unlinked). w.file) (sym is); index = ap (λ (w : Unlinked). n + w.index) (sym is) ∙ ap (λ (x : ℕ). n + x) c.from.ensures; targets = ap (λ (w : Unlinked). w.targets) (sym is) };
+      linked = λ all n stands rise. inr (omega arith);
+    })

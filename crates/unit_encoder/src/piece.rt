@@ -1,0 +1,269 @@
+//! What a worker holds of the units that it has read: nodes that are linked as far as they refer to their own unit.
+//!
+//! Almost all references of a unit stay in it, so a unit is linked right after it is read, and what it refers to is
+//! kept of those nodes alone that refer elsewhere.
+ghost use Rattle.std.specs.Prelude.{◌≡◌, ◌<◌, ◌+◌, ◌-◌, ◌^◌, ◌++◌, ◌∷◌, [], ℕ, List, Some, Ok, All, IsTrue, length, map, OnOk, IfOk, IfSome};
+ghost use Rattle.c_model.specs.Graph.{IsBelow};
+ghost use Rattle.packed_graph.specs.Packed.{moved};
+ghost use Rattle.unit_encoder.specs.Sources.{Source, index_label, source_of, made_sources, index_sources, sources_of};
+ghost use Rattle.unit_encoder.specs.Graph.{number_of, ref_of, refs_from};
+ghost use Rattle.unit_encoder.specs.Held.{Stands, PlacesRise, Finds, Holds};
+ghost use Rattle.c_types.specs.declared.source.SourceType.{SourceType};
+
+use crate::places::Row;
+use c_model::{Label, Parts, Ref};
+use c_types::{SourceType, Target, Targets, UnitTypes};
+use dw_base::Name;
+use packed_graph::PackedNodes;
+use std::alloc::{AllocError, Global};
+
+/// The most nodes of a worker: a reference to each, and none, has a number of 32 bits.
+const MOST_NODES: u32 = u32::MAX - 2;
+
+/// A node that is not linked yet.
+#[derive(Drop)]
+pub(crate) struct Unlinked {
+    /// The number of the node.
+    pub node: u32,
+    /// The file that it comes from.
+    pub file: u32,
+    /// The number of the node that is the type of the indices of its unit's arrays.
+    pub index: u64,
+    /// What it refers to.
+    pub targets: Targets,
+}
+
+/// What a worker holds. Nodes are numbered from the first that it holds.
+#[derive(Drop)]
+pub(crate) struct Piece<'a> {
+    /// The nodes. One that is not linked has no references here.
+    pub nodes: PackedNodes<'a>,
+    /// Where their entries begin.
+    pub rows: Vec<Row>,
+    /// The nodes that are not linked, in order.
+    pub unlinked: Vec<Unlinked>,
+}
+
+/// The unit whose nodes are made.
+#[derive(Clone, Copy, Debug)]
+pub(crate) struct UnitNodes {
+    /// The number of its file.
+    pub file: u32,
+    /// The number of its first node.
+    pub first: u32,
+    /// The number of the node that is the type of the indices of its arrays, where it has one.
+    pub index: u32,
+    /// Whether it has an array.
+    pub has_array: bool,
+    /// Whether no other unit has an entry at an offset that one of its own has.
+    pub local: bool,
+}
+
+/// A piece without units.
+pub(crate) fn no_units<'a>(alloc: Global) -> Result<Piece<'a>, AllocError>
+    ensures nodes { IfOk result (λ p. p.nodes ≡ []) }
+    ensures rows { IfOk result (λ p. p.rows.items ≡ []) }
+    ensures unlinked { IfOk result (λ p. p.unlinked.items ≡ []) }
+{
+    Ok(Piece {
+        nodes: PackedNodes::new(alloc)?,
+        rows: Vec::new(alloc),
+        unlinked: Vec::new(alloc),
+    })
+}
+
+/// The number of the type of a unit whose entry begins at an offset. The unit's types begin at these offsets.
+fn find_entry(unit: &UnitNodes, offsets: &[u64], to: u128) -> Option<u32>
+    requires { unit.now.first + length offsets.now < 2 ^ 32 - 1 }
+    ensures found { (all : List Source) (n : ℕ) → Finds all n unit.now offsets.now → IfSome result (λ x. number_of all unit.now.file to ≡ Some (n + x)) }
+    ensures small { IfSome result (λ x. x < 2 ^ 32 - 1) }
+{
+    if !unit.local || to > u128::from(u64::MAX) {
+        return None;
+    }
+    let k = offsets.partition_point(|at| u128::from(*at) < to);
+    if k < offsets.len() && u128::from(offsets[k]) == to {
+        Some(unit.first + k as u32)
+    } else {
+        None
+    }
+}
+
+/// What a target of a unit's type refers to, where that is a type of the unit.
+fn link_within(unit: &UnitNodes, offsets: &[u64], target: &Target) -> Option<Ref>
+    requires entries { unit.now.first + length offsets.now < 2 ^ 32 - 1 }
+    requires index { unit.now.index < 2 ^ 32 - 1 }
+    ensures linked { (all : List Source) (n : ℕ) → Finds all n unit.now offsets.now → IfSome result (λ r. ref_of all unit.now.file (n + unit.now.index) target.now ≡ Ok (moved n r)) }
+    ensures small { IfSome result (λ r. IsBelow (2 ^ 32 - 1) r) }
+{
+    match *target {
+        Target::Void => Some(Ref::Void),
+        Target::Index => {
+            if unit.has_array {
+                Some(Ref::Node(unit.index))
+            } else {
+                None
+            }
+        }
+        Target::Entry { from: _, to } => match find_entry(unit, offsets, to) {
+            Some(x) => Some(Ref::Node(x)),
+            None => None,
+        },
+    }
+}
+
+/// The references of a unit's type, where all are to types of the unit.
+fn link_targets_within(
+    alloc: Global,
+    unit: &UnitNodes,
+    offsets: &[u64],
+    targets: &[Target],
+) -> Result<Option<Vec<Ref>>, AllocError>
+    requires entries { unit.now.first + length offsets.now < 2 ^ 32 - 1 }
+    requires index { unit.now.index < 2 ^ 32 - 1 }
+    ensures linked { (all : List Source) (n : ℕ) → Finds all n unit.now offsets.now → IfOk result (λ o. IfSome o (λ v. refs_from all unit.now.file (n + unit.now.index) [] targets.now ≡ Ok (map (moved n) v.items))) }
+    ensures small { IfOk result (λ o. IfSome o (λ v. All (IsBelow (2 ^ 32 - 1)) v.items)) }
+{
+    let mut refs = Vec::with_capacity(alloc, targets.len())?;
+    for i in 0..targets.len() {
+        match link_within(unit, offsets, &targets[i]) {
+            Some(found) => refs.push(found)?,
+            None => return Ok(None),
+        }
+    }
+    Ok(Some(refs))
+}
+
+/// The type of the indices of arrays.
+fn index_type<'a>(alloc: Global) -> Label<'a>
+    ensures { result ≡ index_label }
+{
+    Label {
+        kind: 1,
+        name: Name::new(b"__ARRAY_SIZE_TYPE__"),
+        flag: false,
+        size: 4,
+        extra: 32,
+        parts: Parts::new(Vec::new(alloc)),
+    }
+}
+
+impl<'a> Piece<'a> {
+    ghost use Rattle.std.specs.Prelude.{◌≡◌, ◌<◌, ◌+◌, ◌-◌, ◌^◌, ◌++◌, ◌∷◌, [], ℕ, List, Some, All, IsTrue, length, map, OnOk, IfOk};
+    ghost use Rattle.unit_encoder.specs.Sources.{Source, source_of, made_sources, index_sources, sources_of};
+    ghost use Rattle.unit_encoder.specs.Held.{Stands, PlacesRise, Finds, Holds};
+
+    /// Puts the node of a unit's type behind the others. The unit's types begin at these offsets.
+    fn push_type(
+        &mut self,
+        alloc: Global,
+        unit: &UnitNodes,
+        offsets: &[u64],
+        one: SourceType<'a>,
+    ) -> Result<(), AllocError>
+        requires entries { unit.now.first + length offsets.now < 2 ^ 32 - 1 }
+        requires index { unit.now.index < 2 ^ 32 - 1 }
+        ensures { OnOk result ((given nodes : ℕ → List Source) → ((all : List Source) (n : ℕ) → Stands all n (given n) → (IsTrue unit.now.local → PlacesRise all) → Finds all n unit.now offsets.now) → Holds unit.now.local given nodes self.old → Holds unit.now.local given (λ n. nodes n ++ source_of unit.now.file (n + unit.now.index) one.entry ∷ []) self.new) }
+    {
+        let Ok(node) = u32::try_from(self.nodes.len()) else {
+            return Err(AllocError);
+        };
+        let file = unit.file;
+        let SourceType { at, label, targets } = one;
+        self.rows.push(Row {
+            file,
+            number: node,
+            at,
+        })?;
+        match link_targets_within(alloc, unit, offsets, targets.items())? {
+            Some(refs) => self.nodes.push(label, refs.as_slice())?,
+            None => {
+                self.unlinked.push(Unlinked {
+                    node,
+                    file,
+                    index: u64::from(unit.index),
+                    targets,
+                })?;
+                self.nodes.push(label, &[])?;
+            }
+        }
+        Ok(())
+    }
+
+    /// Puts the nodes of a unit's types behind the others.
+    fn push_types(
+        &mut self,
+        alloc: Global,
+        unit: &UnitNodes,
+        offsets: &[u64],
+        types: Vec<SourceType<'a>>,
+    ) -> Result<(), AllocError>
+        requires entries { unit.now.first + length offsets.now < 2 ^ 32 - 1 }
+        requires index { unit.now.index < 2 ^ 32 - 1 }
+        ensures { OnOk result ((given nodes : ℕ → List Source) → ((all : List Source) (n : ℕ) → Stands all n (given n) → (IsTrue unit.now.local → PlacesRise all) → Finds all n unit.now offsets.now) → Holds unit.now.local given nodes self.old → Holds unit.now.local given (λ n. nodes n ++ made_sources unit.now.file (n + unit.now.index) types.entry.items) self.new) }
+    {
+        for one in types {
+            self.push_type(alloc, unit, offsets, one)?;
+        }
+        Ok(())
+    }
+
+    /// Puts the type of the indices behind the others, where a unit has an array.
+    fn push_index(&mut self, alloc: Global, unit: &UnitNodes) -> Result<(), AllocError>
+        ensures { OnOk result ((given nodes : ℕ → List Source) → Holds unit.now.local given nodes self.old → Holds unit.now.local given (λ n. nodes n ++ index_sources unit.now.file (n + unit.now.index) unit.now.has_array) self.new) }
+    {
+        if unit.has_array {
+            self.nodes.push(index_type(alloc), &[])?;
+        }
+        Ok(())
+    }
+
+    /// Puts the nodes of a unit behind the others, linked as far as they refer to each other. `local` is whether no
+    /// two units have entries at one offset of a file.
+    pub(crate) fn push_unit(
+        &mut self,
+        alloc: Global,
+        local: bool,
+        file: u32,
+        found: UnitTypes<'a>,
+    ) -> Result<(), AllocError>
+        ensures { OnOk result ((nodes : ℕ → List Source) → Holds local nodes nodes self.old → Holds local (λ n. nodes n ++ sources_of file (n + length self.old.nodes) found.entry) (λ n. nodes n ++ sources_of file (n + length self.old.nodes) found.entry) self.new) }
+    {
+        let UnitTypes {
+            read: _,
+            has_array,
+            types,
+        } = found;
+        let types = types.into_items();
+        let (Ok(first), Ok(count)) = (u32::try_from(self.nodes.len()), u32::try_from(types.len()))
+        else {
+            return Err(AllocError);
+        };
+        let index = first.saturating_add(count);
+        if index > MOST_NODES {
+            return Err(AllocError);
+        }
+        let unit = UnitNodes {
+            file,
+            first,
+            index,
+            has_array,
+            local,
+        };
+        let offsets = offsets_of(alloc, types.as_slice())?;
+        self.push_types(alloc, &unit, offsets.as_slice(), types)?;
+        self.push_index(alloc, &unit)?;
+        Ok(())
+    }
+}
+
+/// The offsets at which types begin.
+fn offsets_of(alloc: Global, types: &[SourceType<'_>]) -> Result<Vec<u64>, AllocError>
+    ensures { IfOk result (λ v. v.items ≡ map (λ (t : SourceType). t.at) types.now) }
+{
+    let mut offsets = Vec::with_capacity(alloc, types.len())?;
+    for one in types {
+        offsets.push(one.at)?;
+    }
+    Ok(offsets)
+}
