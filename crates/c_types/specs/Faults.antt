@@ -53,6 +53,11 @@ abbrev pub lesser : Option TypeFault → TypeFault → Option TypeFault
 lesser None f = Some f
 lesser (Some g) f = Some (first_of g f)
 
+-- the first of two that may be there, the left one where neither comes first
+abbrev pub joined : Option TypeFault → Option TypeFault → Option TypeFault
+joined o None = o
+joined o (Some f) = lesser o f
+
 -- the first of one and those of a list
 abbrev pub noted : Option TypeFault → List TypeFault → Option TypeFault
 noted o [] = o

@@ -1,17 +1,18 @@
 //! Arrays.
-ghost use Rattle.std.specs.Prelude.{◌≡◌, ◌*◌, ◌^◌, [], ◌∷◌, min, OnOk, IfOk};
+ghost use Rattle.std.specs.Prelude.{◌≡◌, ◌*◌, ◌^◌, [], ◌∷◌, min, IfOk};
 ghost use Rattle.dwarf_forms.specs.Meanings.{sections};
 ghost use Rattle.entry_tree.specs.Reads.{value_with};
 ghost use Rattle.entry_tree.specs.Walks.{given_entry};
-ghost use Rattle.c_types.specs.Faults.{noted};
 ghost use Rattle.c_types.specs.Taking.{made_if};
-ghost use Rattle.c_types.specs.Arrays.{bound_in, length_of_count, length_of_bound, subrange_length, is_long, lengths_of, is_refused, elements_in, array_row};
+ghost use Rattle.c_types.specs.Arrays.{bound_in, length_of_count, length_of_bound, subrange_length, array_row};
 ghost use Rattle.c_types.specs.Lengths.{extended, is_too_long, elements_from};
+ghost use Rattle.c_types.specs.Opened.{array_made, array_refused, ComesTo};
+ghost use Rattle.c_types.specs.declared.open.Kept.TheVariants.{Array};
 
 use crate::attributes::{TYPE, attribute, is_given, type_target};
-use crate::children::Children;
 use crate::fault::{TypeFault, note_if};
 use crate::number::{Number, by_sign};
+use crate::open::{Complete, OpenArray};
 use crate::source::{SourceType, Target, Targets};
 use c_model::{Label, Parts};
 use dw_base::Name;
@@ -29,14 +30,14 @@ const COUNT: u64 = 0x37;
 const TOO_LONG: u64 = 4_294_967_296;
 
 /// What is known of the lengths of some dimensions.
-#[derive(Clone, Copy)]
-struct Lengths {
+#[derive(Clone, Copy, Debug)]
+pub(crate) struct Lengths {
     /// Their product, where that is below 2^32, and else 2^32.
-    product: u64,
+    pub(crate) product: u64,
     /// Whether there is one.
-    any: bool,
+    pub(crate) any: bool,
     /// Whether one of them is negative or past 32 bits.
-    long: bool,
+    pub(crate) long: bool,
 }
 
 /// A bound that is a constant.
@@ -132,25 +133,6 @@ fn with_child(lengths: Lengths, child: &Entry<'_, '_>) -> Lengths
     }
 }
 
-/// The lengths of the dimensions that an array's children give.
-fn measure(children: Children<'_, '_, '_>) -> Lengths
-    ensures refused { is_too_long result ≡ is_refused (lengths_of children.entry) }
-    ensures elements { elements_from result ≡ elements_in (lengths_of children.entry) }
-{
-    let mut children = children;
-    let mut lengths = Lengths {
-        product: 1,
-        any: false,
-        long: false,
-    };
-    'children: loop {
-        match children.next() {
-            None => return lengths,
-            Some(child) => lengths = with_child(lengths, &child),
-        }
-    }
-}
-
 /// Whether the lengths or the number of elements are refused.
 fn are_too_long(lengths: Lengths) -> bool
     ensures { result ≡ is_too_long lengths }
@@ -181,41 +163,65 @@ fn two_targets(alloc: Global, target: Target) -> Result<Targets, AllocError>
     Ok(Targets::new(items))
 }
 
-/// The type of an array.
-#[tactic(auto, using(crate::proofs::Noting::noted_append))]
-pub(crate) fn array<'a>(
-    alloc: Global,
-    ctx: &FormCtx<'a>,
-    entry: &Entry<'_, 'a>,
-    children: Children<'_, '_, 'a>,
-    least: &mut Option<TypeFault>,
-) -> Result<SourceType<'a>, AllocError>
-    ensures made { IfOk result (λ t. t ≡ (array_row (sections ctx.now) (given_entry entry.now) children.entry).made) }
-    ensures noted { OnOk result (least.new ≡ noted least.old (array_row (sections ctx.now) (given_entry entry.now) children.entry).refused) }
+/// A child of an open array.
+pub(crate) fn meet_array(child: &Entry<'_, '_>, parent: &mut OpenArray)
+    ensures lengths { parent.new.lengths ≡ extended parent.old.lengths (made_if 0x21 subrange_length (given_entry child.now)) }
+    ensures at { parent.new.at ≡ parent.old.at }
+    ensures target { parent.new.target ≡ parent.old.target }
+    ensures least { parent.new.least ≡ parent.old.least }
 {
-    let target = type_target(ctx, entry, least);
+    parent.lengths = with_child(parent.lengths, child);
+}
+
+/// The type of an array whose children have all come.
+pub(crate) fn complete_array<'a>(
+    alloc: Global,
+    whole: OpenArray,
+) -> Result<Complete<'a>, AllocError>
+    ensures made { IfOk result (λ d. d.made ≡ array_made whole []) }
+    ensures refused { IfOk result (λ d. d.refused ≡ array_refused whole []) }
+{
+    let mut refused = whole.least;
     note_if(
-        least,
-        !is_given(entry, TYPE),
-        TypeFault::MissingType(entry.at),
+        &mut refused,
+        are_too_long(whole.lengths),
+        TypeFault::ArrayLength(whole.at),
     );
-    let lengths = measure(children);
-    note_if(
-        least,
-        are_too_long(lengths),
-        TypeFault::ArrayLength(entry.at),
-    );
-    let targets = two_targets(alloc, target)?;
-    Ok(SourceType {
-        at: entry.at,
+    let made = SourceType {
+        at: whole.at,
         label: Label {
             kind: 3,
             name: Name::new(&[]),
             flag: false,
             size: 0,
-            extra: elements(lengths),
+            extra: elements(whole.lengths),
             parts: Parts::new(Vec::new(alloc)),
         },
-        targets,
-    })
+        targets: two_targets(alloc, whole.target)?,
+    };
+    Ok(Complete { made, refused })
+}
+
+/// An array begins.
+#[tactic(auto, using(crate::proofs::Noting::noted_append))]
+pub(crate) fn open_array(ctx: &FormCtx<'_>, entry: &Entry<'_, '_>) -> OpenArray
+    ensures { ComesTo (sections ctx.now) (Array result) (array_row (sections ctx.now) (given_entry entry.now)) }
+{
+    let mut found = None;
+    let target = type_target(ctx, entry, &mut found);
+    note_if(
+        &mut found,
+        !is_given(entry, TYPE),
+        TypeFault::MissingType(entry.at),
+    );
+    OpenArray {
+        at: entry.at,
+        target,
+        lengths: Lengths {
+            product: 1,
+            any: false,
+            long: false,
+        },
+        least: found,
+    }
 }

@@ -1,22 +1,22 @@
 //! Enumerations.
-ghost use Rattle.std.specs.Prelude.{◌≡◌, ◌++◌, [], ◌∷◌, ◌||◌, ◌&&◌, ◌==◌, map, OnOk, IfOk, IfSome};
+ghost use Rattle.std.specs.Prelude.{◌≡◌, ◌++◌, [], ◌∷◌, ◌||◌, ◌&&◌, ◌==◌, not, None, true, false, OnOk, IfSome};
 ghost use Rattle.dwarf_forms.specs.Values.{IsContext};
-ghost use Rattle.dwarf_forms.specs.Meanings.{sections, Fits64};
+ghost use Rattle.dwarf_forms.specs.Meanings.{Sections, sections, Fits64};
 ghost use Rattle.entry_tree.specs.Walks.{given_entry};
 ghost use Rattle.c_types.specs.Faults.{noted};
-ghost use Rattle.c_types.specs.Children.{tagged};
-ghost use Rattle.c_types.specs.Parts.{refused_by, some_is, some_tagged};
-ghost use Rattle.c_types.specs.Taking.{made_if, refused_if};
-ghost use Rattle.c_types.specs.Enumerations.{negative, is_negative, top, is_in_range, value_refused, power, residue, residue_in, enumerator_part, enumerator_refused, is_size, fits_size, enum_size_refused, enumeration_label, enumerated_row, bare_row, enumeration_row};
+ghost use Rattle.c_types.specs.Labels.{is_empty};
+ghost use Rattle.c_types.specs.Attributes.{name_asked, name_in_full, flag_asked, is_set};
+ghost use Rattle.c_types.specs.Enumerations.{negative, is_negative, top, is_in_range, value_refused, power, residue, residue_in, enumerator_part, enumerator_refused, is_size, fits_size, enum_size_refused, enumeration_label, bare_row, enumeration_row};
+ghost use Rattle.c_types.specs.Opened.{enumeration_made, enumeration_refused, ComesTo, GathersEnumerator};
+ghost use Rattle.c_types.specs.declared.open.Kept.TheVariants.{Enumeration};
 
-use crate::attributes::{constant, flag, name, signed_constant};
+use crate::attributes::{constant, name, signed_constant};
 use crate::base::BYTE_SIZE;
-use crate::children::Children;
-use crate::fault::{TypeFault, note, note_if};
+use crate::fault::{TypeFault, join, note, note_if};
 use crate::labels::{MOST, given_size, is_unnamed, no_targets};
 use crate::number::{Number, by_sign};
+use crate::open::{Complete, OpenEnumeration};
 use crate::source::SourceType;
-use crate::structures::DECLARATION;
 use c_model::{Label, Part, Parts};
 use dw_base::Name;
 use dwarf_forms::FormCtx;
@@ -27,62 +27,12 @@ const CONST_VALUE: u64 = 0x1c;
 
 const ENUMERATOR: u64 = 0x28;
 
-/// What is known of the enumerators before they are read.
-#[derive(Clone, Copy)]
-struct Survey {
-    /// Whether there is one.
-    any: bool,
-    /// Whether a value is negative.
-    signed: bool,
-}
-
 fn is_below_zero(value: Option<Number>) -> bool
     ensures { result ≡ negative value }
 {
     match value {
         Some(Number::Negative(_)) => true,
         _ => false,
-    }
-}
-
-/// Whether an enumerator's value is negative.
-fn has_negative_value(enumerator: &Entry<'_, '_>) -> bool
-    ensures { result ≡ is_negative (given_entry enumerator.now) }
-{
-    let mut unused = None;
-    is_below_zero(signed_constant(enumerator, CONST_VALUE, &mut unused))
-}
-
-/// One child more.
-fn survey_with(survey: Survey, child: &Entry<'_, '_>) -> Survey
-    ensures any { result.any ≡ (survey.any || (given_entry child.now).tag == 0x28) }
-    ensures signed { result.signed ≡ (survey.signed || ((given_entry child.now).tag == 0x28 && is_negative (given_entry child.now))) }
-{
-    if child.tag == ENUMERATOR {
-        Survey {
-            any: true,
-            signed: survey.signed || has_negative_value(child),
-        }
-    } else {
-        survey
-    }
-}
-
-/// What the enumerators among an enumeration's children are like.
-fn look_over(children: Children<'_, '_, '_>) -> Survey
-    ensures any { result.any ≡ some_tagged 0x28 children.entry }
-    ensures signed { result.signed ≡ some_is is_negative (tagged 0x28 children.entry) }
-{
-    let mut children = children;
-    let mut survey = Survey {
-        any: false,
-        signed: false,
-    };
-    'children: loop {
-        match children.next() {
-            None => return survey,
-            Some(child) => survey = survey_with(survey, &child),
-        }
     }
 }
 
@@ -157,75 +107,60 @@ fn given_residue(wide: bool, value: Option<Number>) -> u64
     }
 }
 
-/// One enumerator more.
-#[tactic(auto, using(crate::proofs::Noting::noted_append))]
-fn take_enumerator<'a>(
+/// An enumerator of an open enumeration.
+#[tactic(auto, using(crate::proofs::Noting::noted_append, crate::proofs::Joining::joined_noted))]
+fn meet_enumerator<'a>(
     ctx: &FormCtx<'a>,
     enumerator: &Entry<'_, 'a>,
-    wide: bool,
-    signed: bool,
-    parts: &mut Vec<Part<'a>>,
-    least: &mut Option<TypeFault>,
+    parent: &mut OpenEnumeration<'a>,
 ) -> Result<(), AllocError>
     requires { IsContext ctx.now }
-    ensures parts { OnOk result (parts.new.items ≡ parts.old.items ++ enumerator_part (sections ctx.now) wide (given_entry enumerator.now) ∷ []) }
-    ensures noted { OnOk result (least.new ≡ noted least.old (enumerator_refused (sections ctx.now) wide signed (given_entry enumerator.now))) }
+    ensures has_some { OnOk result (parent.new.has_some ≡ true) }
+    ensures has_negative { OnOk result (parent.new.has_negative ≡ (parent.old.has_negative || is_negative (given_entry enumerator.now))) }
+    ensures parts { OnOk result (parent.new.parts.items ≡ parent.old.parts.items ++ enumerator_part (sections ctx.now) parent.old.wide (given_entry enumerator.now) ∷ []) }
+    ensures unsigned { OnOk result (parent.new.unsigned ≡ noted parent.old.unsigned (enumerator_refused (sections ctx.now) parent.old.wide false (given_entry enumerator.now))) }
+    ensures signed { OnOk result (parent.new.signed ≡ noted parent.old.signed (enumerator_refused (sections ctx.now) parent.old.wide true (given_entry enumerator.now))) }
+    ensures bare { OnOk result (parent.new.bare ≡ parent.old.bare) }
+    ensures at { OnOk result (parent.new.at ≡ parent.old.at) }
+    ensures name { OnOk result (parent.new.name ≡ parent.old.name) }
+    ensures size { OnOk result (parent.new.size ≡ parent.old.size) }
+    ensures wide { OnOk result (parent.new.wide ≡ parent.old.wide) }
 {
-    let name = name(ctx, enumerator, least);
+    let mut found = None;
+    let name = name(ctx, enumerator, &mut found);
     note_if(
-        least,
+        &mut found,
         is_unnamed(&name),
         TypeFault::MissingName(enumerator.at),
     );
-    let value = signed_constant(enumerator, CONST_VALUE, least);
-    note_value(least, enumerator.at, wide, signed, value);
-    parts.push(Part {
+    let value = signed_constant(enumerator, CONST_VALUE, &mut found);
+    let wide = parent.wide;
+    parent.unsigned = join(parent.unsigned, found);
+    note_value(&mut parent.unsigned, enumerator.at, wide, false, value);
+    parent.signed = join(parent.signed, found);
+    note_value(&mut parent.signed, enumerator.at, wide, true, value);
+    parent.has_some = true;
+    parent.has_negative = parent.has_negative || is_below_zero(value);
+    parent.parts.push(Part {
         name,
         value: given_residue(wide, value),
     })?;
     Ok(())
 }
 
-/// One child more.
-fn take_child<'a>(
+/// A child of an open enumeration.
+pub(crate) fn meet_enumeration<'a>(
     ctx: &FormCtx<'a>,
     child: &Entry<'_, 'a>,
-    wide: bool,
-    signed: bool,
-    parts: &mut Vec<Part<'a>>,
-    least: &mut Option<TypeFault>,
+    parent: &mut OpenEnumeration<'a>,
 ) -> Result<(), AllocError>
     requires { IsContext ctx.now }
-    ensures parts { OnOk result (parts.new.items ≡ parts.old.items ++ made_if 0x28 (enumerator_part (sections ctx.now) wide) (given_entry child.now)) }
-    ensures noted { OnOk result (least.new ≡ noted least.old (refused_if 0x28 (enumerator_refused (sections ctx.now) wide signed) (given_entry child.now))) }
+    ensures { OnOk result (GathersEnumerator (sections ctx.now) (given_entry child.now) parent.old parent.new) }
 {
     if child.tag == ENUMERATOR {
-        return take_enumerator(ctx, child, wide, signed, parts, least);
+        return meet_enumerator(ctx, child, parent);
     }
     Ok(())
-}
-
-/// The enumerators among an enumeration's children.
-fn read_enumerators<'a>(
-    alloc: Global,
-    ctx: &FormCtx<'a>,
-    children: Children<'_, '_, 'a>,
-    wide: bool,
-    signed: bool,
-    least: &mut Option<TypeFault>,
-) -> Result<Vec<Part<'a>>, AllocError>
-    requires { IsContext ctx.now }
-    ensures parts { IfOk result (λ ps. ps.items ≡ map (enumerator_part (sections ctx.now) wide) (tagged 0x28 children.entry)) }
-    ensures noted { OnOk result (least.new ≡ noted least.old (refused_by (enumerator_refused (sections ctx.now) wide signed) (tagged 0x28 children.entry))) }
-{
-    let mut children = children;
-    let mut found = Vec::new(alloc);
-    'children: loop {
-        match children.next() {
-            None => return Ok(found),
-            Some(child) => take_child(ctx, &child, wide, signed, &mut found, least)?,
-        }
-    }
 }
 
 fn is_enum_size(size: Number) -> bool
@@ -278,74 +213,103 @@ fn make_enumeration<'a>(
     }
 }
 
-/// The type of an enumeration with enumerators, or with neither name nor enumerators.
-#[tactic(auto, using(crate::proofs::Noting::noted_append, crate::proofs::Counting::count_of))]
-fn enumerated<'a>(
+/// Whether an enumeration whose children have all come has a name and no enumerators.
+fn is_bare(whole: &OpenEnumeration<'_>) -> bool
+    ensures { result ≡ (not whole.now.has_some && not (is_empty whole.now.name)) }
+{
+    !whole.has_some && !is_unnamed(&whole.name)
+}
+
+/// The type of an enumeration whose children have all come.
+pub(crate) fn complete_enumeration<'a>(alloc: Global, whole: OpenEnumeration<'a>) -> Complete<'a>
+    ensures made { (c : Sections) → result.made ≡ enumeration_made c whole.entry [] }
+    ensures refused { (c : Sections) → result.refused ≡ enumeration_refused c whole.entry [] }
+{
+    let bare = is_bare(&whole);
+    let OpenEnumeration {
+        at,
+        name,
+        size,
+        wide,
+        has_some: _,
+        has_negative,
+        parts,
+        bare: refused,
+        unsigned,
+        signed,
+    } = whole;
+    let targets = no_targets(alloc);
+    if bare {
+        let label = make_enumeration(false, name, false, 4, Parts::new(Vec::new(alloc)));
+        return Complete {
+            made: SourceType { at, label, targets },
+            refused,
+        };
+    }
+    let mut refused = if has_negative { signed } else { unsigned };
+    let count = parts.len() as u64;
+    note_if(&mut refused, count > MOST, TypeFault::TooMany(at, count));
+    let label = make_enumeration(wide, name, has_negative, size, Parts::new(parts));
+    Complete {
+        made: SourceType { at, label, targets },
+        refused,
+    }
+}
+
+/// An enumeration begins that isn't declared alone; whether it is, was asked before.
+#[tactic(auto, using(crate::proofs::Noting::noted_append))]
+pub(crate) fn open_enumeration<'a>(
     alloc: Global,
     ctx: &FormCtx<'a>,
     entry: &Entry<'_, 'a>,
-    children: Children<'_, '_, 'a>,
-    name: Name<'a>,
-    signed: bool,
-    least: &mut Option<TypeFault>,
-) -> Result<SourceType<'a>, AllocError>
-    requires { IsContext ctx.now }
-    ensures made { IfOk result (λ t. t ≡ (enumerated_row name.entry (given_entry entry.now) (sections ctx.now) signed (tagged 0x28 children.entry)).made) }
-    ensures noted { OnOk result (least.new ≡ noted least.old (enumerated_row name.entry (given_entry entry.now) (sections ctx.now) signed (tagged 0x28 children.entry)).refused) }
+    declared: Option<TypeFault>,
+) -> OpenEnumeration<'a>
+    requires context { IsContext ctx.now }
+    requires defined { is_set (flag_asked 0x3c (given_entry entry.now)) ≡ false }
+    requires declared { declared ≡ noted None (flag_asked 0x3c (given_entry entry.now)).refused }
+    ensures { ComesTo (sections ctx.now) (Enumeration result) (enumeration_row (sections ctx.now) (given_entry entry.now)) }
 {
-    let size = constant(entry, BYTE_SIZE, least);
-    note_enum_size(least, entry.at, size);
+    let mut bare = declared;
+    let name = name(ctx, entry, &mut bare);
+    let mut found = bare;
+    let size = constant(entry, BYTE_SIZE, &mut found);
+    note_enum_size(&mut found, entry.at, size);
     let size = given_size(size);
-    let wide = size == 8;
-    let parts = read_enumerators(alloc, ctx, children, wide, signed, least)?;
-    let count = parts.len() as u64;
-    note_if(least, count > MOST, TypeFault::TooMany(entry.at, count));
-    Ok(SourceType {
+    OpenEnumeration {
         at: entry.at,
-        label: make_enumeration(wide, name, signed, size, Parts::new(parts)),
-        targets: no_targets(alloc),
-    })
+        name,
+        size,
+        wide: size == 8,
+        has_some: false,
+        has_negative: false,
+        parts: Vec::new(alloc),
+        bare,
+        unsigned: found,
+        signed: found,
+    }
 }
 
-/// The type of an enumeration without enumerators.
-fn bare<'a>(
+/// The type of an enumeration that is declared alone.
+#[tactic(auto, using(crate::proofs::Noting::noted_append))]
+pub(crate) fn declared_enumeration<'a>(
     alloc: Global,
+    ctx: &FormCtx<'a>,
     entry: &Entry<'_, 'a>,
-    name: Name<'a>,
-    declared: bool,
     least: &mut Option<TypeFault>,
 ) -> SourceType<'a>
-    ensures made { result ≡ (bare_row name.entry (given_entry entry.now) declared).made }
-    ensures noted { least.new ≡ noted least.old (bare_row name.entry (given_entry entry.now) declared).refused }
+    requires context { IsContext ctx.now }
+    ensures made { result ≡ (bare_row (name_in_full (name_asked (sections ctx.now) (given_entry entry.now))) (given_entry entry.now) true).made }
+    ensures noted { least.new ≡ noted least.old ((name_asked (sections ctx.now) (given_entry entry.now)).refused ++ (bare_row (name_in_full (name_asked (sections ctx.now) (given_entry entry.now))) (given_entry entry.now) true).refused) }
 {
-    let nameless = declared && is_unnamed(&name);
-    note_if(least, nameless, TypeFault::UnnamedForward(entry.at));
+    let name = name(ctx, entry, least);
+    note_if(
+        least,
+        is_unnamed(&name),
+        TypeFault::UnnamedForward(entry.at),
+    );
     SourceType {
         at: entry.at,
         label: make_enumeration(false, name, false, 4, Parts::new(Vec::new(alloc))),
         targets: no_targets(alloc),
-    }
-}
-
-/// The type of an enumeration.
-#[tactic(auto, using(crate::proofs::Noting::noted_append))]
-pub(crate) fn enumeration<'a>(
-    alloc: Global,
-    ctx: &FormCtx<'a>,
-    entry: &Entry<'_, 'a>,
-    children: Children<'_, '_, 'a>,
-    least: &mut Option<TypeFault>,
-) -> Result<SourceType<'a>, AllocError>
-    requires { IsContext ctx.now }
-    ensures made { IfOk result (λ t. t ≡ (enumeration_row (sections ctx.now) (given_entry entry.now) children.entry).made) }
-    ensures noted { OnOk result (least.new ≡ noted least.old (enumeration_row (sections ctx.now) (given_entry entry.now) children.entry).refused) }
-{
-    let declared = flag(entry, DECLARATION, least);
-    let name = name(ctx, entry, least);
-    let survey = look_over(children.copy());
-    if declared || (!survey.any && !is_unnamed(&name)) {
-        Ok(bare(alloc, entry, name, declared, least))
-    } else {
-        enumerated(alloc, ctx, entry, children, name, survey.signed, least)
     }
 }

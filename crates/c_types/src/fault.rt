@@ -1,6 +1,6 @@
 //! Why the types of a unit are refused, and which of two refusals comes first.
 ghost use Rattle.std.specs.Prelude.{◌≡◌, [], ◌∷◌};
-ghost use Rattle.c_types.specs.Faults.{ranked, rank_of, form_rank, is_before, noted, refuse_if};
+ghost use Rattle.c_types.specs.Faults.{ranked, rank_of, form_rank, is_before, noted, refuse_if, joined};
 
 use dwarf_abbrev::AbbrevFault;
 use dwarf_forms::FormFault;
@@ -185,5 +185,19 @@ pub(crate) fn note_if(least: &mut Option<TypeFault>, refused: bool, fault: TypeF
 {
     if refused {
         note(least, fault);
+    }
+}
+
+/// The first of two refusals, the left one where neither comes first.
+pub(crate) fn join(a: Option<TypeFault>, b: Option<TypeFault>) -> Option<TypeFault>
+    ensures { result ≡ joined a b }
+{
+    match b {
+        None => a,
+        Some(fault) => {
+            let mut least = a;
+            note(&mut least, fault);
+            least
+        }
     }
 }

@@ -90,6 +90,9 @@ const ABBREVIATIONS: &[u8] = &[
     72, 0x16, 0, 0x03, 0x08, 0, 0, // typedef with name
     73, 0x24, 0, 0x03, 0x08, 0x0b, 0x0b, 0x3e, 0x0b, 0x0d, 0x0b, 0, 0, // base_type with name, byte_size, encoding, bit_size
     74, 0x34, 0, 0x03, 0x08, 0, 0, // variable with name
+    75, 0x0b, 1, 0, 0, // lexical_block
+    76, 0x2e, 1, 0, 0, // subprogram
+    77, 0x13, 0, 0x0b, 0x0b, 0, 0, // structure_type with byte_size, without children
     0,
 ];
 
@@ -274,7 +277,7 @@ fn compare(rt: &impl Abort, alloc: Global, entries: &[u8], wanted: &[&str]) -> R
 /// The types of entries: offset, kind, name, flag, size, last word, parts, and what they refer to.
 #[test]
 fn types_in_lines(rt: HostRuntime) -> Result<(), Fail> {
-    let cases: [(&[u8], &[&str]); 14] = [
+    let cases: [(&[u8], &[&str]); 18] = [
         (
             &[67, 68, 69, 70, 71, 0x6e, 0, 72, 0x74, 0, 74, 0x76, 0],
             &[
@@ -361,6 +364,29 @@ fn types_in_lines(rt: HostRuntime) -> Result<(), Fail> {
             &[15, 0x65, 0, 8, 16, 0x41, 0, 0x7e, 0],
             &["13 19 e true 8 0 A=18446744073709551614"],
         ),
+        (
+            &[
+                8, 0x73, 0, 8, 9, 0x6d, 0, 13, 0, 0, 0, 0, 76, 75, 33, 13, 0, 0, 36, 33, 13, 0, 72,
+                0x74, 0, 9, 0x6e, 0, 13, 0, 0, 0, 4, 0,
+            ],
+            &[
+                "13 4 s false 8 0 m=0 n=32 17:13 38:13",
+                "31 4 - false 8 0 -=0 32:13",
+                "35 8 t false 0 0 void",
+            ],
+        ),
+        (
+            &[13, 13, 0, 0, 0, 14, 3, 13, 13, 0, 0, 0, 14, 5, 0, 14, 2, 0],
+            &[
+                "13 3 - false 0 6 13:13 index",
+                "20 3 - false 0 5 20:13 index",
+            ],
+        ),
+        (
+            &[76, 75, 15, 0x65, 0, 4, 16, 0x41, 0, 1, 0, 0, 0, 72, 0x74, 0],
+            &["15 6 e false 4 0 A=1", "26 8 t false 0 0 void"],
+        ),
+        (&[77, 4, 33, 13], &["13 4 - false 4 0"]),
         (&[15, 0x65, 0, 2, 0], &["13 6 e false 4 0"]),
         (&[15, 0, 2, 0], &["13 6 - false 2 0"]),
     ];

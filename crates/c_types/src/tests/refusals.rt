@@ -288,6 +288,14 @@ fn at_two_entries(rt: HostRuntime) -> Result<(), Fail> {
                 &[29, 8, 0x73, 0, 4, 10, 0x6d, 0, 0],
                 TypeFault::MissingName(13),
             ),
+            (
+                &[8, 0x73, 0, 4, 29, 10, 0x6d, 0, 0],
+                TypeFault::MissingName(17),
+            ),
+            (
+                &[13, 13, 0, 0, 0, 29, 14, 0x7e, 0],
+                TypeFault::ArrayLength(13),
+            ),
         ],
     )
 }
@@ -301,6 +309,7 @@ fn walk_first(rt: HostRuntime) -> Result<(), Fail> {
         &[
             (&[29, 99], TypeFault::Walk(WalkFault::AbbrevMissing(14, 99))),
             (&[29, 59], TypeFault::Walk(WalkFault::TreeOpen(16))),
+            (&[36, 36, 33, 13], TypeFault::Walk(WalkFault::TreeOpen(18))),
             (&[29, 0, 29], TypeFault::Walk(WalkFault::AfterRoot(15))),
         ],
     )

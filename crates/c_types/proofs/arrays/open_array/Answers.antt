@@ -1,0 +1,16 @@
+use Rattle.std.proofs.Common.{◌∙◌, refl}
+use Rattle.dwarf_forms.specs.Meanings.{sections}
+use Rattle.entry_tree.specs.Walks.{given_entry}
+use Rattle.c_types.proofs.Noting.{noted_append}
+use Rattle.c_types.proofs.OpenArrays.{array_comes}
+use Rattle.c_types.proofs.arrays.open_array.Goals as goal
+
+pub returns : goal.returns
+returns c =
+    array_comes (sections c.args.ctx.now) (given_entry c.args.entry.now) _
+    (record {
+      at = refl;
+      target = c.type_target-target.ensures.said;
+      lengths = refl;
+      least = c.note_if.ensures ∙ rw (c.type_target-target.ensures.noted, c.is_given.ensures) (simp noted_append);
+    })

@@ -1,0 +1,25 @@
+use Rattle.std.proofs.Common.{◌≡◌, ◌∙◌, ℤ, Option, refl, ap}
+use Rattle.dwarf_forms.specs.Meanings.{sections}
+use Rattle.entry_tree.specs.Walks.{given_entry}
+use Rattle.c_types.specs.Labels.{size_in}
+use Rattle.c_types.specs.Attributes.{constant_asked}
+use Rattle.c_types.proofs.OpenEnumerations.{enumeration_comes}
+use Rattle.c_types.proofs.enumerations.open_enumeration.Goals as goal
+
+pub returns : goal.returns
+returns c =
+    let size : c.given_size-size.result ≡ size_in (constant_asked 0x0b (given_entry c.args.entry.now)).said = c.given_size-size.ensures ∙ ap (λ (o : Option ℤ). size_in o) c.constant-size.ensures.said in
+    enumeration_comes (sections c.args.ctx.now) (given_entry c.args.entry.now) _
+    (record {
+      at = refl;
+      name = c.name-name.ensures.said;
+      size = size;
+      wide = rw size refl;
+      has_some = refl;
+      has_negative = refl;
+      parts = c.new.ensures.items;
+      bare = c.name-name.ensures.noted ∙ rw c.requires.declared refl;
+      unsigned = c.note_enum_size.ensures ∙ rw (c.constant-size.ensures.said, c.constant-size.ensures.noted) refl;
+      signed = c.note_enum_size.ensures ∙ rw (c.constant-size.ensures.said, c.constant-size.ensures.noted) refl;
+    })
+    c.requires.defined

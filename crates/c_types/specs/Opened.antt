@@ -1,0 +1,176 @@
+-- What the types that are open come to, given the children that are still to come.
+use Rattle.std.specs.Prelude.{ℕ, ◌≡◌, ◌+◌, ◌*◌, ◌^◌, ◌||◌, ◌&&◌, ◌==◌, nat_lt, not, Bool, true, false, List, [], ◌∷◌, ◌++◌, length, map, Option, None, if◌then◌else◌}
+use Rattle.c_model.specs.declared.label.Part.{Part}
+use Rattle.dwarf_forms.specs.Meanings.{Sections}
+use Rattle.entry_tree.specs.Items.{Given}
+use Rattle.c_types.specs.declared.arrays.Lengths.{Lengths}
+use Rattle.c_types.specs.declared.open.Member.{Member}
+use Rattle.c_types.specs.declared.open.OpenStructure.{OpenStructure}
+use Rattle.c_types.specs.declared.open.OpenFunction.{OpenFunction}
+use Rattle.c_types.specs.declared.open.OpenEnumeration.{OpenEnumeration}
+use Rattle.c_types.specs.declared.open.OpenArray.{OpenArray}
+use Rattle.c_types.specs.declared.open.Kept.{Kept}
+use Rattle.c_types.specs.declared.open.Kept.TheVariants.{Structure, Function, Enumeration, Array}
+use Rattle.c_types.specs.declared.source.SourceType.{SourceType}
+use Rattle.c_types.specs.declared.source.Target.{Target}
+use Rattle.c_types.specs.declared.source.Target.TheVariants.{Index}
+use Rattle.c_types.specs.declared.fault.TypeFault.{TypeFault}
+use Rattle.c_types.specs.declared.fault.TypeFault.TheVariants.{TooMany, ArrayLength}
+use Rattle.c_types.specs.Faults.{noted, refuse_if}
+use Rattle.c_types.specs.Attributes.{has, name_asked, name_in_full, constant_asked}
+use Rattle.c_types.specs.Children.{tagged}
+use Rattle.c_types.specs.Labels.{Row, is_empty}
+use Rattle.c_types.specs.Parts.{part_of, refused_by, some_is, some_tagged, most}
+use Rattle.c_types.specs.Structures.{or_zero, position_of, bits_in, near, member_target, member_refused, has_fields, structure_label}
+use Rattle.c_types.specs.Functions.{parameter_part, parameter_target, parameter_refused, rest_part, rest_target, function_label}
+use Rattle.c_types.specs.Enumerations.{is_negative, enumerator_part, enumerator_refused, enumeration_label}
+use Rattle.c_types.specs.Arrays.{lengths_of, array_label}
+use Rattle.c_types.specs.Lengths.{extended, is_too_long, elements_from}
+use Rattle.c_types.specs.Taking.{made_if, refused_if}
+
+abbrev pub too_many : ℕ → ℕ → List TypeFault
+too_many at count = refuse_if (nat_lt most count) (TooMany at count)
+
+-- what is kept of a member, and the part that it is once its structure is complete
+abbrev pub kept_of : Sections → Given → Member
+kept_of c m = record { name = name_in_full (name_asked c m); bits = bits_in (constant_asked 0x0d m).said; near = near false (or_zero (position_of m).said) }
+
+abbrev pub part_from : Bool → Member → Part
+part_from fields k = part_of k.name (if fields then k.bits * 2 ^ 24 + near true k.near else k.near)
+
+-- of an open structure: all members, their types, and whether one is a bit field
+abbrev pub all_members : Sections → OpenStructure → List Given → List Member
+all_members c o kids = o.members.items ++ map (kept_of c) (tagged 0x0d kids)
+
+abbrev pub all_targets : Sections → OpenStructure → List Given → List Target
+all_targets c o kids = o.targets.items ++ map (member_target c) (tagged 0x0d kids)
+
+abbrev pub all_fields : OpenStructure → List Given → Bool
+all_fields o kids = o.fields || has_fields (tagged 0x0d kids)
+
+-- the type that it comes to
+abbrev pub structure_by : OpenStructure → Bool → List Member → List Target → SourceType
+structure_by o fields members targets = record { at = o.at; label = structure_label o.is_union o.name o.size fields (map (part_from fields) members); targets = targets }
+
+unfoldable pub structure_made : Sections → OpenStructure → List Given → SourceType
+structure_made c o kids = structure_by o (all_fields o kids) (all_members c o kids) (all_targets c o kids)
+
+-- and the first refusal of its row
+abbrev pub own : OpenStructure → Bool → Option TypeFault
+own o fields = if fields then o.packed else o.plain
+
+unfoldable pub structure_refused : Sections → OpenStructure → List Given → Option TypeFault
+structure_refused c o kids =
+    noted (own o (all_fields o kids)) (refused_by (member_refused c (all_fields o kids)) (tagged 0x0d kids) ++ too_many o.at (length (all_members c o kids)))
+
+-- of an open subroutine type: the parameters, their types behind that of the result, and whether more may follow
+abbrev pub all_parameters : Sections → OpenFunction → List Given → List Part
+all_parameters c o kids = o.parts.items ++ map (parameter_part c) (tagged 0x05 kids)
+
+abbrev pub all_results : Sections → OpenFunction → List Given → List Target
+all_results c o kids = o.targets.items ++ map (parameter_target c) (tagged 0x05 kids)
+
+abbrev pub all_variadic : OpenFunction → List Given → Bool
+all_variadic o kids = o.variadic || some_tagged 0x18 kids
+
+abbrev pub function_by : ℕ → Bool → List Part → List Target → SourceType
+function_by at variadic parts targets = record { at = at; label = function_label (parts ++ rest_part variadic); targets = targets ++ rest_target variadic }
+
+unfoldable pub function_made : Sections → OpenFunction → List Given → SourceType
+function_made c o kids = function_by o.at (all_variadic o kids) (all_parameters c o kids) (all_results c o kids)
+
+unfoldable pub function_refused : Sections → OpenFunction → List Given → Option TypeFault
+function_refused c o kids =
+    noted o.least (refused_by (parameter_refused c) (tagged 0x05 kids) ++ too_many o.at (length (all_parameters c o kids ++ rest_part (all_variadic o kids))))
+
+-- of an open enumeration: whether there is an enumerator, whether one is negative, and all of them
+abbrev pub all_some : OpenEnumeration → List Given → Bool
+all_some o kids = o.has_some || some_tagged 0x28 kids
+
+abbrev pub all_negative : OpenEnumeration → List Given → Bool
+all_negative o kids = o.has_negative || some_is is_negative (tagged 0x28 kids)
+
+abbrev pub all_enumerators : Sections → OpenEnumeration → List Given → List Part
+all_enumerators c o kids = o.parts.items ++ map (enumerator_part c o.wide) (tagged 0x28 kids)
+
+-- it has a name and no enumerator
+abbrev pub ends_bare : OpenEnumeration → List Given → Bool
+ends_bare o kids = not (all_some o kids) && not (is_empty o.name)
+
+abbrev pub enumeration_by : OpenEnumeration → Bool → Bool → List Part → SourceType
+enumeration_by o bare negative parts =
+    record { at = o.at; label = if bare then enumeration_label false o.name false 4 [] else enumeration_label o.wide o.name negative o.size parts; targets = [] }
+
+unfoldable pub enumeration_made : Sections → OpenEnumeration → List Given → SourceType
+enumeration_made c o kids = enumeration_by o (ends_bare o kids) (all_negative o kids) (all_enumerators c o kids)
+
+abbrev pub own_sign : OpenEnumeration → Bool → Option TypeFault
+own_sign o negative = if negative then o.signed else o.unsigned
+
+abbrev pub enumerated : Sections → OpenEnumeration → Bool → ℕ → List Given → Option TypeFault
+enumerated c o negative count kids = noted (own_sign o negative) (refused_by (enumerator_refused c o.wide negative) (tagged 0x28 kids) ++ too_many o.at count)
+
+unfoldable pub enumeration_refused : Sections → OpenEnumeration → List Given → Option TypeFault
+enumeration_refused c o kids = if ends_bare o kids then o.bare else enumerated c o (all_negative o kids) (length (all_enumerators c o kids)) kids
+
+-- of an open array: the lengths of all dimensions
+abbrev pub all_lengths : OpenArray → List Given → Lengths
+all_lengths o kids = extended o.lengths (lengths_of kids)
+
+abbrev pub array_by : OpenArray → Lengths → SourceType
+array_by o lengths = record { at = o.at; label = array_label (elements_from lengths); targets = o.target ∷ Index ∷ [] }
+
+unfoldable pub array_made : OpenArray → List Given → SourceType
+array_made o kids = array_by o (all_lengths o kids)
+
+unfoldable pub array_refused : OpenArray → List Given → Option TypeFault
+array_refused o kids = noted o.least (refuse_if (is_too_long (all_lengths o kids)) (ArrayLength o.at))
+
+-- of what is kept of any open type
+abbrev pub kept_made : Sections → Kept → List Given → SourceType
+kept_made c (Structure o) kids = structure_made c o kids
+kept_made c (Function o) kids = function_made c o kids
+kept_made c (Enumeration o) kids = enumeration_made c o kids
+kept_made c (Array o) kids = array_made o kids
+
+abbrev pub kept_refused : Sections → Kept → List Given → Option TypeFault
+kept_refused c (Structure o) kids = structure_refused c o kids
+kept_refused c (Function o) kids = function_refused c o kids
+kept_refused c (Enumeration o) kids = enumeration_refused c o kids
+kept_refused c (Array o) kids = array_refused o kids
+
+-- it comes to a row, whichever children come
+pub record ComesTo (c : Sections) (k : Kept) (row : List Given → Row) : Type 0 where
+  pub made : (kids : List Given) → kept_made c k kids ≡ (row kids).made
+  pub refused : (kids : List Given) → kept_refused c k kids ≡ noted None (row kids).refused
+
+-- before and after a child was met
+pub record GathersMember (c : Sections) (e : Given) (old new : OpenStructure) : Type 0 where
+  pub members : new.members.items ≡ old.members.items ++ made_if 0x0d (kept_of c) e
+  pub targets : new.targets.items ≡ old.targets.items ++ made_if 0x0d (member_target c) e
+  pub fields : new.fields ≡ (old.fields || (e.tag == 0x0d && has 0x0d e))
+  pub plain : new.plain ≡ noted old.plain (refused_if 0x0d (member_refused c false) e)
+  pub packed : new.packed ≡ noted old.packed (refused_if 0x0d (member_refused c true) e)
+  pub at : new.at ≡ old.at
+  pub is_union : new.is_union ≡ old.is_union
+  pub name : new.name ≡ old.name
+  pub size : new.size ≡ old.size
+
+pub record GathersParameter (c : Sections) (e : Given) (old new : OpenFunction) : Type 0 where
+  pub parts : new.parts.items ≡ old.parts.items ++ made_if 0x05 (parameter_part c) e
+  pub targets : new.targets.items ≡ old.targets.items ++ made_if 0x05 (parameter_target c) e
+  pub variadic : new.variadic ≡ (old.variadic || e.tag == 0x18)
+  pub least : new.least ≡ noted old.least (refused_if 0x05 (parameter_refused c) e)
+  pub at : new.at ≡ old.at
+
+pub record GathersEnumerator (c : Sections) (e : Given) (old new : OpenEnumeration) : Type 0 where
+  pub has_some : new.has_some ≡ (old.has_some || e.tag == 0x28)
+  pub has_negative : new.has_negative ≡ (old.has_negative || (e.tag == 0x28 && is_negative e))
+  pub parts : new.parts.items ≡ old.parts.items ++ made_if 0x28 (enumerator_part c old.wide) e
+  pub unsigned : new.unsigned ≡ noted old.unsigned (refused_if 0x28 (enumerator_refused c old.wide false) e)
+  pub signed : new.signed ≡ noted old.signed (refused_if 0x28 (enumerator_refused c old.wide true) e)
+  pub bare : new.bare ≡ old.bare
+  pub at : new.at ≡ old.at
+  pub name : new.name ≡ old.name
+  pub size : new.size ≡ old.size
+  pub wide : new.wide ≡ old.wide
