@@ -95,7 +95,11 @@ fn complaint_in(alloc: Global, lines: &[String]) -> Result<Vec<u8>, AllocError> 
 /// The files of a case.
 fn files_of<W: World>(alloc: Global, host: &mut W, case: &str) -> Result<Files, AllocError> {
     let mut files = Vec::new(alloc);
-    for (name, file) in [("a", "file.a.hex"), ("b", "file.b.hex")] {
+    for (name, file) in [
+        ("a", "file.a.hex"),
+        ("b", "file.b.hex"),
+        ("B", "file.B.hex"),
+    ] {
         if let Some(bytes) = hex_in(alloc, host, case, file)? {
             files.push(HeldFile {
                 name: Bytes::new(Vec::from_slice(alloc, name.as_bytes())?),
