@@ -50,10 +50,10 @@ def shipped(name):
 # a page, the words around a number there, and the number that the repository has
 TOLD = [
     ("README.md", r"a file of (\S+) bytes", lambda: len(re.sub(r"\s", "", read("crates/run_cases/data/one-base-type/file.a.hex"))) // 2),
-    ("README.md", r"number of workers, 1 to (\d+)", lambda: int(re.search(r"^jobs = number 1 (\d+)", read("crates/command_line/specs/Values.antt"), re.M)[1])),
-    ("docs/PROMISES.md", r"each of the (\d+) forms", lambda: occurrences("crates/dwarf_forms/specs/Forms.antt", r"^    (?:∷ )?\(0x")),
+    ("README.md", r"number of workers that read units, 1 to (\d+)", lambda: int(re.search(r"^jobs = number 1 (\d+)", read("crates/command_line/specs/Values.antt"), re.M)[1])),
+    ("docs/PROMISES.md", r"each of the (\d+) forms", lambda: occurrences("crates/dwarf_forms/specs/Forms.antt", r"^    (?:∷ )?\(DW_FORM_")),
     ("docs/PROMISES.md", r"all (\w+) kinds and", lambda: occurrences("crates/btf_codec/specs/Fields.antt", r"k == \d+ then Some")),
-    ("docs/PROMISES.md", r"all (\w+) kinds of types", lambda: occurrences("crates/btf_codec/specs/Fields.antt", r"k == \d+ then Some")),
+    ("README.md", r"all (\w+) kinds of types", lambda: occurrences("crates/btf_codec/specs/Fields.antt", r"k == \d+ then Some")),
     ("docs/PROMISES.md", r"types of ([\d,]+) parts and of one more", lambda: in_tests("c_types", 65_535)),
     ("docs/PROMISES.md", r"([\d,]+) structures in each other", lambda: in_tests("c_types", 50_000)),
     ("docs/PROMISES.md", r"(\d+) lists of words", lambda: 1 + occurrences("crates/command_line/src/tests.rt", r"^(?!const|///).* -> \w+ ")),

@@ -103,7 +103,7 @@ def check_refusals():
     names = {new: old for old, new in re.findall(r"(\w+) as (\w+)", layers)}
     known = {("200", "not_yet")}
     for left, right in re.findall(r"^((?:of_\w+|mixed) .*?) = (.*)$", layers, re.M):
-        number = re.search(r"(?:bare|keeping|keeping_two) .*? (?:at|number|from|0|4|16) (\d+)\b|of_whole (\d+) \w+", right)
+        number = re.search(r"(?:bare|keeping|keeping_two) .*? (?:at|number|from|0|4|16|18) (\d+)\b|of_whole (\d+) \w+", right)
         if number and not left.startswith("of_whole"):
             fault = re.findall(r"\b(mixed|[A-Z]\w*)", left)[-1]
             known.add((number[1] or number[2], names.get(fault, fault)))
