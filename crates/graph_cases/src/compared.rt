@@ -4,6 +4,7 @@ use crate::merged::{Found, merged};
 use crate::plain::{Relation, View, opened};
 use crate::rows::{Table, types_of};
 use std::alloc::Global;
+use std::thread::Threads;
 
 /// Whether numbers are equal exactly where a relation relates their places.
 fn is_relation(numbers: &[u32], relation: &Relation) -> bool {
@@ -65,14 +66,15 @@ impl Tally {
 }
 
 /// The graph and its classes that the proved program finds, and whether the plain one finds the same relation.
-pub fn decided(
+pub fn decided<R: Threads + Sync>(
+    rt: &R,
     alloc: Global,
     table: &Table,
     tally: &mut Tally,
 ) -> Result<(Found<'static>, bool), Fault> {
     let base = table.rows.get(..table.base).ok_or(Fault::Unfit)?;
     let own = table.rows.get(table.base..).ok_or(Fault::Unfit)?;
-    let found = merged(alloc, types_of(alloc, base)?, types_of(alloc, own)?)?;
+    let found = merged(rt, alloc, types_of(alloc, base)?, types_of(alloc, own)?)?;
     let numbers = found.refined.classes.numbers();
     let view = opened(alloc, table)?;
     let relation = view.coarsest(alloc)?;

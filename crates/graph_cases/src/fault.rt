@@ -8,6 +8,9 @@ pub enum Fault {
     /// A graph is none that types of files and bases make.
     #[error("a graph that is none of types")]
     Unfit,
+    /// Two ways to the classes find different ones.
+    #[error("classes by rounds and by halves differ")]
+    Differs,
     #[error("out of memory")]
     Memory,
 }

@@ -22,6 +22,7 @@ use sizes::{
 use split_base::TableFault;
 use std::alloc::Global;
 use std::process::ExitCode;
+use std::thread::Threads;
 use tables::{built, is_table, joined};
 use worked::{Worked, based_graphs, forward_graphs, plain_graphs, table_of};
 
@@ -45,20 +46,29 @@ fn main(rt: HostRuntime) -> ExitCode {
 }
 
 /// Whether both programs find the classes that are written beside a graph, and the table is the one there.
-fn worked_agrees(alloc: Global, worked: &Worked, tally: &mut Tally) -> Result<bool, Error> {
+fn worked_agrees<R: Threads + Sync>(
+    rt: &R,
+    alloc: Global,
+    worked: &Worked,
+    tally: &mut Tally,
+) -> Result<bool, Error> {
     let rows = table_of(alloc, worked.base, worked.types)?;
-    let (found, same) = decided(alloc, &rows, tally)?;
+    let (found, same) = decided(rt, alloc, &rows, tally)?;
     let are_wanted = is_one_relation(found.refined.classes.numbers(), worked.classes);
     let table = built(alloc, found, worked.base_names)??;
     Ok(same && are_wanted && is_table(alloc, &table, worked)?)
 }
 
 /// How many of these graphs have other classes or another table than are written beside them. Names them.
-fn differing<R: Print>(rt: &R, alloc: Global, graphs: &[Worked]) -> Result<u64, Error> {
+fn differing<R: Print + Threads + Sync>(
+    rt: &R,
+    alloc: Global,
+    graphs: &[Worked],
+) -> Result<u64, Error> {
     let mut differ = 0u64;
     let mut tally = Tally::default();
     for worked in graphs {
-        if !worked_agrees(alloc, worked, &mut tally)? {
+        if !worked_agrees(rt, alloc, worked, &mut tally)? {
             println!(rt; "{} differs", worked.name)?;
             differ = differ.saturating_add(1);
         }
@@ -67,7 +77,7 @@ fn differing<R: Print>(rt: &R, alloc: Global, graphs: &[Worked]) -> Result<u64, 
 }
 
 /// The worked graphs: classes and tables are what is written beside them.
-fn worked_agree<R: Print>(rt: &R, alloc: Global) -> Result<bool, Error> {
+fn worked_agree<R: Print + Threads + Sync>(rt: &R, alloc: Global) -> Result<bool, Error> {
     let mut count = 0usize;
     let mut all = true;
     for graphs in [plain_graphs(), forward_graphs(), based_graphs()] {
@@ -89,13 +99,13 @@ fn joins_hold<R: Print>(rt: &R, alloc: Global) -> Result<bool, Error> {
 }
 
 /// The made graphs: both programs find one relation.
-fn made_agree<R: Print>(rt: &R, alloc: Global) -> Result<bool, Error> {
+fn made_agree<R: Print + Threads + Sync>(rt: &R, alloc: Global) -> Result<bool, Error> {
     let mut draws = Draws::new(2026);
     let mut differ = 0u64;
     let mut tally = Tally::default();
     for number in 0..MADE {
         let table = made_table(alloc, &mut draws)?;
-        let (_, same) = decided(alloc, &table, &mut tally)?;
+        let (_, same) = decided(rt, alloc, &table, &mut tally)?;
         if !same {
             println!(rt; "made graph {} differs", number)?;
             differ = differ.saturating_add(1);
@@ -131,25 +141,25 @@ fn said(holds: bool) -> &'static str {
 }
 
 /// The graphs at the limits of size.
-fn limits_hold<R: Print>(rt: &R, alloc: Global) -> Result<bool, Error> {
-    let rounds = empty_rounds(alloc)?;
+fn limits_hold<R: Print + Threads + Sync>(rt: &R, alloc: Global) -> Result<bool, Error> {
+    let rounds = empty_rounds(rt, alloc)?;
     match rounds {
         Some(rounds) => println!(rt; "empty graph: {rounds} rounds")?,
         None => println!(rt; "empty graph: it has classes")?,
     }
-    let ring = ring_has_two_classes(alloc, 1000)?;
+    let ring = ring_has_two_classes(rt, alloc, 1000)?;
     println!(rt;
         "ring of 1000 pointers among equal structures, two classes: {}",
         said(ring)
     )?;
-    let ints = ints_of_sizes(alloc, 1 << 20)?;
+    let ints = ints_of_sizes(rt, alloc, 1 << 20)?;
     let apart = all_differ(alloc, &ints)?;
     println!(rt; "1048576 sizes of INT, all differ: {}", said(apart))?;
     let table = table_len(alloc, ints)?;
     println!(rt; "  their table: {:?}", table)?;
-    let most = long_name_table(alloc, 16_777_213)?;
+    let most = long_name_table(rt, alloc, 16_777_213)?;
     println!(rt; "a last name at 16777215: {:?}", most)?;
-    let far = long_name_table(alloc, 16_777_214)?;
+    let far = long_name_table(rt, alloc, 16_777_214)?;
     println!(rt; "a last name at 16777216: {:?}", far)?;
     Ok(
         rounds == Some(0)

@@ -1,18 +1,22 @@
 //! The partition that the proved program finds.
 ghost use Rattle.std.specs.Prelude.{◌≡◌, ◌<◌, ◌++◌, take, IfOk};
 ghost use Rattle.c_model.specs.Partition.{IsCoarsest};
-ghost use Rattle.c_model.specs.Forwards.{HasFittingForwards};
+ghost use Rattle.c_model.specs.Forwards.{IsIndexOf, HasFittingForwards};
 
+use crate::compared::is_one_relation;
 use crate::fault::Fault;
 use crate::fitting::{graph_from, is_fitting};
 use c_model::laws::nothing_open_is_plain;
 use c_model::{CType, Classes, Graph};
+use class_halves::{classes_by_halves, split_by_halves};
 use class_refine::{Refined, classes};
 use dw_base::Steps;
 use forward_rule::FwdIndex;
+use packed_graph::packed;
 use std::alloc::{AllocError, Global};
 use std::marker::Brand;
 use std::sync::ledger::{Blank, Ledger};
+use std::thread::Threads;
 
 /// A graph and its coarsest partition.
 #[derive(Drop)]
@@ -22,7 +26,8 @@ pub struct Found<'a> {
 }
 
 /// The coarsest plain agreement of a graph.
-fn plain_classes<L: Ledger>(
+fn plain_classes<R: Threads + Sync, L: Ledger>(
+    rt: &R,
     alloc: Global,
     graph: &Graph<'_>,
     steps: &mut Steps<L>,
@@ -32,7 +37,7 @@ fn plain_classes<L: Ledger>(
 {
     nothing_open_is_plain();
     let closed = FwdIndex::plain(graph);
-    let refined = classes(alloc, graph, &closed, steps)?;
+    let refined = classes(rt, alloc, graph, &closed, steps)?;
     Ok(refined.classes)
 }
 
@@ -59,17 +64,45 @@ fn joined<'a>(alone: Graph<'a>, own: Vec<CType<'a>>) -> Result<Graph<'a>, Fault>
     }
 }
 
+/// How many nodes a graph has at most whose classes are compared pair by pair.
+const COMPARED_AT_MOST: u32 = 4_096;
+
+/// Whether classes by halves are the same, of the graph and of the graph packed.
+fn others_agree<L: Ledger>(
+    alloc: Global,
+    graph: &Graph<'_>,
+    forwards: &FwdIndex,
+    wanted: &Classes,
+    steps: &mut Steps<L>,
+) -> Result<bool, AllocError>
+    requires index { IsIndexOf graph.now forwards.now }
+    requires fitting { HasFittingForwards graph.now }
+{
+    if graph.len() > COMPARED_AT_MOST {
+        return Ok(true);
+    }
+    let split = split_by_halves(alloc, graph, forwards, steps)?;
+    let kept_once = packed(alloc, graph)?;
+    let halves = classes_by_halves(alloc, &kept_once, forwards, steps)?;
+    Ok(
+        is_one_relation(split.numbers(), wanted.numbers())
+            && is_one_relation(halves.numbers(), wanted.numbers()),
+    )
+}
+
 /// The coarsest partition of a base and of types behind it.
-pub fn merged<'a>(
+pub fn merged<'a, R: Threads + Sync>(
+    rt: &R,
     alloc: Global,
     base: Vec<CType<'a>>,
     own: Vec<CType<'a>>,
 ) -> Result<Found<'a>, Fault> {
-    merged_over::<Brand>(alloc, base, own, Blank::new(1))
+    merged_over::<R, Brand>(rt, alloc, base, own, Blank::new(1))
 }
 
 /// The same over a counter of steps, which nobody reads here.
-fn merged_over<'a, L: Ledger>(
+fn merged_over<'a, R: Threads + Sync, L: Ledger>(
+    rt: &R,
     alloc: Global,
     base: Vec<CType<'a>>,
     own: Vec<CType<'a>>,
@@ -89,12 +122,15 @@ fn merged_over<'a, L: Ledger>(
     if !is_fitting(&alone) {
         return Err(Fault::Unfit);
     }
-    let kept = plain_classes(alloc, &alone, &mut steps)?;
+    let kept = plain_classes(rt, alloc, &alone, &mut steps)?;
     let graph = joined(alone, own)?;
     if !is_fitting(&graph) {
         return Err(Fault::Unfit);
     }
     let forwards = FwdIndex::build(alloc, &graph, &kept)?;
-    let refined = classes(alloc, &graph, &forwards, &mut steps)?;
+    let refined = classes(rt, alloc, &graph, &forwards, &mut steps)?;
+    if !others_agree(alloc, &graph, &forwards, &refined.classes, &mut steps)? {
+        return Err(Fault::Differs);
+    }
     Ok(Found { graph, refined })
 }

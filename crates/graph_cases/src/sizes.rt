@@ -8,10 +8,11 @@ use c_model::{CType, Label, Parts, Ref, Refs};
 use dw_base::Name;
 use split_base::TableFault;
 use std::alloc::{AllocError, Global};
+use std::thread::Threads;
 
 /// The number of rounds of the empty graph, which has no classes.
-pub fn empty_rounds(alloc: Global) -> Result<Option<u32>, Fault> {
-    let found = merged(alloc, Vec::new(alloc), Vec::new(alloc))?;
+pub fn empty_rounds<R: Threads + Sync>(rt: &R, alloc: Global) -> Result<Option<u32>, Fault> {
+    let found = merged(rt, alloc, Vec::new(alloc), Vec::new(alloc))?;
     let rounds = found.refined.rounds();
     Ok(if found.refined.classes.numbers().is_empty() {
         Some(rounds)
@@ -26,7 +27,11 @@ const NEXT: &[Piece] = &[Piece {
 }];
 
 /// Whether a ring of so many pointers among equal structures has two classes.
-pub fn ring_has_two_classes(alloc: Global, pointers: u32) -> Result<bool, Fault> {
+pub fn ring_has_two_classes<R: Threads + Sync>(
+    rt: &R,
+    alloc: Global,
+    pointers: u32,
+) -> Result<bool, Fault> {
     let count = pointers.saturating_mul(2);
     let mut rows = Vec::new(alloc);
     let mut want = Vec::new(alloc);
@@ -41,7 +46,7 @@ pub fn ring_has_two_classes(alloc: Global, pointers: u32) -> Result<bool, Fault>
         rows.push(Row { head, targets })?;
         want.push(x % 2)?;
     }
-    let found = merged(alloc, Vec::new(alloc), types_of(alloc, &rows)?)?;
+    let found = merged(rt, alloc, Vec::new(alloc), types_of(alloc, &rows)?)?;
     Ok(is_one_relation(found.refined.classes.numbers(), &want))
 }
 
@@ -61,12 +66,16 @@ fn int<'a>(alloc: Global, name: &'a [u8], size: u32) -> CType<'a> {
 }
 
 /// INTs of so many sizes, merged.
-pub fn ints_of_sizes(alloc: Global, count: u32) -> Result<Found<'static>, Fault> {
+pub fn ints_of_sizes<R: Threads + Sync>(
+    rt: &R,
+    alloc: Global,
+    count: u32,
+) -> Result<Found<'static>, Fault> {
     let mut types = Vec::new(alloc);
     for size in 0..count {
         types.push(int(alloc, b"int", size))?;
     }
-    merged(alloc, Vec::new(alloc), types)
+    merged(rt, alloc, Vec::new(alloc), types)
 }
 
 /// Whether no two nodes are of one class.
@@ -85,11 +94,15 @@ pub fn table_len(alloc: Global, found: Found<'_>) -> Result<Result<usize, TableF
 }
 
 /// The table of two INTs, the first with a name of so many bytes.
-pub fn long_name_table(alloc: Global, bytes: usize) -> Result<Result<usize, TableFault>, Fault> {
+pub fn long_name_table<R: Threads + Sync>(
+    rt: &R,
+    alloc: Global,
+    bytes: usize,
+) -> Result<Result<usize, TableFault>, Fault> {
     let name = vec![in alloc; b'n'; bytes]?;
     let mut types = Vec::new(alloc);
     types.push(int(alloc, &name, 4))?;
     types.push(int(alloc, b"last", 4))?;
-    let found = merged(alloc, Vec::new(alloc), types)?;
+    let found = merged(rt, alloc, Vec::new(alloc), types)?;
     table_len(alloc, found)
 }
