@@ -1,4 +1,4 @@
 use Rattle.graph_cases.proofs.merged.merged.Given as goal
 
 abbrev pub ghosts-merged_over : goal.ghosts-merged_over
-ghosts-merged_over a = record { name = a.blank.name; parts = a.blank.parts }
+ghosts-merged_over g a = record { name = a.blank.name; parts = a.blank.parts }
