@@ -1,5 +1,6 @@
 """growth.py PROGRAM FOLDER SIZE: runs PROGRAM over small files of each kind of KINDS that could make its work grow faster than its input, at
 the sizes n, 2n and 4n, and fails a kind where a doubling multiplies the processor time by more than MOST once it passes ENOUGH seconds.
+A kind of SQUARES is told as known in its place.
 SIZE is `small` or `large`; a kind's large sizes are those times LARGER. The files are ELF files of 64 bits with units of DWARF 5, and
 files of BTF."""
 import os
@@ -158,6 +159,8 @@ def arrays_of_btf(n):
     return btf(BTF_INT + arrays + [3, STRUCT_KIND | 1, 4, 5, n + 1, 0], b"\0t\0s\0m\0")
 
 
+# kinds whose work is known to grow with the square; docs/SPEED.md says why
+SQUARES = ("units of one table of abbreviations", "names that are ends of one text")
 DIGITS = "0123456789abcdefghijklmnopqrstuvwxyz"
 
 
@@ -231,7 +234,8 @@ def check(program, folder, name, make, sizes, words):
             return f"failed growth {name}: {'; '.join(told)}"
         times.append(time)
     grows = any(after > ENOUGH and after > MOST * before for before, after in zip(times, times[1:]))
-    return f"{'failed' if grows else 'passed'} growth {name}: {', '.join(told)}{f' ({said})' if said else ''}"
+    how = "known" if grows and name in SQUARES else "failed" if grows else "passed"
+    return f"{how} growth {name}: {', '.join(told)}{f' ({said})' if said else ''}"
 
 
 def main():
