@@ -24,7 +24,7 @@ pub fn built<'a>(
     {
         return Err(Fault::Unfit);
     }
-    Ok(build(alloc, graph, &classes, base_names))
+    Ok(build(alloc, &graph, &classes, base_names))
 }
 
 /// The types of these entries.

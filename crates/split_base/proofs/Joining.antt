@@ -1,5 +1,5 @@
 -- The references of joined graphs are in range.
-use Rattle.std.proofs.Common.{◌≡◌, ◌≤◌, ◌+◌, ℕ, List, map, take, length, get_or, ◌∙◌, ap, arith}
+use Rattle.std.proofs.Common.{◌≡◌, ◌≤◌, ◌+◌, ◌++◌, ℕ, List, map, take, length, get_or, refl, ◌∙◌, ap, arith}
 use Rattle.std.specs.List.{All}
 use Rattle.std.proofs.lemmas.List.Elements.{All-append, All-map}
 use Rattle.std.proofs.lemmas.List.{length-append, length-map}
@@ -8,6 +8,7 @@ use Rattle.c_model.specs.Graph.{IsBelow, RefersWithin}
 use Rattle.c_model.specs.declared.graph.CType.{CType}
 use Rattle.c_model.specs.declared.graph.Ref.{Ref}
 use Rattle.c_model.specs.declared.graph.Ref.TheVariants.{Void, Node}
+use Rattle.packed_graph.specs.Packed.{moved as moved_behind, moved_by}
 use Rattle.split_base.specs.Graphs.{moved, moved_type, joined}
 
 -- a reference in range stays so where there are more nodes
@@ -38,3 +39,21 @@ joined_within types nodes t n =
 -- and those of its base nodes in range of these
 pub base_of_joined : (types nodes : List CType) → take (length types) (joined types nodes) ≡ types
 base_of_joined types nodes = take-append_seam types (map (moved_type (length types)) nodes)
+
+moved-same : (k : ℕ) (r : Ref) → moved_behind k r ≡ moved k r
+moved-same k Void = refl
+moved-same k (Node x) =
+    let e : x + k ≡ k + x = omega arith in
+    ap Node e
+
+-- nodes that are moved in a packed list are moved
+pub moved_by-moved_type : (k : ℕ) (nodes : List CType) → moved_by k nodes ≡ map (moved_type k) nodes
+moved_by-moved_type k nodes =
+    λ i. map (λ (t : CType). record { label = t.label; targets = map (λ (r : Ref). moved-same k r i) t.targets }) nodes
+
+-- a packed list of types, and behind it nodes that are moved, are the joined ones
+pub joined-packed : (types nodes first own all : List CType) → first ≡ types → own ≡ nodes → all ≡ first ++ moved_by (length first) own → all ≡ joined types nodes
+joined-packed types nodes first own all f o a =
+    a ∙ ap (λ (ts : List CType). ts ++ moved_by (length ts) own) f
+    ∙ ap (λ (ns : List CType). types ++ moved_by (length types) ns) o
+    ∙ ap (λ (ns : List CType). types ++ ns) (moved_by-moved_type (length types) nodes)

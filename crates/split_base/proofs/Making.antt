@@ -1,8 +1,7 @@
 -- The types of a table, by the places of the classes of all nodes.
-use Rattle.std.proofs.Common.{◌≡◌, ◌<◌, ◌≤◌, ◌+◌, ◌-◌, ◌++◌, ℕ, suc, zero, Bool, true, false, List, [], ◌∷◌, Option, None, Some, map, take, length, get_or, refl, sym, ◌∙◌, ap, subst, arith, eqb, unwrap_or, ⊎_elim}
+use Rattle.std.proofs.Common.{◌≡◌, ◌<◌, ◌≤◌, ◌+◌, ◌-◌, ◌++◌, ℕ, suc, zero, Bool, true, false, List, [], ◌∷◌, Option, map, take, length, get_or, refl, sym, ◌∙◌, ap, subst, arith, eqb, unwrap_or}
 use Rattle.std.specs.List.{All, AllByRecursion, cons_option, filter, filter_map, find, position_or_len, range_with_len, slice_index}
-use Rattle.std.proofs.lemmas.Bool.{and_parts, cases_lt, eq-eqb, eqb-true, ne_eqb}
-use Rattle.std.proofs.lemmas.List.{get_or-map, length-map}
+use Rattle.std.proofs.lemmas.Bool.{eq-eqb, eqb-true, ne_eqb}
 use Rattle.std.proofs.lemmas.List.Elements.{All-from_recursion, All-from_get_or, All-get_or, All-map}
 use Rattle.std.proofs.lemmas.List.Sums.{position_or_len_is}
 use Rattle.std.proofs.lemmas.List.FromFn.{length-map-range_with_len, get_or-map-range_with_len}
@@ -11,8 +10,8 @@ use Rattle.c_model.specs.Graph.{Shape, RefersWithin}
 use Rattle.c_model.specs.Laws.{AreOneRelation}
 use Rattle.split_base.specs.Table.{first_of, own_firsts, is_plain, source_of, place_of, type_of, own_types, table_of}
 use Rattle.split_base.specs.Building.{source_by, type_by}
-use Rattle.split_base.proofs.Firsts.{base_place, first_of-le, own_place_is, place_of-same, place_of-apart}
-use Rattle.split_base.proofs.Tables.{all_kept, found, place_of-below, length-table_of, source_of-below}
+use Rattle.split_base.proofs.Firsts.{own_place_is, place_of-same, place_of-apart}
+use Rattle.split_base.proofs.Tables.{all_kept, place_of-below, length-table_of, source_of-below}
 use Rattle.split_base.proofs.Relations.{filter_map_same, plain_same, renamed_type_same}
 
 -- the numbers of a range that pass a test rise
@@ -99,32 +98,6 @@ module _ (g : Shape) (p : List ℕ) (covers : length p ≡ length g.nodes) (fits
         (All-map (λ (s : ℕ). s < length g.nodes) (source_by g nodes) (own_firsts g p)
         (All-from_recursion (λ (x : ℕ). source_by g nodes x < length g.nodes) (own_firsts g p)
         (each_first (λ (x : ℕ). source_by g nodes x < length g.nodes) (λ (x : ℕ) (w : IsFirst x). omega (arith, source_is x w, source_of-below g p covers x w.node)))))
-
-    source_placed : (x : ℕ) → get_or nodes (source_by g nodes x) 0 ≡ get_or nodes x 0
-    source_placed x = by (find (is_plain g nodes x) (range_with_len 0 (length g.nodes))) refl
-      where
-        by : (o : Option ℕ) → find (is_plain g nodes x) (range_with_len 0 (length g.nodes)) ≡ o → get_or nodes (source_by g nodes x) 0 ≡ get_or nodes x 0
-        by None e = ap (λ (u : Option ℕ). get_or nodes (unwrap_or u x) 0) e
-        by (Some k) e = ap (λ (u : Option ℕ). get_or nodes (unwrap_or u x) 0) e ∙ eqb-true _ _ (and_parts _ _ (found (is_plain g nodes x) (length g.nodes) k e).1).0
-
-    -- the source of an own class is of it
-    pub sources_placed : (sources : List ℕ) → sources ≡ map (source_by g nodes) firsts → (i : ℕ) → i < length sources → get_or nodes (get_or sources i 0) 0 ≡ g.base + i
-    sources_placed sources e i h =
-        let lt : i < length firsts = omega (arith, ap length e, length-map firsts (source_by g nodes)) in
-        ap (λ (ss : List ℕ). get_or nodes (get_or ss i 0) 0) e
-        ∙ ap (λ (k : ℕ). get_or nodes k 0) (get_or-map (source_by g nodes) firsts i 0 0 lt)
-        ∙ source_placed (get_or firsts i 0) ∙ firsts_placed i lt
-
-    -- so it is no base node
-    pub sources_own : (sources : List ℕ) → sources ≡ map (source_by g nodes) firsts → All (λ (s : ℕ). g.base ≤ s) sources
-    sources_own sources e = All-from_get_or (λ (s : ℕ). g.base ≤ s) sources 0
-        (λ (i : ℕ) (h : i < length sources). own_node (get_or sources i 0) i (All-get_or (λ (s : ℕ). s < length g.nodes) sources i 0 h (sources_below sources e)) (sources_placed sources e i h))
-      where
-        own_node : (s i : ℕ) → s < length g.nodes → get_or nodes s 0 ≡ g.base + i → g.base ≤ s
-        own_node s i b at = ⊎_elim
-            (λ (l : s < g.base). absurd (omega (arith, at, place_at s b, first_of-le p s, base_place g p covers s (omega (arith, first_of-le p s)))))
-            (λ (l : g.base ≤ s). l)
-            (cases_lt s g.base)
 
     pub table_made : RefersWithin (length g.nodes) g.nodes → (sources : List ℕ) (types : List CType) → sources ≡ map (source_by g nodes) firsts
         → types ≡ take g.base g.nodes ++ filter_map (type_by g nodes) sources → types ≡ table_of g p

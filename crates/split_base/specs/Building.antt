@@ -1,6 +1,6 @@
 -- What the passes over the nodes keep while a table is made.
-use Rattle.std.specs.Prelude.{ℕ, ◌≡◌, ◌+◌, ◌-◌, ◌<◌, ◌≤◌, ◌==◌, ◌&&◌, ◌⊎◌, not, nat_lt, is_some, List, [], ◌∷◌, ◌++◌, length, take, slice_get, slice_index, slice_index_or, find, unwrap_or, All, Option, None, Some, Result, Ok, Err, if◌then◌else◌}
-use Rattle.std.specs.List.{filter, filter_map, position_or_len, range_with_len}
+use Rattle.std.specs.Prelude.{ℕ, ◌≡◌, ◌+◌, ◌-◌, ◌<◌, ◌==◌, ◌&&◌, ◌⊎◌, not, nat_lt, is_some, List, [], ◌∷◌, ◌++◌, length, slice_get, slice_index, slice_index_or, find, unwrap_or, All, Option, None, Some, Result, Ok, Err, if◌then◌else◌}
+use Rattle.std.specs.List.{filter, position_or_len, range_with_len}
 use Rattle.std.specs.Option.{option_map}
 use Rattle.btf_codec.specs.Spelling.{HasOffset}
 use Rattle.btf_codec.specs.declared.layout.Layout.{Layout}
@@ -56,14 +56,6 @@ source_by g places f = unwrap_or (find (is_plain g places f) (range_with_len 0 (
 -- a node as a type of the table, by the places of the classes of all nodes
 abbrev pub type_by : Shape → List ℕ → ℕ → Option CType
 type_by g places s = option_map (renamed_type (slice_index places)) (slice_get g.nodes s)
-
--- the nodes of the first i sources are taken, as types of the table. The base's nodes and those of the classes to come are as they
--- were
-pub record AreTaken (g : Shape) (places sources : List ℕ) (i : ℕ) (own nodes : List CType) : Type 0 where
-  pub types : own ≡ filter_map (type_by g places) (take i sources)
-  pub sized : length nodes ≡ length g.nodes
-  pub base : take g.base nodes ≡ take g.base g.nodes
-  pub left : (x : ℕ) → g.base + i ≤ slice_index places x → slice_get nodes x ≡ slice_get g.nodes x
 
 -- names are put in order
 unfoldable pub with_names : Names → List (List ℕ) → Names

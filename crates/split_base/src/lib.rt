@@ -22,5 +22,5 @@ mod tests;
 mod types;
 
 pub use fault::TableFault;
-pub use graph::{graph_of, with_base};
+pub use graph::{graph_of, with_base, with_base_packed};
 pub use table::build;

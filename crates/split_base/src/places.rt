@@ -5,7 +5,7 @@ ghost use Rattle.std.specs.List.{range_with_len};
 ghost use Rattle.split_base.specs.Table.{own_firsts, place_of};
 ghost use Rattle.split_base.specs.Building.{IsPlaced, TakesPlace};
 
-use c_model::{Classes, Graph};
+use c_model::{Classes, TypeGraph};
 use std::alloc::{AllocError, Global};
 use std::collections::HashMap;
 
@@ -19,11 +19,15 @@ pub struct Places {
 }
 
 /// The places of a partition's classes, in one pass over the nodes.
-pub fn places_of(alloc: Global, graph: &Graph<'_>, classes: &Classes) -> Result<Places, AllocError>
-    requires { length classes.now ≡ length graph.now.nodes }
+pub fn places_of<'a, G: TypeGraph<'a>>(
+    alloc: Global,
+    graph: &G,
+    classes: &Classes,
+) -> Result<Places, AllocError>
+    requires { length classes.now ≡ length (G.shape graph.now).nodes }
     ensures nodes { IfOk result (λ s. s.nodes.items
-        ≡ map (place_of graph.now classes.now) (range_with_len 0 (length graph.now.nodes))) }
-    ensures firsts { IfOk result (λ s. s.firsts.items ≡ own_firsts graph.now classes.now) }
+        ≡ map (place_of (G.shape graph.now) classes.now) (range_with_len 0 (length (G.shape graph.now).nodes))) }
+    ensures firsts { IfOk result (λ s. s.firsts.items ≡ own_firsts (G.shape graph.now) classes.now) }
 {
     let count = graph.len();
     let mut known = HashMap::new(alloc);
@@ -36,18 +40,18 @@ pub fn places_of(alloc: Global, graph: &Graph<'_>, classes: &Classes) -> Result<
 }
 
 /// The place of the class of a node. `known` has the places of the classes of the nodes before it, by class number.
-fn class_place(
-    graph: &Graph<'_>,
+fn class_place<'a, G: TypeGraph<'a>>(
+    graph: &G,
     classes: &Classes,
     x: u32,
     known: &mut HashMap<u32, u32>,
     firsts: &mut Vec<u32>,
 ) -> Result<u32, AllocError>
-    requires covers { length classes.now ≡ length graph.now.nodes }
-    requires node { x < length graph.now.nodes }
-    requires before { IsPlaced graph.now classes.now x (get nat_eq known.old) firsts.old.items }
-    ensures after { OnOk result (IsPlaced graph.now classes.now (x + 1) (get nat_eq known.new) firsts.new.items) }
-    ensures place { IfOk result (λ place. place ≡ place_of graph.now classes.now x) }
+    requires covers { length classes.now ≡ length (G.shape graph.now).nodes }
+    requires node { x < length (G.shape graph.now).nodes }
+    requires before { IsPlaced (G.shape graph.now) classes.now x (get nat_eq known.old) firsts.old.items }
+    ensures after { OnOk result (IsPlaced (G.shape graph.now) classes.now (x + 1) (get nat_eq known.new) firsts.new.items) }
+    ensures place { IfOk result (λ place. place ≡ place_of (G.shape graph.now) classes.now x) }
 {
     let number = classes.of(x);
     if let Some(place) = known.get(&number) {

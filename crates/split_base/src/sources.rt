@@ -5,17 +5,21 @@ ghost use Rattle.c_model.specs.Forwards.{forward_at};
 ghost use Rattle.split_base.specs.Building.{IsNoted, source_by};
 
 use crate::places::Places;
-use c_model::Graph;
+use c_model::TypeGraph;
 use forward_rule::FwdIndex;
 use std::alloc::{AllocError, Global};
 
 /// The node that gives each own class its type: its first that is no forward, or its first if all are.
-pub fn sources_of(alloc: Global, graph: &Graph<'_>, places: &Places) -> Result<Vec<u32>, AllocError>
-    requires covers { length places.now.nodes.items ≡ length graph.now.nodes }
-    requires within { All (λ place. place < graph.now.base + length places.now.firsts.items) places.now.nodes.items }
+pub fn sources_of<'a, G: TypeGraph<'a>>(
+    alloc: Global,
+    graph: &G,
+    places: &Places,
+) -> Result<Vec<u32>, AllocError>
+    requires covers { length places.now.nodes.items ≡ length (G.shape graph.now).nodes }
+    requires within { All (λ place. place < (G.shape graph.now).base + length places.now.firsts.items) places.now.nodes.items }
     requires firsts { EachIndex places.now.firsts.items
-        (λ i. slice_index places.now.nodes.items (slice_index places.now.firsts.items i) ≡ graph.now.base + i) }
-    ensures { IfOk result (λ s. s.items ≡ map (source_by graph.now places.now.nodes.items) places.now.firsts.items) }
+        (λ i. slice_index places.now.nodes.items (slice_index places.now.firsts.items i) ≡ (G.shape graph.now).base + i) }
+    ensures { IfOk result (λ s. s.items ≡ map (source_by (G.shape graph.now) places.now.nodes.items) places.now.firsts.items) }
 {
     let plain = plain_nodes(alloc, graph, &places.nodes, places.firsts.len())?;
     let mut sources = Vec::with_capacity(alloc, places.firsts.len())?;
@@ -26,16 +30,16 @@ pub fn sources_of(alloc: Global, graph: &Graph<'_>, places: &Places) -> Result<V
 }
 
 /// The first node of each own class that is no forward. `None` where all are.
-fn plain_nodes(
+fn plain_nodes<'a, G: TypeGraph<'a>>(
     alloc: Global,
-    graph: &Graph<'_>,
+    graph: &G,
     places: &[u32],
     own: usize,
 ) -> Result<Vec<Option<u32>>, AllocError>
-    requires covers { length places.now ≡ length graph.now.nodes }
-    requires within { All (λ place. place < graph.now.base + own) places.now }
+    requires covers { length places.now ≡ length (G.shape graph.now).nodes }
+    requires within { All (λ place. place < (G.shape graph.now).base + own) places.now }
     ensures len { IfOk result (λ v. length v.items ≡ own) }
-    ensures noted { IfOk result (λ v. IsNoted graph.now places.now (length graph.now.nodes) v.items) }
+    ensures noted { IfOk result (λ v. IsNoted (G.shape graph.now) places.now (length (G.shape graph.now).nodes) v.items) }
 {
     let mut plain = vec![in alloc; None; own]?;
     for x in 0..graph.len() {
@@ -45,12 +49,12 @@ fn plain_nodes(
 }
 
 /// Notes a node, if it is the first of an own class that is no forward.
-fn note_node(graph: &Graph<'_>, places: &[u32], x: u32, plain: &mut [Option<u32>])
-    requires covers { length places.now ≡ length graph.now.nodes }
-    requires node { x < length graph.now.nodes }
-    requires within { slice_index places.now x < graph.now.base + length plain.old }
-    requires before { IsNoted graph.now places.now x plain.old }
-    ensures { IsNoted graph.now places.now (x + 1) plain.new }
+fn note_node<'a, G: TypeGraph<'a>>(graph: &G, places: &[u32], x: u32, plain: &mut [Option<u32>])
+    requires covers { length places.now ≡ length (G.shape graph.now).nodes }
+    requires node { x < length (G.shape graph.now).nodes }
+    requires within { slice_index places.now x < (G.shape graph.now).base + length plain.old }
+    requires before { IsNoted (G.shape graph.now) places.now x plain.old }
+    ensures { IsNoted (G.shape graph.now) places.now (x + 1) plain.new }
 {
     let base = graph.base();
     let place = places[x as usize];
@@ -63,9 +67,9 @@ fn note_node(graph: &Graph<'_>, places: &[u32], x: u32, plain: &mut [Option<u32>
 
 /// The first node of a class that is no forward, where `known` is that among the nodes before `x`, which is of the
 /// class too.
-fn first_plain(graph: &Graph<'_>, x: u32, known: Option<u32>) -> Option<u32>
-    requires { x < length graph.now.nodes }
-    ensures { result ≡ option_or known (if is_some (forward_at graph.now x) then None else Some x) }
+fn first_plain<'a, G: TypeGraph<'a>>(graph: &G, x: u32, known: Option<u32>) -> Option<u32>
+    requires { x < length (G.shape graph.now).nodes }
+    ensures { result ≡ option_or known (if is_some (forward_at (G.shape graph.now) x) then None else Some x) }
 {
     if known.is_some() || FwdIndex::is_forward(graph, x) {
         return known;

@@ -19,7 +19,7 @@ use crate::places::places_of;
 use crate::sources::sources_of;
 use crate::types::types_of;
 use btf_codec::TableOut;
-use c_model::{CType, Classes, Graph, Nodes};
+use c_model::{CType, Classes, Nodes, TypeGraph};
 use std::alloc::Global;
 
 /// The last id of a table.
@@ -31,26 +31,25 @@ const LAST_ID: u64 = 0x000f_ffff;
 /// the own types are put in id order, a type's name before those of its parts, over the base's string section
 /// `base_names`, where there is one.
 ///
-/// The graph is taken: its nodes become the types of the table. They are moved with their parts, names and targets, and
-/// the other nodes are let go.
+/// The graph may be kept in any way. Its labels that become those of types are copied; their names are borrowed.
 ///
 /// It is refused by `TooManyTypes`, with the number of types, exactly where there are more than 0x000fffff; else by
 /// `NamesTooLong`, with the offset, at the first name that would get one past 0x00ffffff; else by `TableTooLong`, with
 /// the number of bytes, exactly where the own types and the own strings take more than 2^32 - 1 bytes. It is never
 /// refused by `NodesTooMany`.
-pub fn build<'a>(
+pub fn build<'a, G: TypeGraph<'a>>(
     alloc: Global,
-    graph: Graph<'a>,
+    graph: &G,
     classes: &Classes,
     base_names: Option<&'a [u8]>,
 ) -> Result<TableOut<'a>, TableFault>
-    requires covers { length classes.now ≡ length graph.nodes }
-    requires well { All IsWellFormed graph.nodes }
+    requires covers { length classes.now ≡ length (G.shape graph.now).nodes }
+    requires well { All IsWellFormed (G.shape graph.now).nodes }
     requires names { IfSome (option_copied base_names) IsSection }
-    ensures base { IfOk result (λ t. t.base ≡ graph.entry.base) }
-    ensures table { IfOk result (λ t. t.types ≡ table_of graph.entry classes.now) }
-    ensures own { IfOk result (λ t. drop t.base t.types ≡ own_types graph.entry classes.now) }
-    ensures strings { IfOk result (λ t. t.strings ≡ strings_of (option_copied base_names.entry) (own_types graph.entry classes.now)) }
+    ensures base { IfOk result (λ t. t.base ≡ (G.shape graph.now).base) }
+    ensures table { IfOk result (λ t. t.types ≡ table_of (G.shape graph.now) classes.now) }
+    ensures own { IfOk result (λ t. drop t.base t.types ≡ own_types (G.shape graph.now) classes.now) }
+    ensures strings { IfOk result (λ t. t.strings ≡ strings_of (option_copied base_names.entry) (own_types (G.shape graph.now) classes.now)) }
     // What can be written.
     ensures few { IfOk result (λ t. length t.types < 2 ^ 32) }
     ensures fits { IfOk result (λ t. t.base ≤ length t.types) }
@@ -59,9 +58,9 @@ pub fn build<'a>(
     ensures length { IfOk result (λ t. 4 * length (flat_map fields_of (drop t.base t.types))
         + length (own_section t.strings) < 2 ^ 32) }
     ensures formed { IfOk result (λ t. All IsWellFormed (drop t.base t.types)) }
-    ensures accepted { OnOk result (table_refusal (option_copied base_names.entry) graph.entry classes.now ≡ None) }
+    ensures accepted { OnOk result (table_refusal (option_copied base_names.entry) (G.shape graph.now) classes.now ≡ None) }
     ensures refusal { IfErr result (λ e. (e ≡ Memory)
-        ⊎ (table_refusal (option_copied base_names.entry) graph.entry classes.now ≡ Some e)) }
+        ⊎ (table_refusal (option_copied base_names.entry) (G.shape graph.now) classes.now ≡ Some e)) }
 {
     let base = graph.base();
     let types = table_types(alloc, graph, classes)?;
@@ -75,25 +74,25 @@ pub fn build<'a>(
     })
 }
 
-/// The types of the table of a partition, moved out of the graph.
-fn table_types<'a>(
+/// The types of the table of a partition.
+fn table_types<'a, G: TypeGraph<'a>>(
     alloc: Global,
-    graph: Graph<'a>,
+    graph: &G,
     classes: &Classes,
 ) -> Result<Vec<CType<'a>>, TableFault>
-    requires { length classes.now ≡ length graph.nodes }
-    ensures table { IfOk result (λ v. v.items ≡ table_of graph.entry classes.now) }
+    requires { length classes.now ≡ length (G.shape graph.now).nodes }
+    ensures table { IfOk result (λ v. v.items ≡ table_of (G.shape graph.now) classes.now) }
     ensures few { IfOk result (λ v. length v.items < 2 ^ 20) }
-    ensures accepted { OnOk result (types_refusal (length (table_of graph.entry classes.now)) ≡ None) }
+    ensures accepted { OnOk result (types_refusal (length (table_of (G.shape graph.now) classes.now)) ≡ None) }
     ensures refusal { IfErr result (λ e. (e ≡ Memory)
-        ⊎ (types_refusal (length (table_of graph.entry classes.now)) ≡ Some e)) }
+        ⊎ (types_refusal (length (table_of (G.shape graph.now) classes.now)) ≡ Some e)) }
     // Each reference is to a node of the graph.
-    ensures within { RefersWithin (length graph.entry.nodes) graph.entry.nodes }
+    ensures within { RefersWithin (length (G.shape graph.now).nodes) (G.shape graph.now).nodes }
 {
     let _ = graph.len();
-    let places = places_of(alloc, &graph, classes)?;
+    let places = places_of(alloc, graph, classes)?;
     check_count(u64::from(graph.base()) + places.firsts.len() as u64)?;
-    let sources = sources_of(alloc, &graph, &places)?;
+    let sources = sources_of(alloc, graph, &places)?;
     Ok(types_of(alloc, graph, &places.nodes, &sources)?)
 }
 

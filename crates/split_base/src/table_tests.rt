@@ -252,7 +252,7 @@ fn made(
     {
         return Err(Fail::from("not what a table is made of"));
     }
-    match build(alloc, graph, &classes, names) {
+    match build(alloc, &graph, &classes, names) {
         Ok(table) => Ok(table),
         Err(_) => Err(Fail::from("no table")),
     }

@@ -1,77 +1,90 @@
 //! The types of a table.
-ghost use Rattle.std.specs.Prelude.{◌≡◌, ◌<◌, ◌≤◌, ◌+◌, ◌++◌, [], All, EachIndex, length, map, slice_index, take, filter_map, IfOk};
+ghost use Rattle.std.specs.Prelude.{◌≡◌, ◌<◌, ◌≤◌, ◌+◌, ◌++◌, Some, All, length, map, slice_index, slice_get, take, filter_map, IfOk};
 ghost use Rattle.c_model.specs.Graph.{IsBelow};
+ghost use Rattle.c_model.specs.Partition.{targets_at};
 ghost use Rattle.split_base.specs.Building.{type_by};
-ghost use Rattle.split_base.specs.Table.{renamed, renamed_type};
+ghost use Rattle.split_base.specs.Table.{renamed};
 
-use c_model::{CType, Graph, Label, Parts, Ref, Refs};
-use dw_base::Name;
+use c_model::{CType, Ref, Refs, TypeGraph, copy_of_label};
 use std::alloc::{AllocError, Global};
-use std::mem;
 
 /// The base's types as they are, and behind them a type for each source, by the places of the classes of all nodes.
-/// All of them are nodes of the graph, moved and not copied. The other nodes are let go.
-pub fn types_of<'a>(
+pub fn types_of<'a, G: TypeGraph<'a>>(
     alloc: Global,
-    graph: Graph<'a>,
+    graph: &G,
     places: &[u32],
     sources: &[u32],
 ) -> Result<Vec<CType<'a>>, AllocError>
-    requires covers { length places.now ≡ length graph.nodes }
-    requires sources { All (λ s. s < length graph.nodes) sources.now }
-    requires own { All (λ s. graph.base ≤ s) sources.now }
-    // Each is of the class at its place, so that no node is the source of two classes.
-    requires apart { EachIndex sources.now
-        (λ i. slice_index places.now (slice_index sources.now i) ≡ graph.base + i) }
-    ensures { IfOk result (λ v. v.items
-        ≡ take graph.entry.base graph.entry.nodes ++ filter_map (type_by graph.entry places.now) sources.now) }
+    requires covers { length places.now ≡ length (G.shape graph.now).nodes }
+    requires sources { All (λ s. s < length (G.shape graph.now).nodes) sources.now }
+    ensures { IfOk result (λ v. v.items ≡ take (G.shape graph.now).base (G.shape graph.now).nodes
+        ++ filter_map (type_by (G.shape graph.now) places.now) sources.now) }
 {
-    let base = graph.base() as usize;
-    // Each reference is to a node of the graph.
-    let _ = graph.len();
-    let mut nodes = graph.into_nodes().into_items();
-    let mut own = Vec::with_capacity(alloc, sources.len())?;
+    let mut types = base_types(alloc, graph, sources.len())?;
     for source in sources {
-        let node = mem::replace(&mut nodes[*source as usize], nothing(alloc));
-        own.push(renamed_type(places, node))?;
+        types.push(renamed_node(alloc, graph, places, *source)?)?;
     }
-    nodes.truncate(base);
-    nodes.append(&mut own)?;
-    nodes.shrink_to_fit();
-    Ok(nodes)
+    Ok(types)
 }
 
-/// A type that stands where a node was taken away. It takes no memory.
-fn nothing<'a>(alloc: Global) -> CType<'a>
-    ensures parts { result.label.parts ≡ [] }
-    ensures targets { result.targets ≡ [] }
+/// The base's types as they are, in memory that has room for so many more.
+fn base_types<'a, G: TypeGraph<'a>>(
+    alloc: Global,
+    graph: &G,
+    more: usize,
+) -> Result<Vec<CType<'a>>, AllocError>
+    ensures { IfOk result (λ v. v.items ≡ take (G.shape graph.now).base (G.shape graph.now).nodes) }
 {
-    CType {
-        label: Label {
-            kind: 0,
-            name: Name::new(b""),
-            flag: false,
-            size: 0,
-            extra: 0,
-            parts: Parts::new(Vec::new(alloc)),
-        },
-        targets: Refs::new(Vec::new(alloc)),
+    let _ = graph.len();
+    let base = graph.base();
+    let mut types = Vec::with_capacity(alloc, (base as usize).saturating_add(more))?;
+    for x in 0..base {
+        types.push(base_node(alloc, graph, x)?)?;
     }
+    Ok(types)
+}
+
+/// A node as it is.
+fn base_node<'a, G: TypeGraph<'a>>(
+    alloc: Global,
+    graph: &G,
+    x: u32,
+) -> Result<CType<'a>, AllocError>
+    requires { x < length (G.shape graph.now).nodes }
+    ensures { IfOk result (λ t. slice_get (G.shape graph.now).nodes x ≡ Some t) }
+{
+    let count = graph.target_count(x);
+    let mut targets = Vec::with_capacity(alloc, count)?;
+    for i in 0..count {
+        targets.push(graph.target(x, i))?;
+    }
+    Ok(CType {
+        label: copy_of_label(alloc, graph.label(x))?,
+        targets: Refs::new(targets),
+    })
 }
 
 /// A node as a type of the table: its label, and its targets as the types of their classes.
-fn renamed_type<'a>(places: &[u32], node: CType<'a>) -> CType<'a>
-    requires { All (IsBelow (length places.now)) node.targets }
-    ensures { result ≡ renamed_type (slice_index places.now) node.entry }
+fn renamed_node<'a, G: TypeGraph<'a>>(
+    alloc: Global,
+    graph: &G,
+    places: &[u32],
+    x: u32,
+) -> Result<CType<'a>, AllocError>
+    requires covers { length places.now ≡ length (G.shape graph.now).nodes }
+    requires node { x < length (G.shape graph.now).nodes }
+    ensures { IfOk result (λ t. type_by (G.shape graph.now) places.now x ≡ Some t) }
 {
-    let mut targets = node.targets.into_items();
-    for target in targets.iter_mut() {
-        *target = renamed_target(places, *target);
+    let _ = graph.len();
+    let count = graph.target_count(x);
+    let mut targets = Vec::with_capacity(alloc, count)?;
+    for i in 0..count {
+        targets.push(renamed_target(places, graph.target(x, i)))?;
     }
-    CType {
-        label: node.label,
+    Ok(CType {
+        label: copy_of_label(alloc, graph.label(x))?,
         targets: Refs::new(targets),
-    }
+    })
 }
 
 fn renamed_target(places: &[u32], target: Ref) -> Ref

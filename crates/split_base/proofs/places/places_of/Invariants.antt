@@ -6,7 +6,7 @@ use Rattle.split_base.specs.Building.{IsPlaced}
 use Rattle.split_base.proofs.places.places_of.Given as goal
 
 abbrev pub invariant-loop-x : goal.invariant-loop-x
-invariant-loop-x l = record {
-  placed : IsPlaced l.graph l.classes l.x (get nat_eq l.known) l.firsts.items;
-  nodes : l.nodes.items ≡ map (place_of l.graph l.classes) (range_with_len 0 l.x);
+invariant-loop-x b l = record {
+  placed : IsPlaced (b.G.TypeGraph.shape l.graph) l.classes l.x (get nat_eq l.known) l.firsts.items;
+  nodes : l.nodes.items ≡ map (place_of (b.G.TypeGraph.shape l.graph) l.classes) (range_with_len 0 l.x);
 }

@@ -5,8 +5,8 @@ use Rattle.split_base.proofs.Noting.{source_noted}
 use Rattle.split_base.proofs.sources.sources_of.Goals as goal
 
 pub loop-i-preserved : goal.loop-i-preserved
-loop-i-preserved c =
-    let g = c.args.graph.now in
+loop-i-preserved b c =
+    let g = (b.G.TypeGraph.shape c.args.graph.now) in
     let nodes : List ℕ = c.args.places.now.nodes.items in
     let firsts : List ℕ = c.args.places.now.firsts.items in
     let plain : List (Option ℕ) = c.in_ok-plain.plain.items in
