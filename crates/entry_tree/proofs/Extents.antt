@@ -4,7 +4,7 @@ use Rattle.std.proofs.lemmas.Bool.{leb-true, eqb-true, or_cases}
 use Rattle.dw_base.specs.Numbers.{number_of}
 use Rattle.dw_base.specs.declared.numbers.Order.{Order}
 use Rattle.dwarf_forms.specs.Forms.{HasWidth}
-use Rattle.entry_tree.specs.Units.{◌>>=◌, or_short, extent_of, extent_at, fields_of_5, fields_of, check_type, check_address, unit_at, IsInside}
+use Rattle.entry_tree.specs.Units.{◌>>=◌, or_short, extent_of, extent_at, fields_of_4, fields_of_5, fields_of, type_in, check_address, unit_at, IsInside}
 use Rattle.entry_tree.specs.declared.unit.Unit.{Unit}
 use Rattle.entry_tree.specs.declared.unit.UnitFault.{UnitFault}
 use Rattle.entry_tree.specs.declared.unit.UnitFault.TheVariants.{UnitLength, UnitVersion, AddressSize}
@@ -68,9 +68,15 @@ four_or_eight at size n h =
     (λ (eight : (size == 8) ≡ true). let e : size ≡ 8 = eqb-true size 8 eight in (omega (arith, p.1), omega (arith, p.1))) (or_cases (size == 4) (size == 8) p.0)
 
 fields_first : (at version after width : ℕ) (f : Fields) → fields_of at version after width ≡ Ok f → after < f.first
-fields_first at version after width f h =
-    let p = if_ok (version == 5) (fields_of_5 after width) f (UnitVersion at version) h in
-    let e : f.first ≡ after + 2 + width = ap (λ (x : Fields). x.first) (sym p.1) in omega arith
+fields_first at version after width f h = by (version == 4) h
+  where
+    by : (b : Bool) → (if b then Ok (fields_of_4 after width) else if version == 5 then Ok (fields_of_5 after width) else Err (UnitVersion at version)) ≡ Ok f → after < f.first
+    by true h =
+        let p : fields_of_4 after width ≡ f = cc in
+        let e : f.first ≡ after + width + 1 = ap (λ (x : Fields). x.first) (sym p) in omega arith
+    by false h =
+        let p = if_ok (version == 5) (fields_of_5 after width) f (UnitVersion at version) h in
+        let e : f.first ≡ after + 2 + width = ap (λ (x : Fields). x.first) (sym p.1) in omega arith
 
 each : {A B : Type 0} (P : B → Type 0) (r : Result A UnitFault) (f : A → Result B UnitFault) → ((x : A) → r ≡ Ok x → IfOk (f x) P) → IfOk (r >>= f) P
 each P (Ok x) f h = h x refl
@@ -83,7 +89,7 @@ unit_lies info order at =
     each (IsWithin info at) (or_short at (number_of (take e.end info) e.after 2 order)) _ (λ (version : ℕ) (there : or_short at (number_of (take e.end info) e.after 2 order) ≡ Ok version).
     each (IsWithin info at) (fields_of at version (e.after + 2) e.offset_bytes) _ (λ (f : Fields) (fields : fields_of at version (e.after + 2) e.offset_bytes ≡ Ok f).
     each (IsWithin info at) (if nat_le f.first e.end then Ok f else Err (UnitLength at)) _ (λ (w : Fields) (whole : (if nat_le f.first e.end then Ok f else Err (UnitLength at)) ≡ Ok w).
-    each (IsWithin info at) (check_type at (get_or (take e.end info) f.unit_type_at 0)) _ (λ (t : ℕ) (kind : check_type at (get_or (take e.end info) f.unit_type_at 0) ≡ Ok t).
+    each (IsWithin info at) (type_in (take e.end info) at f.unit_type_at) _ (λ (t : ℕ) (kind : type_in (take e.end info) at f.unit_type_at ≡ Ok t).
     each (IsWithin info at) (check_address at (get_or (take e.end info) f.address_size_at 0)) _ (λ (size : ℕ) (address : check_address at (get_or (take e.end info) f.address_size_at 0) ≡ Ok size).
     let lies : Lies info at e = extent_inside info order at e extent in
     let begins : e.after + 2 < f.first = fields_first at version (e.after + 2) e.offset_bytes f fields in

@@ -1,4 +1,5 @@
--- The units of .debug_info (DWARF 5, sections 7.4 and 7.5.1): their headers follow one another from 0 to the section's end.
+-- The units of .debug_info (DWARF 5, sections 7.4 and 7.5.1; DWARF 4, section 7.5.1.1): their headers follow one another from 0 to the
+-- section's end.
 use Rattle.std.specs.Prelude.{ℕ, zero, suc, ◌≡◌, ◌+◌, ◌<◌, ◌≤◌, ◌==◌, ◌||◌, nat_lt, nat_le, get_or, List, [], ◌∷◌, ◌++◌, length, take, Option, None, Some, Result, Ok, Err, if◌then◌else◌, ⊤}
 use Rattle.std.specs.Option.{unwrap_or}
 use Rattle.dw_base.specs.Numbers.{number_of}
@@ -39,13 +40,18 @@ extent_at info order at =
     if short == 0xffffffff then (or_short at (number_of info (at + 4) 8 order) >>= λ (long : ℕ). extent_of info at 8 (at + 12) long)
     else (if nat_lt short 0xfffffff0 then extent_of info at 4 (at + 4) short else Err (UnitLength at))
 
--- where the fields behind the version stand, and the unit's first entry
+-- where the fields behind the version stand, and behind them the unit's first entry, where an offset has w bytes. In the order of the bytes:
+--   DWARF 4, section 7.5.1.1: debug_abbrev_offset (w), address_size (1)
+--   DWARF 5, section 7.5.1:   unit_type (1), address_size (1), debug_abbrev_offset (w)
+abbrev pub fields_of_4 : ℕ → ℕ → Fields
+fields_of_4 after w = record { unit_type_at = None; abbrev_at = after; address_size_at = after + w; first = after + w + 1 }
+
 abbrev pub fields_of_5 : ℕ → ℕ → Fields
-fields_of_5 after offset_bytes = record { unit_type_at = after; address_size_at = after + 1; abbrev_at = after + 2; first = after + 2 + offset_bytes }
+fields_of_5 after w = record { unit_type_at = Some after; abbrev_at = after + 2; address_size_at = after + 1; first = after + 2 + w }
 
 -- the versions that are read
 abbrev pub fields_of : ℕ → ℕ → ℕ → ℕ → Result Fields UnitFault
-fields_of at version after offset_bytes = if version == 5 then Ok (fields_of_5 after offset_bytes) else Err (UnitVersion at version)
+fields_of at version after w = if version == 4 then Ok (fields_of_4 after w) else if version == 5 then Ok (fields_of_5 after w) else Err (UnitVersion at version)
 
 -- an offset in the unit's bytes
 abbrev pub offset_in : List ℕ → Order → ℕ → ℕ → ℕ
@@ -55,18 +61,23 @@ offset_in unit order at width = unwrap_or (number_of unit at width order) 0
 abbrev pub check_type : ℕ → ℕ → Result ℕ UnitFault
 check_type at unit_type = if unit_type == DW_UT_compile || unit_type == DW_UT_partial then Ok unit_type else Err (UnitType at unit_type)
 
+-- the unit's type; a header without one is that of a compilation unit
+abbrev pub type_in : List ℕ → ℕ → Option ℕ → Result ℕ UnitFault
+type_in unit at (Some place) = check_type at (get_or unit place 0)
+type_in unit at None = Ok DW_UT_compile
+
 abbrev pub check_address : ℕ → ℕ → Result ℕ UnitFault
 check_address at size = if size == 4 || size == 8 then Ok size else Err (AddressSize at size)
 
 -- the header of the unit at a place, or the first of its checks that fails: the length, two bytes of version, the version, the
--- whole header inside the unit, the unit's type and the size of its addresses
+-- whole header of that version inside the unit, the unit's type in version 5, and the size of its addresses
 unfoldable pub unit_at : List ℕ → Order → ℕ → Result Unit UnitFault
 unit_at info order at =
     extent_at info order at >>= λ (e : Extent).
     or_short at (number_of (take e.end info) e.after 2 order) >>= λ (version : ℕ).
     fields_of at version (e.after + 2) e.offset_bytes >>= λ (f : Fields).
     (if nat_le f.first e.end then Ok f else Err (UnitLength at)) >>= λ (whole : Fields).
-    check_type at (get_or (take e.end info) f.unit_type_at 0) >>= λ (unit_type : ℕ).
+    type_in (take e.end info) at f.unit_type_at >>= λ (unit_type : ℕ).
     check_address at (get_or (take e.end info) f.address_size_at 0) >>= λ (address_bytes : ℕ).
     Ok (record {
       at = at;

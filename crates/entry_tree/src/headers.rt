@@ -1,7 +1,7 @@
 //! Headers of units.
 ghost use Rattle.std.specs.Prelude.{◌≡◌, ◌≤◌, ◌<◌, ◌^◌, ◌+◌, length, get_or, IfOk, All};
 ghost use Rattle.dw_base.specs.Numbers.{number_of};
-ghost use Rattle.entry_tree.specs.Units.{extent_of, extent_at, fields_of, check_type, check_address, offset_in, unit_at, units_of, IsInside, Gives, Reads};
+ghost use Rattle.entry_tree.specs.Units.{extent_of, extent_at, fields_of, check_type, type_in, check_address, offset_in, unit_at, units_of, IsInside, Gives, Reads};
 ghost use Rattle.entry_tree.specs.Images.{info_of};
 ghost use Rattle.entry_tree.specs.Contexts.{IsUnitOf};
 ghost use Rattle.elf_sections.specs.Images.{file_of};
@@ -29,10 +29,10 @@ struct Extent {
     offset_bytes: u32,
 }
 
-/// Where the fields behind the version stand, and the unit's first entry.
+/// Where the fields behind the version stand, and the unit's first entry. Headers of version 4 have no unit type.
 #[derive(Clone, Copy, Debug)]
 struct Fields {
-    unit_type_at: u64,
+    unit_type_at: Option<u64>,
     address_size_at: u64,
     abbrev_at: u64,
     first: u64,
@@ -118,15 +118,21 @@ fn read_fields(at: u64, version: u16, after: u64, offset_bytes: u32) -> Result<F
     requires width { offset_bytes ≤ 8 }
     ensures { result ≡ fields_of at version after offset_bytes }
 {
-    if version == 5 {
-        Ok(Fields {
-            unit_type_at: after,
+    let offset_bytes = u64::from(offset_bytes);
+    match version {
+        4 => Ok(Fields {
+            unit_type_at: None,
+            address_size_at: after + offset_bytes,
+            abbrev_at: after,
+            first: after + offset_bytes + 1,
+        }),
+        5 => Ok(Fields {
+            unit_type_at: Some(after),
             address_size_at: after + 1,
             abbrev_at: after + 2,
-            first: after + 2 + u64::from(offset_bytes),
-        })
-    } else {
-        Err(UnitFault::UnitVersion(at, version))
+            first: after + 2 + offset_bytes,
+        }),
+        _ => Err(UnitFault::UnitVersion(at, version)),
     }
 }
 
@@ -137,6 +143,16 @@ fn check_unit_type(at: u64, unit_type: u8) -> Result<u8, UnitFault>
         Ok(unit_type)
     } else {
         Err(UnitFault::UnitType(at, unit_type))
+    }
+}
+
+/// The type of the unit: a compilation unit where its header has none.
+fn read_unit_type(unit: &[u8], at: u64, place: Option<u64>) -> Result<u8, UnitFault>
+    ensures { result ≡ type_in unit.now at place }
+{
+    match place {
+        Some(place) => check_unit_type(at, read_byte(unit, place)),
+        None => Ok(DW_UT_compile),
     }
 }
 
@@ -165,7 +181,7 @@ fn read_unit(info: &[u8], order: Order, at: u64) -> Result<Unit, UnitFault>
     if fields.first > extent.end {
         return Err(UnitFault::UnitLength(at));
     }
-    let unit_type = check_unit_type(at, read_byte(unit, fields.unit_type_at))?;
+    let unit_type = read_unit_type(unit, at, fields.unit_type_at)?;
     let address_bytes = check_address_size(at, read_byte(unit, fields.address_size_at))?;
     Ok(Unit {
         at,
@@ -201,8 +217,9 @@ fn read_units(alloc: Global, info: &[u8], order: Order) -> Result<UnitList, Unit
 ///
 /// The first header that fails refuses the image, by the first of these checks: `UnitLength` where its length is
 /// cut off or reserved, where the unit passes the section's end, or where its version is cut off; `UnitVersion`
-/// where that is not 5; `UnitLength` where the header passes the unit's end; `UnitType` where the unit is neither
-/// a compilation unit nor a partial unit; `AddressSize` where addresses have neither 4 nor 8 bytes.
+/// where that is neither 4 nor 5; `UnitLength` where the header of that version passes the unit's end; `UnitType`
+/// where a unit of version 5 is neither a compilation unit nor a partial unit; `AddressSize` where addresses have
+/// neither 4 nor 8 bytes.
 pub fn units(alloc: Global, image: &Image<'_>) -> Result<UnitList, UnitFault>
     ensures gives { Gives result (units_of (info_of (file_of image.now)) (order_of (file_of image.now))) }
     ensures reads { Reads (info_of (file_of image.now)) (order_of (file_of image.now)) result }

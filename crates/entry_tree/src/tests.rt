@@ -262,6 +262,7 @@ fn damaged_units(rt: HostRuntime) -> Result<(), Fail> {
     let info = [
         (0, 19, Outcome::Header(UnitFault::UnitLength(0))),
         (4, 3, Outcome::Header(UnitFault::UnitVersion(0, 3))),
+        (4, 4, Outcome::Header(UnitFault::AddressSize(0, 0))),
         (6, 2, Outcome::Header(UnitFault::UnitType(0, 2))),
         (7, 2, Outcome::Header(UnitFault::AddressSize(0, 2))),
         (0, 7, Outcome::Header(UnitFault::UnitLength(0))),
@@ -333,7 +334,8 @@ fn units_by_hand(rt: HostRuntime) -> Result<(), Fail> {
         b"\xff\xff\xff\xff\x17\0\0\0\0\0\0\0\x05\0\x03\x08\0\0\0\0\0\0\0\0\x01\x1d\x02int\0\x04\x05\x80\0";
     let padded: &[u8] =
         b"\x17\0\0\0\x05\0\x01\x08\0\0\0\0\x01\x1d\x02int\0\x04\x05\x80\0\0\x80\x80\0";
-    for (info, first) in [(long, 24), (padded, 12)] {
+    let of_version_4: &[u8] = b"\x11\0\0\0\x04\0\0\0\0\0\x08\x01\x1d\x02int\0\x04\x05\0";
+    for (info, first) in [(long, 24), (padded, 12), (of_version_4, 11)] {
         let file = file_of(alloc, info, &PLAIN_ABBREV, &[], &[])?;
         match walked(alloc, &file) {
             Ok(entries) => assert_eq!(rt;

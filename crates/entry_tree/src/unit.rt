@@ -5,7 +5,7 @@ use std::alloc::AllocFailed;
 use std::marker::Model;
 use thiserror::Error;
 
-/// The header of a unit (DWARF 5, section 7.5.1). All offsets count from the first byte of `.debug_info`.
+/// The header of a unit (DWARF 5, section 7.5.1; DWARF 4, section 7.5.1.1). All offsets count from the first byte of `.debug_info`.
 #[derive(Clone, Copy, Debug, PartialEq, Eq)]
 pub struct Unit {
     /// The offset of the unit's first byte.
@@ -20,9 +20,9 @@ pub struct Unit {
     pub address_bytes: u32,
     /// How many bytes its offsets have, 4 or 8.
     pub offset_bytes: u32,
-    /// The version of DWARF.
+    /// The version of DWARF, 4 or 5.
     pub version: u16,
-    /// A DW_UT number: 1 for a compilation unit, 3 for a partial unit.
+    /// A DW_UT number: 1 for a compilation unit, 3 for a partial unit. Headers of version 4 don't say it; it is 1 there.
     pub unit_type: u8,
 }
 
@@ -32,10 +32,10 @@ pub enum UnitFault {
     /// The length is cut off or reserved, the unit passes the section's end, or the header passes the unit's.
     #[error("the unit at {0} has a wrong length")]
     UnitLength(u64),
-    /// The version is not read.
+    /// The version is neither 4 nor 5.
     #[error("the unit at {0} has the version {1}")]
     UnitVersion(u64, u16),
-    /// The unit is of a type that is not read.
+    /// The unit of version 5 is of a type that is not read.
     #[error("the unit at {0} has the type {1}")]
     UnitType(u64, u8),
     /// The addresses have neither 4 nor 8 bytes.

@@ -12,7 +12,7 @@ use Rattle.unit_encoder.specs.Graph.{tag_of}
 use Rattle.unit_encoder.proofs.Formed.{IsFine, units_fine, well, fits}
 use Rattle.unit_encoder.proofs.Within.{linked_fine}
 use Rattle.unit_encoder.proofs.Whole.{IsRest, whole, too_many, graph_is, graph_out, graph_fails}
-use Rattle.unit_encoder.proofs.graph.encode_packed.Goals as goal
+use Rattle.unit_encoder.proofs.graph.encode_by.Goals as goal
 
 same_tag : (a b : ℕ) → ◌≡◌ {A = Result ℕ EncodeFault} (Ok a) (Ok b) → a ≡ b
 same_tag a b e = cc
