@@ -7,7 +7,7 @@ use Rattle.std.specs.List.{flat_map, range_with_len}
 use Rattle.c_model.specs.declared.graph.CType.{CType}
 use Rattle.c_model.specs.declared.graph.Ref.{Ref}
 use Rattle.layout_printer.specs.Sizes.{type_of}
-use Rattle.layout_printer.specs.Declarations.{Written, before, decl_at, decl_in, is_passed, kind_of, leads, member_type, past}
+use Rattle.layout_printer.specs.Declarations.{Written, after, around, attribute, decl_at, decl_in, is_passed, kind_of, leads, leads_to_pointer, member_type, past, spaced, tagged}
 use Rattle.layout_printer.proofs.Holes.{range_push}
 
 past_suc : (n : ℕ) (types : List CType) (r : Ref) → past (suc n) types r ≡ cond (is_passed (kind_of types r)) (past n types (member_type types r 0)) r
@@ -45,24 +45,34 @@ module _ (lists : Ref → List ℕ) (types : List CType) where
   decl_zero r d = refl
 
   -- a type is written
-  pub followed : (n k : ℕ) (list : List ℕ) (r : Ref) (front d front' d' : List ℕ) (next : Option Ref) (whole : Written) → k < n → list ≡ lists r
-      → before front (decl_in lists (n - k) types r d) ≡ whole
-      → ((rest : Ref → List ℕ → Written) → leads rest front' d' next ≡ before front (decl_at rest types list (type_of types r) d))
-      → leads (decl_in lists (n - (k + 1)) types) front' d' next ≡ whole
-  followed n k list r front d front' d' next whole h e inv step =
+  pub followed : (n k : ℕ) (list : List ℕ) (r : Ref) (front d back front' d' back' : List ℕ) (next : Option Ref) (whole : Written) → k < n → list ≡ lists r
+      → around front (decl_in lists (n - k) types r d) back ≡ whole
+      → ((rest : Ref → List ℕ → Written) → leads rest front' d' back' next ≡ around front (decl_at rest types list (type_of types r) d) back)
+      → leads (decl_in lists (n - (k + 1)) types) front' d' back' next ≡ whole
+  followed n k list r front d back front' d' back' next whole h e inv step =
       step (decl_in lists (n - (k + 1)) types)
-      ∙ ap (λ (l : List ℕ). before front (decl_at (decl_in lists (n - (k + 1)) types) types l (type_of types r) d)) e
-      ∙ ap (before front) (sym (ap (λ i. decl_in lists i types r d) (one_left n k h) ∙ decl_suc (n - (k + 1)) r d))
+      ∙ ap (λ (l : List ℕ). around front (decl_at (decl_in lists (n - (k + 1)) types) types l (type_of types r) d) back) e
+      ∙ ap (λ (w : Written). around front w back) (sym (ap (λ i. decl_in lists i types r d) (one_left n k h) ∙ decl_suc (n - (k + 1)) r d))
       ∙ inv
 
   -- no more types are followed
-  pub cut_off : (n k : ℕ) (r : Ref) (front d front' : List ℕ) (whole : Written) → n ≤ k → before front (decl_in lists (n - k) types r d) ≡ whole → front' ≡ front ++ codes "..."
-      → let w : Written = record { type_part = front'; name_part = d } in w ≡ whole
-  cut_off n k r front d front' whole h inv e =
+  pub cut_off : (n k : ℕ) (r : Ref) (front d back front' : List ℕ) (whole : Written) → n ≤ k → around front (decl_in lists (n - k) types r d) back ≡ whole → front' ≡ front ++ codes "..."
+      → let w : Written = record { type_part = front' ++ back; name_part = d } in w ≡ whole
+  cut_off n k r front d back front' whole h inv e =
       let none : n - k ≡ 0 = omega arith in
-      ap (λ (t : List ℕ). let w : Written = record { type_part = t; name_part = d } in w) e
-      ∙ sym (ap (before front) (ap (λ i. decl_in lists i types r d) none ∙ decl_zero r d))
+      let joined : front' ++ back ≡ front ++ (codes "..." ++ back) = ap (λ (t : List ℕ). t ++ back) e ∙ append_assoc front (codes "...") back in
+      ap (λ (t : List ℕ). let w : Written = record { type_part = t; name_part = d } in w) joined
+      ∙ sym (ap (λ (w : Written). around front w back) (ap (λ i. decl_in lists i types r d) none ∙ decl_zero r d))
       ∙ inv
+
+-- a tag more stands behind the type part, before those that stand there
+pub tag_more : (rest : Ref → List ℕ → Written) (types : List CType) (tag : List ℕ) (r : Ref) (front d back back' : List ℕ) → leads_to_pointer types r ≡ false → back' ≡ (32 ∷ attribute tag) ++ back
+    → around front (rest r d) back' ≡ around front (tagged rest types tag r d) back
+tag_more rest types tag r front d back back' other e =
+    let w : Written = rest r d in
+    let behind : w.type_part ++ back' ≡ (w.type_part ++ 32 ∷ attribute tag) ++ back = ap (λ (b : List ℕ). w.type_part ++ b) e ∙ sym (append_assoc w.type_part (32 ∷ attribute tag) back) in
+    ap (λ (t : List ℕ). let v : Written = record { type_part = front ++ t; name_part = w.name_part } in v) behind
+    ∙ ap (λ (v : Written). around front v back) (sym (cond-false (leads_to_pointer types r) (rest r (attribute tag ++ spaced d)) (after w (32 ∷ attribute tag)) other))
 
 -- one more place
 pub places_more : (f : ℕ → List ℕ) (n : ℕ) (front out more : List ℕ) → out ≡ front ++ flat_map f (range_with_len 0 n) → more ≡ out ++ f n → more ≡ front ++ flat_map f (range_with_len 0 (n + 1))

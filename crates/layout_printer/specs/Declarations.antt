@@ -100,6 +100,19 @@ leads_to_pointer types r = kind_of types (past 64 types r) == 2
 abbrev pub before : List ℕ → Written → Written
 before front w = record { type_part = front ++ w.type_part; name_part = w.name_part }
 
+-- with something behind the type part
+abbrev pub after : Written → List ℕ → Written
+after w back = record { type_part = w.type_part ++ back; name_part = w.name_part }
+
+-- the attribute that a type tag is written as, as clang and GCC read it
+abbrev pub attribute : List ℕ → List ℕ
+attribute name = codes "__attribute__((btf_type_tag(\"" ++ (name ++ codes "\")))")
+
+-- the declaration of a type with a type tag: before the name where the type is a pointer, else behind the type part
+abbrev pub tagged : (Ref → List ℕ → Written) → List CType → List ℕ → Ref → List ℕ → Written
+tagged rest types tag r d =
+    if leads_to_pointer types r then rest r (attribute tag ++ spaced d) else after (rest r d) (32 ∷ attribute tag)
+
 -- the declaration of a type by its shape, given those of the types behind it and the text of its parameters
 abbrev pub decl_by : (Ref → List ℕ → Written) → List CType → List ℕ → Shape → CType → List ℕ → Written
 decl_by rest types list Named t d = record { type_part = t.label.name; name_part = d }
@@ -111,7 +124,7 @@ decl_by rest types list Qualifier t d =
     else before (qualifier_word t.label.kind ++ codes " ") (rest (target_at t.targets 0) d)
 decl_by rest types list Array t d = rest (target_at t.targets 0) (d ++ (codes "[" ++ (bound t.label.extra ++ codes "]")))
 decl_by rest types list Function t d = rest (target_at t.targets 0) (d ++ (codes "(" ++ (list ++ codes ")")))
-decl_by rest types list Annotation t d = rest (target_at t.targets 0) d
+decl_by rest types list Annotation t d = tagged rest types t.label.name (target_at t.targets 0) d
 decl_by rest types list Other t d = record { type_part = codes "?"; name_part = d }
 
 abbrev pub decl_at : (Ref → List ℕ → Written) → List CType → List ℕ → Option CType → List ℕ → Written
@@ -158,7 +171,15 @@ list_at types r = if kind_of types r == 13 then parameters types r else []
 abbrev pub decl : List CType → Ref → List ℕ → Written
 decl types r name = decl_in (list_at types) 64 types r name
 
--- the working form: what is written so far, and the type that is next
-abbrev pub leads : (Ref → List ℕ → Written) → List ℕ → List ℕ → Option Ref → Written
-leads rest front d None = record { type_part = front; name_part = d }
-leads rest front d (Some r) = before front (rest r d)
+-- the working form: with something before and behind the type part
+abbrev pub around : List ℕ → Written → List ℕ → Written
+around front w back = before front (after w back)
+
+-- what is written where no type is left
+abbrev pub ended : List ℕ → List ℕ → List ℕ → Written
+ended front d back = record { type_part = front ++ back; name_part = d }
+
+-- what is written so far before and behind the type part, and the type that is next
+abbrev pub leads : (Ref → List ℕ → Written) → List ℕ → List ℕ → List ℕ → Option Ref → Written
+leads rest front d back None = ended front d back
+leads rest front d back (Some r) = around front (rest r d) back

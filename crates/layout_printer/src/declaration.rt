@@ -2,7 +2,7 @@
 ghost use Rattle.std.specs.Prelude.{◌≡◌, ◌∷◌, ◌++◌, ◌+◌, ◌==◌, ◌<◌, ◌≤◌, List, [], ℕ, OnOk, IfOk, codes, if◌then◌else◌};
 ghost use Rattle.c_model.specs.declared.graph.Ref.{Ref};
 ghost use Rattle.layout_printer.specs.Sizes.{type_of};
-ghost use Rattle.layout_printer.specs.Declarations.{Written, before, bound, decl, decl_at, decl_by, decl_in, hidden, leads, list_at, parameter_at, parameter_decl, parameter_text, parameters, part_count, shape_of, spaced};
+ghost use Rattle.layout_printer.specs.Declarations.{Written, around, attribute, bound, decl, decl_at, decl_by, decl_in, ended, hidden, leads, list_at, parameter_at, parameter_decl, parameter_text, parameters, part_count, shape_of, spaced, tagged};
 
 use crate::lookups::{target_at, type_of};
 use crate::pieces::{Piece, put, put_if};
@@ -23,6 +23,15 @@ pub struct Declaration {
     pub name_part: Vec<u8>,
 }
 
+/// A declaration that is being written: what stands before the type part of what is still to be written, what stands
+/// behind it, and what stands for the name.
+#[derive(Drop)]
+struct Draft {
+    front: Vec<u8>,
+    back: Vec<u8>,
+    name: Vec<u8>,
+}
+
 /// The declaration of a name of a type. 64 types are followed, and what is behind them is written `...`.
 pub fn declare(
     alloc: Global,
@@ -32,17 +41,17 @@ pub fn declare(
 ) -> Result<Declaration, AllocError>
     ensures { IfOk result (λ w. record { type_part = w.type_part.items; name_part = w.name_part.items } ≡ decl types.now r name.now) }
 {
-    let mut written = named(alloc, name)?;
+    let mut draft = named(alloc, name)?;
     let mut at = r;
     for _ in 0..FOLLOWED {
         let list = list_at(alloc, types, at)?;
-        match follow(alloc, types, &list, at, &mut written)? {
-            None => return Ok(written),
+        match follow(alloc, types, &list, at, &mut draft)? {
+            None => return finish(draft),
             Some(next) => at = next,
         }
     }
-    written.type_part.extend_from_slice(b"...")?;
-    Ok(written)
+    draft.front.extend_from_slice(b"...")?;
+    finish(draft)
 }
 
 /// The declaration of a parameter: lists of parameters in it are written `...`.
@@ -55,26 +64,45 @@ fn parameter(
     ensures { IfOk result (λ w. record { type_part = w.type_part.items; name_part = w.name_part.items }
         ≡ parameter_decl types.now r name.now) }
 {
-    let mut written = named(alloc, name)?;
+    let mut draft = named(alloc, name)?;
     let mut at = r;
     for _ in 0..FOLLOWED {
-        match follow(alloc, types, b"...", at, &mut written)? {
-            None => return Ok(written),
+        match follow(alloc, types, b"...", at, &mut draft)? {
+            None => return finish(draft),
             Some(next) => at = next,
         }
     }
-    written.type_part.extend_from_slice(b"...")?;
-    Ok(written)
+    draft.front.extend_from_slice(b"...")?;
+    finish(draft)
 }
 
 /// A declaration of a name before any type is written.
-fn named(alloc: Global, name: &[u8]) -> Result<Declaration, AllocError>
-    ensures type_part { IfOk result (λ w. w.type_part.items ≡ []) }
-    ensures name_part { IfOk result (λ w. w.name_part.items ≡ name.now) }
+fn named(alloc: Global, name: &[u8]) -> Result<Draft, AllocError>
+    ensures front { IfOk result (λ w. w.front.items ≡ []) }
+    ensures back { IfOk result (λ w. w.back.items ≡ []) }
+    ensures name { IfOk result (λ w. w.name.items ≡ name.now) }
 {
+    Ok(Draft {
+        front: Vec::new(alloc),
+        back: Vec::new(alloc),
+        name: Vec::from_slice(alloc, name)?,
+    })
+}
+
+/// A declaration whose types are all written.
+fn finish(draft: Draft) -> Result<Declaration, AllocError>
+    ensures { IfOk result (λ w. record { type_part = w.type_part.items; name_part = w.name_part.items }
+        ≡ ended draft.front.items draft.name.items draft.back.items) }
+{
+    let Draft {
+        mut front,
+        back,
+        name,
+    } = draft;
+    front.extend_from_slice(&back)?;
     Ok(Declaration {
-        type_part: Vec::new(alloc),
-        name_part: Vec::from_slice(alloc, name)?,
+        type_part: front,
+        name_part: name,
     })
 }
 
@@ -84,18 +112,18 @@ fn follow(
     types: &[CType<'_>],
     list: &[u8],
     r: Ref,
-    written: &mut Declaration,
+    draft: &mut Draft,
 ) -> Result<Option<Ref>, AllocError>
     ensures { IfOk result (λ next. (rest : Ref → List ℕ → Written) →
-        leads rest written.new.type_part.items written.new.name_part.items next
-        ≡ before written.old.type_part.items (decl_at rest types.now list.now (type_of types.now r) written.old.name_part.items)) }
+        leads rest draft.new.front.items draft.new.name.items draft.new.back.items next
+        ≡ around draft.old.front.items (decl_at rest types.now list.now (type_of types.now r) draft.old.name.items) draft.old.back.items) }
 {
     match type_of(types, r) {
         None => {
-            written.type_part.extend_from_slice(b"void")?;
+            draft.front.extend_from_slice(b"void")?;
             Ok(None)
         }
-        Some(t) => write_type(alloc, types, list, t, written),
+        Some(t) => write_type(alloc, types, list, t, draft),
     }
 }
 
@@ -104,65 +132,115 @@ fn write_type(
     types: &[CType<'_>],
     list: &[u8],
     t: &CType<'_>,
-    written: &mut Declaration,
+    draft: &mut Draft,
 ) -> Result<Option<Ref>, AllocError>
     ensures { IfOk result (λ next. (rest : Ref → List ℕ → Written) →
-        leads rest written.new.type_part.items written.new.name_part.items next
-        ≡ before written.old.type_part.items
-        (decl_by rest types.now list.now (shape_of t.now.label.kind) t.now written.old.name_part.items)) }
+        leads rest draft.new.front.items draft.new.name.items draft.new.back.items next
+        ≡ around draft.old.front.items
+        (decl_by rest types.now list.now (shape_of t.now.label.kind) t.now draft.old.name.items) draft.old.back.items) }
 {
     let target = target_at(t.targets.items(), 0);
     match shape_of(t.label.kind) {
         Shape::Named => {
-            written.type_part.extend_from_slice(t.label.name.bytes())?;
+            draft.front.extend_from_slice(t.label.name.bytes())?;
             Ok(None)
         }
         Shape::Tagged => {
             let word = tag_word(&t.label);
             let tag = tag_name(t.label.name.bytes());
             put(
-                &mut written.type_part,
+                &mut draft.front,
                 &[Piece::Text(word), Piece::Text(b" "), Piece::Text(tag)],
             )?;
             Ok(None)
         }
         Shape::Other => {
-            written.type_part.extend_from_slice(b"?")?;
+            draft.front.extend_from_slice(b"?")?;
             Ok(None)
         }
-        Shape::Annotation => Ok(Some(target)),
+        Shape::Annotation => {
+            annotate(alloc, types, t.label.name.bytes(), target, draft)?;
+            Ok(Some(target))
+        }
         Shape::Pointer => {
-            written.name_part = pointer_name(
-                alloc,
-                leads_to_list(types, target),
-                &written.name_part,
-            )?;
+            draft.name = pointer_name(alloc, leads_to_list(types, target), &draft.name)?;
             Ok(Some(target))
         }
         Shape::Qualifier => {
             let word = qualifier_word(t.label.kind);
             if leads_to_pointer(types, target) {
-                written.name_part = qualified_name(alloc, word, &written.name_part)?;
+                draft.name = qualified_name(alloc, word, &draft.name)?;
             } else {
-                put(
-                    &mut written.type_part,
-                    &[Piece::Text(word), Piece::Text(b" ")],
-                )?;
+                put(&mut draft.front, &[Piece::Text(word), Piece::Text(b" ")])?;
             }
             Ok(Some(target))
         }
         Shape::Array => {
-            put_bound(&mut written.name_part, t.label.extra)?;
+            put_bound(&mut draft.name, t.label.extra)?;
             Ok(Some(target))
         }
         Shape::Function => {
             put(
-                &mut written.name_part,
+                &mut draft.name,
                 &[Piece::Text(b"("), Piece::Text(list), Piece::Text(b")")],
             )?;
             Ok(Some(target))
         }
     }
+}
+
+/// Writes a type tag of a type: before the name where that is a pointer, else behind the type part.
+fn annotate(
+    alloc: Global,
+    types: &[CType<'_>],
+    tag: &[u8],
+    target: Ref,
+    draft: &mut Draft,
+) -> Result<(), AllocError>
+    ensures { OnOk result ((rest : Ref → List ℕ → Written) →
+        around draft.new.front.items (rest target draft.new.name.items) draft.new.back.items
+        ≡ around draft.old.front.items (tagged rest types.now tag.now target draft.old.name.items) draft.old.back.items) }
+{
+    if leads_to_pointer(types, target) {
+        draft.name = annotated_name(alloc, tag, &draft.name)?;
+    } else {
+        draft.back = annotated_type(alloc, tag, &draft.back)?;
+    }
+    Ok(())
+}
+
+/// What stands for the name of a pointer whose type has a tag.
+fn annotated_name(alloc: Global, tag: &[u8], name: &[u8]) -> Result<Vec<u8>, AllocError>
+    ensures { IfOk result (λ v. v.items ≡ attribute tag.now ++ spaced name.now) }
+{
+    let mut out = Vec::new(alloc);
+    put_attribute(&mut out, tag)?;
+    put_spaced(&mut out, name)?;
+    Ok(out)
+}
+
+/// What stands behind a type part that has a tag more.
+fn annotated_type(alloc: Global, tag: &[u8], back: &[u8]) -> Result<Vec<u8>, AllocError>
+    ensures { IfOk result (λ v. v.items ≡ (32 ∷ attribute tag.now) ++ back.now) }
+{
+    let mut out = Vec::from_slice(alloc, b" ")?;
+    put_attribute(&mut out, tag)?;
+    out.extend_from_slice(back)?;
+    Ok(out)
+}
+
+/// Appends the attribute that a type tag is written as.
+fn put_attribute(out: &mut Vec<u8>, tag: &[u8]) -> Result<(), AllocError>
+    ensures { OnOk result (out.new.items ≡ out.old.items ++ attribute tag.now) }
+{
+    put(
+        out,
+        &[
+            Piece::Text(b"__attribute__((btf_type_tag(\""),
+            Piece::Text(tag),
+            Piece::Text(b"\")))"),
+        ],
+    )
 }
 
 /// What stands for the name of a pointer; in parentheses before an array or a function.

@@ -16,7 +16,7 @@ pub enum Shape {
     Qualifier,
     Array,
     Function,
-    /// Not at all.
+    /// As an attribute of what it is of.
     Annotation,
     /// `?`.
     Other,

@@ -328,7 +328,7 @@ fn each_form_of_a_declaration(rt: HostRuntime) -> Result<(), Fail> {
         b"\tvoid                       (*m)(void);           /*     0     8 */\n".as_slice(),
         b"\tconst char                 *(*n)(int n, ...);    /*     0     8 */\n".as_slice(),
         b"\tint                        (*o)(const char *(*cb)(...), union w *); /*     0     8 */\n".as_slice(),
-        b"\tchar                       *p;                   /*     0     8 */\n".as_slice(),
+        b"\tchar __attribute__((btf_type_tag(\"user\"))) *p;                   /*     0     8 */\n".as_slice(),
         b"\tconst char                 *restrict q;          /*     0     8 */\n".as_slice(),
         b"\tt                          r;                    /*     0     4 */\n".as_slice(),
         b"\tdouble                     s;                    /*     0     8 */\n".as_slice(),
@@ -342,6 +342,83 @@ fn each_form_of_a_declaration(rt: HostRuntime) -> Result<(), Fail> {
         b"};\n".as_slice(),
     ];
     assert_eq!(rt; text_of(alloc, &table, 30, 30, 64)?, joined(alloc, &lines)?);
+    Ok(())
+}
+
+#[test]
+fn type_tags(rt: HostRuntime) -> Result<(), Fail> {
+    let alloc = rt.alloc();
+    let all = [
+        typed(1, b"int", false, 4, 0, 0, &[]),
+        typed(18, b"user", false, 0, 0, 0, &[1]),
+        typed(2, b"", false, 0, 0, 0, &[2]),
+        typed(18, b"q", false, 0, 0, 0, &[1]),
+        typed(18, b"p", false, 0, 0, 0, &[4]),
+        typed(2, b"", false, 0, 0, 0, &[5]),
+        typed(2, b"", false, 0, 0, 0, &[1]),
+        typed(18, b"user", false, 0, 0, 0, &[7]),
+        typed(2, b"", false, 0, 0, 0, &[8]),
+        typed(10, b"", false, 0, 0, 0, &[2]),
+        typed(2, b"", false, 0, 0, 0, &[10]),
+        typed(10, b"", false, 0, 0, 0, &[1]),
+        typed(18, b"user", false, 0, 0, 0, &[12]),
+        typed(2, b"", false, 0, 0, 0, &[13]),
+        typed(3, b"", false, 0, 2, 0, &[1, 1]),
+        typed(18, b"user", false, 0, 0, 0, &[15]),
+        typed(2, b"", false, 0, 0, 0, &[16]),
+        typed(13, b"", false, 0, 0, 0, &[0]),
+        typed(18, b"user", false, 0, 0, 0, &[18]),
+        typed(2, b"", false, 0, 0, 0, &[19]),
+        typed(13, b"", false, 0, 0, 1, &[0, 3]),
+        typed(2, b"", false, 0, 0, 0, &[21]),
+        typed(18, b"p", false, 0, 0, 0, &[8]),
+        typed(2, b"", false, 0, 0, 0, &[23]),
+        typed(18, b"user", false, 0, 0, 0, &[0]),
+        typed(2, b"", false, 0, 0, 0, &[25]),
+        typed(
+            5,
+            b"tagged",
+            false,
+            8,
+            0,
+            11,
+            &[3, 6, 9, 8, 11, 14, 17, 20, 22, 24, 26],
+        ),
+    ];
+    let parts = [
+        (b"x".as_slice(), 0),
+        (b"a".as_slice(), 0),
+        (b"b".as_slice(), 0),
+        (b"c".as_slice(), 0),
+        (b"d".as_slice(), 0),
+        (b"e".as_slice(), 0),
+        (b"f".as_slice(), 0),
+        (b"g".as_slice(), 0),
+        (b"h".as_slice(), 0),
+        (b"i".as_slice(), 0),
+        (b"k".as_slice(), 0),
+        (b"l".as_slice(), 0),
+    ];
+    let table = table_of(alloc, &all, &parts)?;
+    let lines = [
+        b"union tagged {\n".as_slice(),
+        b"\tint __attribute__((btf_type_tag(\"user\"))) *a;                   /*     0     8 */\n".as_slice(),
+        b"\tint __attribute__((btf_type_tag(\"q\"))) __attribute__((btf_type_tag(\"p\"))) *b;                   /*     0     8 */\n".as_slice(),
+        b"\tint                        *__attribute__((btf_type_tag(\"user\"))) *c; /*     0     8 */\n".as_slice(),
+        b"\tint                        *__attribute__((btf_type_tag(\"user\"))) d; /*     0     8 */\n".as_slice(),
+        b"\tconst int __attribute__((btf_type_tag(\"user\"))) *e;                   /*     0     8 */\n".as_slice(),
+        b"\tconst int __attribute__((btf_type_tag(\"user\"))) *f;                   /*     0     8 */\n".as_slice(),
+        b"\tint __attribute__((btf_type_tag(\"user\"))) (*g)[2];              /*     0     8 */\n".as_slice(),
+        b"\tvoid __attribute__((btf_type_tag(\"user\"))) (*h)(void);           /*     0     8 */\n".as_slice(),
+        b"\tvoid                       (*i)(int __attribute__((btf_type_tag(\"user\"))) *x); /*     0     8 */\n".as_slice(),
+        b"\tint                        *__attribute__((btf_type_tag(\"user\"))) __attribute__((btf_type_tag(\"p\"))) *k; /*     0     8 */\n".as_slice(),
+        b"\tvoid __attribute__((btf_type_tag(\"user\"))) *l;                   /*     0     8 */\n".as_slice(),
+        b"\n".as_slice(),
+        b"\t/* size: 8, cachelines: 1, members: 11 */\n".as_slice(),
+        b"\t/* last cacheline: 8 bytes */\n".as_slice(),
+        b"};\n".as_slice(),
+    ];
+    assert_eq!(rt; text_of(alloc, &table, 27, 27, 64)?, joined(alloc, &lines)?);
     Ok(())
 }
 
