@@ -1,6 +1,6 @@
 -- Which open pointer an entry stands in directly, and the pointer that was the last entry.
-use Rattle.std.proofs.Common.{◌≡◌, ℕ, ◌+◌, ◌-◌, ◌<◌, ◌≤◌, ◌==◌, ◌&&◌, Bool, true, false, List, [], ◌∷◌, ◌++◌, length, Option, None, Some, is_some, if◌then◌else◌, refl, sym, ap, ◌∙◌, subst, arith}
-use Rattle.std.specs.Prelude.{All, slice_get, slice_set, take}
+use Rattle.std.proofs.Common.{◌≡◌, ℕ, ◌+◌, ◌-◌, ◌<◌, ◌≤◌, ◌==◌, Bool, true, false, List, [], ◌∷◌, ◌++◌, length, Option, None, Some, is_some, if◌then◌else◌, refl, sym, ap, ◌∙◌, subst, arith}
+use Rattle.std.specs.Prelude.{slice_get, slice_set, take}
 use Rattle.std.proofs.lemmas.Bool.{eqb-true, eqb-false, eq-eqb, ne_eqb}
 use Rattle.std.proofs.lemmas.List.{length-append}
 use Rattle.std.proofs.lemmas.Option.{none-some, same_Some, slice_get_within, get_or_from_slice_get}
@@ -25,7 +25,7 @@ use Rattle.c_types.specs.Labels.{Row}
 use Rattle.c_types.specs.Pointers.{is_type_tag, own_target, link_to, pointer_row, own_of_pointer, pointed_in, tag_asked, tag_in, tag_type, tag_made}
 use Rattle.c_types.specs.Opened.{pointer_by, pointer_made, kept_made, kept_refused, ComesTo}
 use Rattle.c_types.specs.Types.{listed}
-use Rattle.c_types.specs.Walking.{made_at, refused_at, filled, least_of, AreNested, ArePlaced, AreAbove, IsShallow, opened_pointer, with_last, IsComplete, pointer_in, own_of, pointed_at}
+use Rattle.c_types.specs.Walking.{made_at, refused_at, filled, least_of, AreNested, ArePlaced, AreAbove, opened_pointer, with_last, IsComplete, pointer_in, own_of, pointed_at}
 use Rattle.c_types.proofs.Stack as stack
 use Rattle.c_types.proofs.Stack.{AreFar, above_far, nested_pop, filled_push, least_push, refused_is, far_filled, far_least, kids_child, last_split}
 use Rattle.c_types.proofs.OpenPointers as pointers

@@ -6,7 +6,6 @@ use Rattle.entry_tree.specs.Items.{Given, Coming, with_first}
 use Rattle.c_types.specs.declared.open.Open.{Open}
 use Rattle.c_types.specs.declared.source.SourceType.{SourceType}
 use Rattle.c_types.specs.declared.source.Target.{Target}
-use Rattle.c_types.specs.declared.source.UnitTypes.{UnitTypes}
 use Rattle.c_types.specs.declared.fault.TypeFault.{TypeFault}
 use Rattle.c_types.specs.Faults.{noted}
 use Rattle.c_types.specs.Parents.{Descends}

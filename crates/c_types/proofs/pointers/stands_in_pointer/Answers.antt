@@ -1,4 +1,4 @@
-use Rattle.std.proofs.Common.{◌≡◌, ◌+◌, ◌-◌, ◌<◌, ◌==◌, ◌∷◌, ◌++◌, [], nat_eq, is_some, length, take, List, Some, refl, sym, ap, ◌∙◌, subst}
+use Rattle.std.proofs.Common.{◌≡◌, ◌+◌, ◌-◌, ◌<◌, ◌==◌, nat_eq, is_some, length, take, List, Some, refl, sym, ap, ◌∙◌, subst}
 use Rattle.std.proofs.lemmas.List.Elements.{All-pop}
 use Rattle.c_types.specs.declared.open.Open.{Open}
 use Rattle.c_types.specs.Walking.{AreNested, own_of, pointed_at}

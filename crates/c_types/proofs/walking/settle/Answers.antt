@@ -1,4 +1,4 @@
-use Rattle.std.proofs.Common.{◌≡◌, ◌≤◌, ◌∙◌, Option, Some, sym, ap, subst}
+use Rattle.std.proofs.Common.{◌∙◌, Option, sym, ap, subst}
 use Rattle.c_types.specs.declared.open.LastPointer.{LastPointer}
 use Rattle.c_types.specs.Walking.{filled, least_of, AreNested, opened_pointer, with_last, IsComplete, pointed_at}
 use Rattle.c_types.proofs.Stack.{nested_pop}

@@ -1,9 +1,8 @@
-use Rattle.std.proofs.Common.{◌≡◌, ◌+◌, ◌<◌, ◌==◌, ◌∷◌, ◌++◌, [], if◌then◌else◌, ℕ, List, Option, Some, None, length, refl, sym, ap, ◌∙◌, subst}
+use Rattle.std.proofs.Common.{◌+◌, ◌<◌, ◌==◌, ◌∷◌, ◌++◌, if◌then◌else◌, ℕ, List, Some, None, length, refl, sym, ap, ◌∙◌, subst}
 use Rattle.std.specs.Prelude.{slice_set}
 use Rattle.std.proofs.lemmas.List.Elements.{All-pop}
 use Rattle.entry_tree.specs.Walks.{given_entry}
 use Rattle.c_types.specs.declared.open.Open.{Open}
-use Rattle.c_types.specs.declared.source.Target.{Target}
 use Rattle.c_types.specs.declared.source.Target.TheVariants.{Entry}
 use Rattle.c_types.specs.Opened.{pointer_by}
 use Rattle.c_types.specs.Pointers.{tag_in, tag_made}
