@@ -160,7 +160,7 @@ def arrays_of_btf(n):
 
 
 # kinds whose work is known to grow with the square; docs/SPEED.md says why
-SQUARES = ("units of one table of abbreviations", "names that are ends of one text")
+SQUARES = ("names that are ends of one text",)
 DIGITS = "0123456789abcdefghijklmnopqrstuvwxyz"
 
 
