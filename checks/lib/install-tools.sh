@@ -11,6 +11,7 @@ apt-get install -y --no-install-recommends \
   gcc-powerpc64-linux-gnu libc6-dev-ppc64-cross \
   gcc-s390x-linux-gnu libc6-dev-s390x-cross \
   gcc-mips-linux-gnu libc6-dev-mips-cross \
+  gcc-aarch64-linux-gnu libc6-dev-arm64-cross \
   clang lld dwz \
   groff mandoc \
   hyperfine time

@@ -10,14 +10,16 @@ from compiler import build, says
 from elf import sections, units
 
 # compilers, each with the ways in which it builds the program: for this machine, for others with big-endian numbers of 64 bits (two) and
-# of 32 bits, and clang, which places bit fields as DWARF 5 has it with -glldb alone
+# of 32 bits, for AArch64, and clang, which places bit fields as DWARF 5 has it with -glldb alone; -r links to a relocatable object
 ACCEPTED = {
     "cc": ["", "-static", "-static-pie", "-m32", "-m32 -static", "-gdwarf64", "-m32 -gdwarf64", "-g3", "-flto", "-O2", "-shared -fPIC",
-           "-fshort-enums -fpack-struct=2"],
-    "powerpc64-linux-gnu-gcc": ["", "-static", "-gdwarf64", "-g3", "-flto"],
-    "s390x-linux-gnu-gcc": ["", "-static"],
-    "mips-linux-gnu-gcc": ["", "-static", "-gdwarf64"],
-    "clang": ["-glldb", "-glldb -flto -fuse-ld=lld", "-glldb -m32"],
+           "-fshort-enums -fpack-struct=2", "-gdwarf-4", "-gdwarf-4 -m32", "-gdwarf-4 -gdwarf64", "-r -nostdlib",
+           "-gdwarf-4 -r -nostdlib"],
+    "powerpc64-linux-gnu-gcc": ["", "-static", "-gdwarf64", "-g3", "-flto", "-gdwarf-4"],
+    "s390x-linux-gnu-gcc": ["", "-static", "-gdwarf-4"],
+    "mips-linux-gnu-gcc": ["", "-static", "-gdwarf64", "-gdwarf-4"],
+    "aarch64-linux-gnu-gcc": ["", "-r -nostdlib", "-gdwarf-4 -r -nostdlib"],
+    "clang": ["-glldb", "-glldb -flto -fuse-ld=lld", "-glldb -m32", "-gdwarf-4", "-gdwarf-4 -m32", "-glldb -r -nostdlib"],
 }
 # how a file is built, and what a tool then makes of it that is still accepted
 TREATED = [
@@ -166,11 +168,11 @@ def other_unit():
 # how a file is built that is refused, and its refusal
 REFUSED = [
     ("-gz", compressed),
-    ("-gdwarf-4", lambda: ".debug_info 0: error 21 4"),
+    ("-gdwarf-3", lambda: ".debug_info 0: error 21 3"),
     ("-gsplit-dwarf", other_unit),
     ("-fdebug-types-section", other_unit),
     ("-s", lambda: "image 0: error 14"),
-    ("-r -nostdlib", lambda: "image 16: error 12 1"),
+    ("-m32 -r -nostdlib", lambda: "image 18: error 17 3"),
 ]
 
 
@@ -235,6 +237,68 @@ def supplementary(program, demo):
     return is_refused(program, ("a",), r"pahole: a: \.debug_info \d+: error 44 \d+\n")
 
 
+def objects(program, demo, compiler, flags):
+    """The objects of a program, as files of one run, give the table of the linked program."""
+    for out, words in (("a", [sources_of(demo)[0], "-c"]), ("b", [sources_of(demo)[1], "-c"]), ("linked", sources_of(demo))):
+        if not build(compiler, flags, out, words):
+            return "skipped", "the compiler can't build it"
+    apart, linked = encoded(program, "-j1", ("a", "b")), encoded(program, "-j1", ("linked",))
+    if apart != encoded(program, "-j4", ("a", "b")) or apart != linked or apart[0] != 0:
+        return "failed", f"the objects: {apart[:2]}, the linked program: {linked[:2]}, equal bytes: {apart[2] == linked[2]}"
+    return "passed", f"{len(apart[2])} bytes of BTF"
+
+
+# C and Rust in one program, of DWARF 5 and 4
+MIXED = {
+    "main.c": "struct of_c { int only; } of_c;\nextern int rust(void);\nint main(void) { return rust() + of_c.only; }\n",
+    "part.rs": "#![no_std]\npub struct OfRust { pub one: u32 }\n#[no_mangle]\npub extern \"C\" fn rust() -> i32 "
+               "{ OfRust { one: 0 }.one as i32 }\n#[panic_handler]\nfn stop(_: &core::panic::PanicInfo) -> ! { loop {} }\n",
+}
+
+
+def with_rust(program):
+    """Units of Rust beside those of C are passed over."""
+    for name, text in MIXED.items():
+        with open(name, "w") as file:
+            file.write(text)
+    rust = ["rustc", "-g", "-Cpanic=abort", "--crate-type=lib", "--emit=obj", "-o", "part.o", "part.rs"]
+    if not shutil.which("rustc") or run(rust).returncode != 0:
+        return "skipped", "rustc is not installed, or can't build it"
+    if not build("cc", [], "a", ["main.c", "part.o"]) or not build("cc", ["-c"], "b", ["main.c"]):
+        return "skipped", "the compiler can't build it"
+    both, alone = encoded(program, "-j1"), encoded(program, "-j1", ("b",))
+    if both != alone or both[0] != 0:
+        return "failed", f"with Rust: {both[:2]}, without: {alone[:2]}, equal bytes: {both[2] == alone[2]}"
+    return "passed", f"{len(units(contents('a')))} units, {len(both[2])} bytes of BTF"
+
+
+# pointers with one tag and with two, and one without
+TAGGED = """#define tag(name) __attribute__((btf_type_tag(name)))
+struct tagged { int tag("user") *one; int tag("user") tag("percpu") *two; int *none; } tagged;
+"""
+
+
+def type_tags(program, readers):
+    """Tags of types, as clang writes them, are types of the table between a pointer and what it points to."""
+    with open("tagged.c", "w") as file:
+        file.write(TAGGED)
+    if not shutil.which("clang") or not build("clang", ["-c"], "a", ["tagged.c"]) or b"btf_type_tag" not in contents("a"):
+        return "skipped", "clang can't build it"
+    status, complaint, stored = encoded(program, "-j1")
+    if status != 0:
+        return "failed", f"status {status}, {complaint!r}"
+    shown = run([program, "-C", "tagged", "a"]).stdout.decode()
+    wanted = ['int __attribute__((btf_type_tag("user"))) *one;', "int *none;"]
+    if any(line not in re.sub(r" +", " ", shown) for line in wanted) or shown.count("percpu") != 1:
+        return "failed", f"shown as {shown!r}"
+    if "bpftool" not in readers:
+        return "passed", f"{len(stored)} bytes of BTF"
+    told = run([readers["bpftool"], "btf", "dump", "file", "o", "format", "raw"]).stdout.decode()
+    if len(re.findall(r"TYPE_TAG 'user'", told)) != 2 or len(re.findall(r"TYPE_TAG 'percpu'", told)) != 1:
+        return "failed", f"bpftool tells {told!r}"
+    return "passed", f"{len(stored)} bytes of BTF, read by bpftool"
+
+
 def found_readers(folder):
     """Other readers: of BTF bpftool and a program over libbpf, of DWARF Debian's pahole."""
     readers = {}
@@ -272,6 +336,11 @@ def main():
         say(f"cc {flags} {' '.join(words)}".replace("  ", " "), treated(program, demo, readers, flags.split(), words))
     for way, wanted in REFUSED:
         say(f"cc {way}", refused(program, demo, way.split(), wanted))
+    for compiler, way in (("cc", ""), ("cc", "-gdwarf-4"), ("clang", "-glldb"), ("aarch64-linux-gnu-gcc", "")):
+        if shutil.which(compiler):
+            say(f"objects of {compiler} {way}".strip(), objects(program, demo, compiler, way.split()))
+    say("with Rust", with_rust(program))
+    say("with tags of types", type_tags(program, readers))
     say("of two classes", mixed(program, demo))
     say("without strings", without_strings(program, demo))
     say("without places of strings", without_offsets(program, demo))
