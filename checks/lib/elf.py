@@ -1,4 +1,4 @@
-"""What an ELF file of either class and byte order holds: its sections, and the units of DWARF 5 in one."""
+"""What an ELF file of either class and byte order holds: its sections, and the units of DWARF 4 and 5 in one."""
 import collections
 import struct
 
@@ -35,12 +35,13 @@ def content(data, name):
 
 
 def units(data):
-    """The offset and the unit type of each unit of version 5 in .debug_info."""
+    """The offset and the unit type of each unit of version 4 or 5 in .debug_info; in version 4 it is that of a compilation unit."""
     order, info, found, at = order_of(data), content(data, ".debug_info"), [], 0
     while at < len(info):
         length, head = struct.unpack_from(order + "I", info, at)[0], 4
         if length == 0xFFFFFFFF:
             length, head = struct.unpack_from(order + "Q", info, at + 4)[0], 12
-        found.append((at, info[at + head + 2]))
+        version = struct.unpack_from(order + "H", info, at + head)[0]
+        found.append((at, info[at + head + 2] if version == 5 else 1))
         at += head + length
     return found
