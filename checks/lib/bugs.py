@@ -18,6 +18,7 @@ LAYERS = {
     "Forms": ["dwarf_forms"],
     "Entries": ["entry_tree"],
     "Types": ["c_types"],
+    "Made input": ["dwarf_gen"],
     "Graph": ["c_model", "packed_graph", "unit_encoder", "forward_rule"],
     "Classes": ["type_signature", "class_refine", "class_halves"],
     "Table": ["split_base", "base_merge", "btf_strings"],
