@@ -170,7 +170,6 @@ REFUSED = [
     ("-gsplit-dwarf", other_unit),
     ("-fdebug-types-section", other_unit),
     ("-s", lambda: "image 0: error 14"),
-    ("-r -nostdlib", lambda: "image 16: error 12 1"),
 ]
 
 
