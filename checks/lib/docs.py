@@ -101,7 +101,7 @@ def check_refusals():
     """The page on refusals has the numbers of the program, each with its fault's name."""
     layers = read("crates/pahole_run/specs/Layers.antt")
     names = {new: old for old, new in re.findall(r"(\w+) as (\w+)", layers)}
-    known = {("200", "not_yet")}
+    known = set()
     for left, right in re.findall(r"^((?:of_\w+|mixed) .*?) = (.*)$", layers, re.M):
         number = re.search(r"(?:bare|keeping|keeping_two) .*? (?:at|number|from|0|4|16|18) (\d+)\b|of_whole (\d+) \w+", right)
         if number and not left.startswith("of_whole"):

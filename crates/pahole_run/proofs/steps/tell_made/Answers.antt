@@ -1,0 +1,40 @@
+use Rattle.std.proofs.Common.{◌≡◌, ◌∙◌, ◌∷◌, [], ℕ, List, None, Ok, Err, ap, rules}
+use Rattle.command_line.specs.declared.job.Format.TheVariants.{Dwarf}
+use Rattle.dwarf_gen.specs.Images.{image_bytes}
+use Rattle.dwarf_gen.specs.Sizes.{spec_from}
+use Rattle.pahole_run.specs.Files.{patched_by}
+use Rattle.pahole_run.specs.Steps.{inputs_from}
+use Rattle.pahole_run.specs.Tasks.{made_task}
+use Rattle.pahole_run.proofs.DoneLemmas.{done_printed, done_unmade, made_unread, ready_made, unmade_memory}
+use Rattle.pahole_run.proofs.steps.tell_made.Goals as goal
+
+pub returns-in_default : goal.returns-in_default
+returns-in_default g c = unmade_memory c.args.limits c.args.number _
+
+pub returns-in_err-patch_inputs : goal.returns-in_err-patch_inputs
+returns-in_err-patch_inputs g c =
+    let gone : c.from_residual.result ≡ Err c.in_err-patch_inputs.field-0.0 = search rules in
+    let bytes : c.in-Ok.image ≡ image_bytes (spec_from c.args.number) =
+    c.in-Ok.ensures.bytes ∙ ap image_bytes c.spec_of.ensures.is in
+    rw gone
+    (made_unread (λ (u : Unit {0}). c.patch_inputs.new.files ≡ patched_by Dwarf (c.in-Ok.image ∷ [])) c.args.limits c.args.number _
+    c.in-Ok.image c.in_err-patch_inputs.field-0.0 bytes c.in_err-patch_inputs.ensures.told c.in_err-patch_inputs.ensures.own)
+
+pub returns-in_err-line : goal.returns-in_err-line
+returns-in_err-line g c =
+    let gone : c.from_residual-in_err-line.result ≡ Err c.in_err-line.field-0.0 = search rules in
+    let bytes : c.in-Ok.image ≡ image_bytes (spec_from c.args.number) =
+    c.in-Ok.ensures.bytes ∙ ap image_bytes c.spec_of.ensures.is in
+    rw gone
+    (done_unmade c.args.limits (made_task c.args.number) _ _ (inputs_from c.patch_inputs.new.files None) c.in_err-line.field-0.0
+    (ready_made c.args.limits c.args.number _ c.in-Ok.image c.patch_inputs.new.files bytes c.in_ok-patch_inputs.ensures.told)
+    c.in_err-line.ensures)
+
+pub returns : goal.returns
+returns g c =
+    let bytes : c.in-Ok.image ≡ image_bytes (spec_from c.args.number) =
+    c.in-Ok.ensures.bytes ∙ ap image_bytes c.spec_of.ensures.is in
+    done_printed c.args.limits (made_task c.args.number) _ _ _ (inputs_from c.patch_inputs.new.files None) c.in_ok-line.line
+    c.print_out.result tt
+    (ready_made c.args.limits c.args.number _ c.in-Ok.image c.patch_inputs.new.files bytes c.in_ok-patch_inputs.ensures.told)
+    c.in_ok-line.ensures (rw c.items.ensures at c.print_out.ensures)
