@@ -9,18 +9,20 @@ use Rattle.entry_tree.specs.Rising.{Rises, StandIn}
 use Rattle.entry_tree.specs.Walks.{entries_of}
 use Rattle.entry_tree.proofs.Rising.{entries_placed}
 use Rattle.c_types.specs.declared.source.SourceType.{SourceType}
+use Rattle.c_types.specs.declared.source.Target.{Target}
 use Rattle.c_types.specs.declared.source.UnitTypes.{UnitTypes}
 use Rattle.c_types.specs.Faults.{least}
 use Rattle.c_types.specs.Children.{children_of}
 use Rattle.c_types.specs.Labels.{Row}
 use Rattle.c_types.specs.Parts.{some_tagged}
 use Rattle.c_types.specs.BaseTypes.{base_row, unspecified_row}
-use Rattle.c_types.specs.References.{atomic_name, reference_row, pointer_row, typedef_row}
+use Rattle.c_types.specs.References.{atomic_name, reference_row, typedef_row}
+use Rattle.c_types.specs.Pointers.{pointer_row, pointed_in, is_tag_entry, tag_made}
 use Rattle.c_types.specs.Arrays.{array_row}
 use Rattle.c_types.specs.Functions.{function_row}
 use Rattle.c_types.specs.Structures.{structure_row}
 use Rattle.c_types.specs.Enumerations.{enumeration_row}
-use Rattle.c_types.specs.Types.{plain_row_of, row_of, made_in, listed, types_of, refusals_of, or_least, unit_types, types_in}
+use Rattle.c_types.specs.Types.{plain_row_of, row_of, made_in, listed, made_of, types_of, refusals_of, or_least, unit_types, types_in}
 use Rattle.c_types.specs.Ordered.{AreInOrder, LieIn}
 use Rattle.c_types.specs.Laws.{TypesRise}
 use Rattle.c_types.proofs.Accepted.{walked, accepted, in_unit}
@@ -39,48 +41,70 @@ one_of at false r s h k = k
 
 plain_stands : (c : Sections) (e : Given) → StandsAt e.at (plain_row_of c e)
 plain_stands c e =
-    if_tag e.at (e.tag == 0x0f) (pointer_row c e) _ refl
-    (if_tag e.at (e.tag == 0x16) (typedef_row c e) _ refl
+    if_tag e.at (e.tag == 0x16) (typedef_row c e) _ refl
     (if_tag e.at (e.tag == 0x24) (base_row c e) _ refl
     (if_tag e.at (e.tag == 0x26) (reference_row 10 [] c e) _ refl
     (if_tag e.at (e.tag == 0x35) (reference_row 9 [] c e) _ refl
     (if_tag e.at (e.tag == 0x37) (reference_row 11 [] c e) _ refl
     (if_tag e.at (e.tag == 0x3b) (unspecified_row c e) _ refl
-    (if_tag e.at (e.tag == 0x47) (reference_row 8 atomic_name c e) None refl tt)))))))
+    (if_tag e.at (e.tag == 0x47) (reference_row 8 atomic_name c e) None refl tt))))))
 
 row_stands : (c : Sections) (e : Given) (after : List Given) → StandsAt e.at (row_of c e after)
 row_stands c e after =
     let children = children_of e.depth after in
     if_tag e.at (e.tag == 0x01) (array_row c e children) _ refl
     (if_tag e.at (e.tag == 0x04) (enumeration_row c e children) _ (one_of e.at _ _ _ refl refl)
+    (if_tag e.at (e.tag == 0x0f) (pointer_row c e children) _ refl
     (if_tag e.at (e.tag == 0x13) (structure_row c false e children) _ (one_of e.at _ _ _ refl refl)
     (if_tag e.at (e.tag == 0x15) (function_row c e children) _ refl
-    (if_tag e.at (e.tag == 0x17) (structure_row c true e children) (plain_row_of c e) (one_of e.at _ _ _ refl refl) (plain_stands c e)))))
+    (if_tag e.at (e.tag == 0x17) (structure_row c true e children) (plain_row_of c e) (one_of e.at _ _ _ refl refl) (plain_stands c e))))))
+
+-- the type that an entry is, if it is one, stands at the entry
+abbrev TypeStandsAt : ℕ → Option SourceType → Type 0
+TypeStandsAt at o = IfSome o (λ (t : SourceType). t.at ≡ at)
+
+row_type_stands : (at : ℕ) (o : Option Row) → StandsAt at o → TypeStandsAt at (made_in o)
+row_type_stands at None h = tt
+row_type_stands at (Some r) h = h
+
+tag_stands : (c : Sections) (pointed : Option Target) (e : Given) (after : List Given) → TypeStandsAt e.at (tag_made c pointed e after)
+tag_stands c None e after = tt
+tag_stands c (Some own) e after = refl
+
+either_stands : (at : ℕ) (t : Bool) (x y : Option SourceType) → TypeStandsAt at x → TypeStandsAt at y → TypeStandsAt at (if t then x else y)
+either_stands at true x y h k = h
+either_stands at false x y h k = k
+
+made_stands : (c : Sections) (pointed : Option Target) (e : Given) (after : List Given) → TypeStandsAt e.at (made_of c pointed e after)
+made_stands c pointed e after = either_stands e.at (is_tag_entry c pointed e) (tag_made c pointed e after) (made_in (row_of c e after)) (tag_stands c pointed e after) (row_type_stands e.at (row_of c e after) (row_stands c e after))
 
 -- what holds of the places of all entries holds of those of the types
-one_stands : (P : ℕ → Type 0) (at : ℕ) (o : Option Row) → StandsAt at o → P at → All (λ (t : SourceType). P t.at) (listed (made_in o))
+one_stands : (P : ℕ → Type 0) (at : ℕ) (o : Option SourceType) → TypeStandsAt at o → P at → All (λ (t : SourceType). P t.at) (listed o)
 one_stands P at None h p = All-nil (λ (t : SourceType). P t.at)
-one_stands P at (Some r) h p = All-cons (λ (t : SourceType). P t.at) r.made [] (subst P (sym h) p) (All-nil (λ (t : SourceType). P t.at))
+one_stands P at (Some s) h p = All-cons (λ (t : SourceType). P t.at) s [] (subst P (sym h) p) (All-nil (λ (t : SourceType). P t.at))
 
-all_stand : (P : ℕ → Type 0) (c : Sections) (es : List Given) → All (λ (e : Given). P e.at) es → All (λ (t : SourceType). P t.at) (types_of c es)
-all_stand P c [] h = All-nil (λ (t : SourceType). P t.at)
-all_stand P c (e ∷ es) h =
-    All-append (λ (t : SourceType). P t.at) (listed (made_in (row_of c e es))) (types_of c es)
-    (one_stands P e.at (row_of c e es) (row_stands c e es) (All-head (λ (g : Given). P g.at) e es h)) (all_stand P c es (All-tail (λ (g : Given). P g.at) e es h))
+all_stand : (P : ℕ → Type 0) (c : Sections) (earlier es : List Given) → All (λ (e : Given). P e.at) es → All (λ (t : SourceType). P t.at) (types_of c earlier es)
+all_stand P c earlier [] h = All-nil (λ (t : SourceType). P t.at)
+all_stand P c earlier (e ∷ es) h =
+    let pointed = pointed_in c earlier e.depth in
+    All-append (λ (t : SourceType). P t.at) (listed (made_of c pointed e es)) (types_of c (e ∷ earlier) es)
+    (one_stands P e.at (made_of c pointed e es) (made_stands c pointed e es) (All-head (λ (g : Given). P g.at) e es h)) (all_stand P c (e ∷ earlier) es (All-tail (λ (g : Given). P g.at) e es h))
 
-first_stands : (at : ℕ) (o : Option Row) (ts : List SourceType) → StandsAt at o → All (λ (t : SourceType). at < t.at) ts → AreInOrder ts → AreInOrder (listed (made_in o) ++ ts)
+first_stands : (at : ℕ) (o : Option SourceType) (ts : List SourceType) → TypeStandsAt at o → All (λ (t : SourceType). at < t.at) ts → AreInOrder ts → AreInOrder (listed o ++ ts)
 first_stands at None ts h all rest = rest
-first_stands at (Some r) ts h all rest = (subst (λ (n : ℕ). All (λ (t : SourceType). n < t.at) ts) (sym h) all, rest)
+first_stands at (Some s) ts h all rest = (subst (λ (n : ℕ). All (λ (t : SourceType). n < t.at) ts) (sym h) all, rest)
 
-all_in_order : (c : Sections) (es : List Given) → Rises es → AreInOrder (types_of c es)
-all_in_order c [] h = tt
-all_in_order c (e ∷ es) h = first_stands e.at (row_of c e es) (types_of c es) (row_stands c e es) (all_stand (λ (n : ℕ). e.at < n) c es h.0) (all_in_order c es h.1)
+all_in_order : (c : Sections) (earlier es : List Given) → Rises es → AreInOrder (types_of c earlier es)
+all_in_order c earlier [] h = tt
+all_in_order c earlier (e ∷ es) h =
+    let pointed = pointed_in c earlier e.depth in
+    first_stands e.at (made_of c pointed e es) (types_of c (e ∷ earlier) es) (made_stands c pointed e es) (all_stand (λ (n : ℕ). e.at < n) c (e ∷ earlier) es h.0) (all_in_order c (e ∷ earlier) es h.1)
 
 walk_rises : (c : Sections) (walk : Coming) (from end : ℕ) (t : UnitTypes) → Rises walk.entries → StandIn from end walk.entries → types_in c walk ≡ Ok t → AreInOrder t.types × LieIn from end t.types
 walk_rises c walk from end t rise stand e =
-    let u : UnitTypes = unit_types (some_tagged 0x01 walk.entries) (types_of c walk.entries) in
-    let a = accepted u t (least (refusals_of c walk.entries)) (walked walk.ending (or_least u (least (refusals_of c walk.entries))) t e) in
-    subst (λ (v : UnitTypes). AreInOrder v.types × LieIn from end v.types) a.1 (all_in_order c walk.entries rise, all_stand (λ (n : ℕ). (from ≤ n) × (n < end)) c walk.entries stand)
+    let u : UnitTypes = unit_types (some_tagged 0x01 walk.entries) (types_of c [] walk.entries) in
+    let a = accepted u t (least (refusals_of c [] walk.entries)) (walked walk.ending (or_least u (least (refusals_of c [] walk.entries))) t e) in
+    subst (λ (v : UnitTypes). AreInOrder v.types × LieIn from end v.types) a.1 (all_in_order c [] walk.entries rise, all_stand (λ (n : ℕ). (from ≤ n) × (n < end)) c [] walk.entries stand)
 
 pub types_in_order : TypesRise
 types_in_order file unit =

@@ -43,9 +43,13 @@ set_by (Some b) = b
 abbrev pub is_set : Asked Bool → Bool
 is_set a = set_by a.said
 
+-- a text, which is read as a name
+abbrev pub text_asked : ℕ → Sections → Given → Asked (List ℕ)
+text_asked attribute c e = asked e.at (option_map (name_in c attribute) (value_with attribute e.values))
+
 -- the name (0x03); an empty one counts as none
 abbrev pub name_asked : Sections → Given → Asked (List ℕ)
-name_asked c e = asked e.at (option_map (name_in c 0x03) (value_with 0x03 e.values))
+name_asked c e = text_asked 0x03 c e
 
 abbrev pub or_empty : Option (List ℕ) → List ℕ
 or_empty None = []

@@ -9,8 +9,9 @@ use Rattle.c_types.specs.declared.open.OpenStructure.{OpenStructure}
 use Rattle.c_types.specs.declared.open.OpenFunction.{OpenFunction}
 use Rattle.c_types.specs.declared.open.OpenEnumeration.{OpenEnumeration}
 use Rattle.c_types.specs.declared.open.OpenArray.{OpenArray}
+use Rattle.c_types.specs.declared.open.OpenPointer.{OpenPointer}
 use Rattle.c_types.specs.declared.open.Kept.{Kept}
-use Rattle.c_types.specs.declared.open.Kept.TheVariants.{Structure, Function, Enumeration, Array}
+use Rattle.c_types.specs.declared.open.Kept.TheVariants.{Structure, Function, Enumeration, Array, Pointer}
 use Rattle.c_types.specs.declared.source.SourceType.{SourceType}
 use Rattle.c_types.specs.declared.source.Target.{Target}
 use Rattle.c_types.specs.declared.source.Target.TheVariants.{Index}
@@ -19,13 +20,14 @@ use Rattle.c_types.specs.declared.fault.TypeFault.TheVariants.{TooMany, ArrayLen
 use Rattle.c_types.specs.Faults.{noted, refuse_if}
 use Rattle.c_types.specs.Attributes.{has, name_asked, name_in_full, constant_asked}
 use Rattle.c_types.specs.Children.{tagged}
-use Rattle.c_types.specs.Labels.{Row, is_empty}
+use Rattle.c_types.specs.Labels.{Row, plain_label, is_empty}
 use Rattle.c_types.specs.Parts.{part_of, refused_by, some_is, some_tagged, most}
 use Rattle.c_types.specs.Structures.{or_zero, position_of, bits_in, near, member_target, member_refused, has_fields, structure_label}
 use Rattle.c_types.specs.Functions.{parameter_part, parameter_target, parameter_refused, rest_part, rest_target, function_label}
 use Rattle.c_types.specs.Enumerations.{is_negative, enumerator_part, enumerator_refused, enumeration_label}
 use Rattle.c_types.specs.Arrays.{lengths_of, array_label}
 use Rattle.c_types.specs.Lengths.{extended, is_too_long, elements_from}
+use Rattle.c_types.specs.Pointers.{link_to}
 use Rattle.c_types.specs.Taking.{made_if, refused_if}
 
 abbrev pub too_many : ℕ → ℕ → List TypeFault
@@ -126,18 +128,27 @@ array_made o kids = array_by o (all_lengths o kids)
 unfoldable pub array_refused : OpenArray → List Given → Option TypeFault
 array_refused o kids = noted o.least (refuse_if (is_too_long (all_lengths o kids)) (ArrayLength o.at))
 
+-- of an open pointer: the type of its last tag entry so far, or of the pointer itself, which the next one may follow
+abbrev pub pointer_by : OpenPointer → Target → SourceType
+pointer_by o target = record { at = o.at; label = plain_label o.kind o.name 0; targets = target ∷ [] }
+
+unfoldable pub pointer_made : Sections → OpenPointer → List Given → SourceType
+pointer_made c o kids = pointer_by o (link_to c o.at o.own kids)
+
 -- of what is kept of any open type
 abbrev pub kept_made : Sections → Kept → List Given → SourceType
 kept_made c (Structure o) kids = structure_made c o kids
 kept_made c (Function o) kids = function_made c o kids
 kept_made c (Enumeration o) kids = enumeration_made c o kids
 kept_made c (Array o) kids = array_made o kids
+kept_made c (Pointer o) kids = pointer_made c o kids
 
 abbrev pub kept_refused : Sections → Kept → List Given → Option TypeFault
 kept_refused c (Structure o) kids = structure_refused c o kids
 kept_refused c (Function o) kids = function_refused c o kids
 kept_refused c (Enumeration o) kids = enumeration_refused c o kids
 kept_refused c (Array o) kids = array_refused o kids
+kept_refused c (Pointer o) kids = None
 
 -- it comes to a row, whichever children come
 pub record ComesTo (c : Sections) (k : Kept) (row : List Given → Row) : Type 0 where

@@ -1,4 +1,4 @@
--- Types that refer to one other type (DWARF 5, sections 5.3 and 5.4): pointers, qualifiers and typedefs.
+-- Types that refer to one other type (DWARF 5, sections 5.3 and 5.4): qualifiers and typedefs.
 use Rattle.std.specs.Prelude.{ℕ, List, [], ◌∷◌, ◌++◌}
 use Rattle.dwarf_forms.specs.Meanings.{Sections}
 use Rattle.entry_tree.specs.Items.{Given}
@@ -16,10 +16,6 @@ abbrev pub reference_row : ℕ → List ℕ → Sections → Given → Row
 reference_row kind name c e =
     let target = target_asked c e in
     record { made = type_of e (plain_label kind name 0) (target_of_type e.at target ∷ []); refused = target.refused }
-
--- a pointer
-abbrev pub pointer_row : Sections → Given → Row
-pointer_row c e = reference_row 2 [] c e
 
 -- a typedef has a name
 abbrev pub typedef_row : Sections → Given → Row

@@ -16,6 +16,7 @@ use Rattle.entry_tree.specs.declared.unit.Unit.{Unit}
 use Rattle.entry_tree.specs.declared.roots.RootInfo.{RootInfo}
 use Rattle.entry_tree.specs.declared.fault.WalkFault.{WalkFault}
 use Rattle.c_types.specs.declared.source.SourceType.{SourceType}
+use Rattle.c_types.specs.declared.source.Target.{Target}
 use Rattle.c_types.specs.declared.source.UnitTypes.{UnitTypes}
 use Rattle.c_types.specs.declared.fault.TypeFault.{TypeFault}
 use Rattle.c_types.specs.declared.fault.TypeFault.TheVariants.{Abbrev, Walk, Memory}
@@ -24,17 +25,17 @@ use Rattle.c_types.specs.Children.{children_of}
 use Rattle.c_types.specs.Labels.{Row}
 use Rattle.c_types.specs.Parts.{some_tagged}
 use Rattle.c_types.specs.BaseTypes.{base_row, unspecified_row}
-use Rattle.c_types.specs.References.{atomic_name, reference_row, pointer_row, typedef_row}
+use Rattle.c_types.specs.References.{atomic_name, reference_row, typedef_row}
+use Rattle.c_types.specs.Pointers.{pointer_row, pointed_in, is_tag_entry, tag_made, annotation_refused}
 use Rattle.c_types.specs.Arrays.{array_row}
 use Rattle.c_types.specs.Functions.{function_row}
 use Rattle.c_types.specs.Structures.{structure_row}
 use Rattle.c_types.specs.Enumerations.{enumeration_row}
 
--- the tags whose rows need no children: pointer, typedef, base, const, volatile, restrict and unspecified types, and atomic ones
+-- the tags whose rows need no children: typedef, base, const, volatile, restrict and unspecified types, and atomic ones
 abbrev pub plain_row_of : Sections → Given → Option Row
 plain_row_of c e =
-    if e.tag == 0x0f then Some (pointer_row c e)
-    else if e.tag == 0x16 then Some (typedef_row c e)
+    if e.tag == 0x16 then Some (typedef_row c e)
     else if e.tag == 0x24 then Some (base_row c e)
     else if e.tag == 0x26 then Some (reference_row 10 [] c e)
     else if e.tag == 0x35 then Some (reference_row 9 [] c e)
@@ -43,11 +44,12 @@ plain_row_of c e =
     else if e.tag == 0x47 then Some (reference_row 8 atomic_name c e)
     else None
 
--- and those whose rows do: arrays, enumerations, structures, subroutine types and unions
+-- and those whose rows do: arrays, enumerations, pointers, structures, subroutine types and unions
 abbrev pub row_of : Sections → Given → List Given → Option Row
 row_of c e after =
     if e.tag == 0x01 then Some (array_row c e (children_of e.depth after))
     else if e.tag == 0x04 then Some (enumeration_row c e (children_of e.depth after))
+    else if e.tag == 0x0f then Some (pointer_row c e (children_of e.depth after))
     else if e.tag == 0x13 then Some (structure_row c false e (children_of e.depth after))
     else if e.tag == 0x15 then Some (function_row c e (children_of e.depth after))
     else if e.tag == 0x17 then Some (structure_row c true e (children_of e.depth after))
@@ -65,14 +67,21 @@ abbrev pub refused_in : Option Row → List TypeFault
 refused_in None = []
 refused_in (Some r) = r.refused
 
--- the types of some entries, in order, and all their refusals
-abbrev pub types_of : Sections → List Given → List SourceType
-types_of c [] = []
-types_of c (e ∷ es) = listed (made_in (row_of c e es)) ++ types_of c es
+-- the type that an entry is, given what its parent points to where that is a pointer, and its refusals
+abbrev pub made_of : Sections → Option Target → Given → List Given → Option SourceType
+made_of c pointed e after = if is_tag_entry c pointed e then tag_made c pointed e after else made_in (row_of c e after)
 
-abbrev pub refusals_of : Sections → List Given → List TypeFault
-refusals_of c [] = []
-refusals_of c (e ∷ es) = refused_in (row_of c e es) ++ refusals_of c es
+abbrev pub refused_of : Sections → Option Target → Given → List Given → List TypeFault
+refused_of c pointed e after = annotation_refused c pointed e ++ refused_in (row_of c e after)
+
+-- the types of some entries, in order, and all their refusals; those before them come last one first
+abbrev pub types_of : Sections → List Given → List Given → List SourceType
+types_of c earlier [] = []
+types_of c earlier (e ∷ es) = listed (made_of c (pointed_in c earlier e.depth) e es) ++ types_of c (e ∷ earlier) es
+
+abbrev pub refusals_of : Sections → List Given → List Given → List TypeFault
+refusals_of c earlier [] = []
+refusals_of c earlier (e ∷ es) = refused_of c (pointed_in c earlier e.depth) e es ++ refusals_of c (e ∷ earlier) es
 
 -- the types where nothing is refused, else the first refusal by place, number and what is kept
 abbrev pub or_least : UnitTypes → Option TypeFault → Result UnitTypes TypeFault
@@ -88,7 +97,7 @@ unit_types has_array types = record { read = true; has_array = has_array; types 
 
 -- of a walk: its own fault comes before all refusals of types
 abbrev pub types_in : Sections → Coming → Result UnitTypes TypeFault
-types_in c walk = or_walk walk.ending (or_least (unit_types (some_tagged 0x01 walk.entries) (types_of c walk.entries)) (least (refusals_of c walk.entries)))
+types_in c walk = or_walk walk.ending (or_least (unit_types (some_tagged 0x01 walk.entries) (types_of c [] walk.entries)) (least (refusals_of c [] walk.entries)))
 
 -- the languages (section 7.12) whose units are passed over: C++, Go, C++03, C++11, Rust, C++14 and the assembler of MIPS
 abbrev pub is_other_language : ℕ → Bool

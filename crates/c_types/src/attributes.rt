@@ -6,7 +6,7 @@ ghost use Rattle.dwarf_forms.specs.Meanings.{sections, Fits64};
 ghost use Rattle.entry_tree.specs.Reads.{value_with};
 ghost use Rattle.entry_tree.specs.Walks.{given_entry};
 ghost use Rattle.c_types.specs.Faults.{noted};
-ghost use Rattle.c_types.specs.Attributes.{has, name_asked, name_in_full, constant_asked, number_said, flag_asked, is_set, target_asked, target_of_type, offset_asked};
+ghost use Rattle.c_types.specs.Attributes.{has, text_asked, name_asked, name_in_full, constant_asked, number_said, flag_asked, is_set, target_asked, target_of_type, offset_asked};
 
 use crate::fault::{TypeFault, note};
 use crate::number::{Number, by_sign};
@@ -78,6 +78,29 @@ pub(crate) fn flag(entry: &Entry<'_, '_>, name: u64, least: &mut Option<TypeFaul
     }
 }
 
+/// A text that is read as a name; the empty one where an entry has none.
+pub(crate) fn text<'a>(
+    ctx: &FormCtx<'a>,
+    entry: &Entry<'_, 'a>,
+    name: u64,
+    least: &mut Option<TypeFault>,
+) -> Name<'a>
+    requires { IsContext ctx.now }
+    ensures said { result ≡ name_in_full (text_asked name (sections ctx.now) (given_entry entry.now)) }
+    ensures noted { least.new ≡ noted least.old (text_asked name (sections ctx.now) (given_entry entry.now)).refused }
+{
+    match attribute(entry, name) {
+        None => Name::new(&[]),
+        Some(given) => match name_of(ctx, name, &given) {
+            Ok(found) => found,
+            Err(fault) => {
+                note(least, TypeFault::Form(entry.at, fault));
+                Name::new(&[])
+            }
+        },
+    }
+}
+
 /// The name of an entry; the empty one where it has none.
 pub(crate) fn name<'a>(
     ctx: &FormCtx<'a>,
@@ -88,16 +111,7 @@ pub(crate) fn name<'a>(
     ensures said { result ≡ name_in_full (name_asked (sections ctx.now) (given_entry entry.now)) }
     ensures noted { least.new ≡ noted least.old (name_asked (sections ctx.now) (given_entry entry.now)).refused }
 {
-    match attribute(entry, NAME) {
-        None => Name::new(&[]),
-        Some(given) => match name_of(ctx, NAME, &given) {
-            Ok(found) => found,
-            Err(fault) => {
-                note(least, TypeFault::Form(entry.at, fault));
-                Name::new(&[])
-            }
-        },
-    }
+    text(ctx, entry, NAME, least)
 }
 
 /// The type that an entry refers to; `void` where it refers to none.

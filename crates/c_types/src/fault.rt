@@ -20,7 +20,7 @@ pub enum TypeFault {
     /// A value isn't what the attribute needs.
     #[error("the entry at {0}: {1}")]
     Form(u64, FormFault),
-    /// A base type, a typedef or an enumerator has no name.
+    /// A base type, a typedef or an enumerator has no name, or a type tag no value or an empty one.
     #[error("the entry at {0} has no name")]
     MissingName(u64),
     /// A base type, a structure, a union or an enumeration has no byte_size.

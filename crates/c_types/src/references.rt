@@ -1,4 +1,4 @@
-//! Pointers, qualifiers and typedefs.
+//! Qualifiers and typedefs.
 ghost use Rattle.std.specs.Prelude.{◌≡◌, IfOk, OnOk};
 ghost use Rattle.dwarf_forms.specs.Values.{IsContext};
 ghost use Rattle.dwarf_forms.specs.Meanings.{sections};

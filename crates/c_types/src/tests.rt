@@ -2,6 +2,7 @@
 mod compiled;
 mod large;
 mod refusals;
+mod type_tags;
 mod worked;
 
 use crate::fault::TypeFault;
@@ -93,6 +94,17 @@ const ABBREVIATIONS: &[u8] = &[
     75, 0x0b, 1, 0, 0, // lexical_block
     76, 0x2e, 1, 0, 0, // subprogram
     77, 0x13, 0, 0x0b, 0x0b, 0, 0, // structure_type with byte_size, without children
+    78, 0x0f, 1, 0x49, 0x11, 0, 0, // pointer_type with children, type by ref1
+    79, 0x80, 0xc0, 1, 0, 0x03, 0x08, 0x1c, 0x08, 0, 0, // GNU_annotation with name, const_value
+    80, 0x80, 0xc0, 1, 0, 0x03, 0x08, 0, 0, // with name
+    81, 0x80, 0xc0, 1, 0, 0x1c, 0x08, 0, 0, // with const_value
+    82, 0x80, 0xc0, 1, 0, 0x03, 0x0b, 0, 0, // with name by data1
+    83, 0x80, 0xc0, 1, 0, 0x03, 0x08, 0x1c, 0x0b, 0, 0, // with name, const_value by data1
+    84, 0x81, 0xc0, 1, 0, 0x03, 0x08, 0x1c, 0x08, 0, 0, // tag 0x6001 with name, const_value
+    85, 0x80, 0xc0, 1, 1, 0x03, 0x08, 0x1c, 0x08, 0, 0, // GNU_annotation with children, name, const_value
+    86, 0x0f, 1, 0, 0, // pointer_type with children
+    87, 0x0f, 1, 0x49, 0x0b, 0, 0, // with type by data1
+    88, 0x80, 0xc0, 1, 0, 0x03, 0x1d, 0, 0, // GNU_annotation with name by strp_sup
     0,
 ];
 

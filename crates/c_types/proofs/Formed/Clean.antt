@@ -124,4 +124,4 @@ with_clean name [] w all e = absurd (cc)
 with_clean name (v ∷ vs) w all e = valued name v vs w (v.0 == name) (All-head IsCleanValue v vs all) (with_clean name vs w (All-tail IsCleanValue v vs all)) e
 
 pub named_cleanly : (e : Given) → IsClean e → IsNamedCleanly e
-named_cleanly e clean v t has is = own_text v.value t (with_clean 0x03 e.values v clean has) is
+named_cleanly e clean attribute v t has is = own_text v.value t (with_clean attribute e.values v clean has) is

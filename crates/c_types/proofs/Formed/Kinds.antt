@@ -67,9 +67,9 @@ opaque_formed name size clean s =
     (λ (tag : Tag) (e : declared_tag (plain_label 4 name size) ≡ Some tag). absurd (none-some tag e))
 
 -- a kind that refers to one type and has nothing else but a name
-pub linked_formed : (kind : ℕ) (name : List ℕ) → row_of kind ≡ Some (linked_row 1 false) → ((tag : Tag) → declared_tag (plain_label kind name 0) ≡ Some tag → ⊥) → HasNoNul name → IsFormed (plain_label kind name 0) 1
-linked_formed kind name is none clean =
-    fitting (linked_row 1 false) (plain_label kind name 0) 1 is
+pub linked_formed : (kind : ℕ) (name : List ℕ) (flag : Bool) → row_of kind ≡ Some (linked_row 1 flag) → ((tag : Tag) → declared_tag (plain_label kind name 0) ≡ Some tag → ⊥) → HasNoNul name → IsFormed (plain_label kind name 0) 1
+linked_formed kind name flag is none clean =
+    fitting (linked_row 1 flag) (plain_label kind name 0) 1 is
     (record { name = clean; flag = λ t. unset t; size = omega arith; extra = omega arith; targets = refl; few = omega arith; parts = refl })
     (λ (tag : Tag) (e : declared_tag (plain_label kind name 0) ≡ Some tag). absurd (none tag e))
 

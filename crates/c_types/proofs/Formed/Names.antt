@@ -14,11 +14,11 @@ use Rattle.dwarf_forms.specs.Values.Plain.{number, text}
 use Rattle.dwarf_forms.specs.Meanings.{Sections, or_out, string_at, through, number_name, plain_name, name_in}
 use Rattle.entry_tree.specs.Items.{Given}
 use Rattle.entry_tree.specs.Reads.{value_with}
-use Rattle.c_types.specs.Attributes.{asked, name_asked, name_in_full}
+use Rattle.c_types.specs.Attributes.{asked, text_asked, name_asked, name_in_full}
 
--- a name that is an entry's own value has no NUL
+-- a text that is an entry's own value has no NUL
 abbrev pub IsNamedCleanly : Given → Type 0
-IsNamedCleanly e = (v : Shown) (t : List ℕ) → value_with 0x03 e.values ≡ Some v → v.value ≡ text t → HasNoNul t
+IsNamedCleanly e = (attribute : ℕ) (v : Shown) (t : List ℕ) → value_with attribute e.values ≡ Some v → v.value ≡ text t → HasNoNul t
 
 first : (b : ℕ) (t : List ℕ) (z : Bool) → (b == 0) ≡ z → (o : Option (List ℕ)) → ((u : List ℕ) → o ≡ Some u → HasNoNul u) → (if z then Some [] else option_map (λ (rest : List ℕ). b ∷ rest) o) ≡ Some t → HasNoNul t
 first b t true z o ih e = let q : [] ≡ t = cc in subst HasNoNul q (All-nil (λ (byte : ℕ). byte ≢ 0))
@@ -60,12 +60,16 @@ said_clean : (at : ℕ) (r : Result (List ℕ) FormFault) → ((n : List ℕ) �
 said_clean at (Ok n) clean = clean n refl
 said_clean at (Err f) clean = All-nil (λ (byte : ℕ). byte ≢ 0)
 
-value_clean : (c : Sections) (at : ℕ) (o : Option Shown) → ((v : Shown) (t : List ℕ) → o ≡ Some v → v.value ≡ text t → HasNoNul t) → HasNoNul (name_in_full (asked at (option_map (name_in c 0x03) o)))
-value_clean c at None clean = All-nil (λ (byte : ℕ). byte ≢ 0)
-value_clean c at (Some v) clean = said_clean at (name_in c 0x03 v) (λ (n : List ℕ) (h : name_in c 0x03 v ≡ Ok n). plain_clean c 0x03 v.form v.value n (λ (t : List ℕ) (is : v.value ≡ text t). clean v t refl is) h)
+value_clean : (c : Sections) (attribute at : ℕ) (o : Option Shown) → ((v : Shown) (t : List ℕ) → o ≡ Some v → v.value ≡ text t → HasNoNul t) → HasNoNul (name_in_full (asked at (option_map (name_in c attribute) o)))
+value_clean c attribute at None clean = All-nil (λ (byte : ℕ). byte ≢ 0)
+value_clean c attribute at (Some v) clean =
+    said_clean at (name_in c attribute v) (λ (n : List ℕ) (h : name_in c attribute v ≡ Ok n). plain_clean c attribute v.form v.value n (λ (t : List ℕ) (is : v.value ≡ text t). clean v t refl is) h)
+
+pub text_clean_of : (attribute : ℕ) (c : Sections) (e : Given) → IsNamedCleanly e → HasNoNul (name_in_full (text_asked attribute c e))
+text_clean_of attribute c e clean = value_clean c attribute e.at (value_with attribute e.values) (clean attribute)
 
 pub name_clean : (c : Sections) (e : Given) → IsNamedCleanly e → HasNoNul (name_in_full (name_asked c e))
-name_clean c e clean = value_clean c e.at (value_with 0x03 e.values) clean
+name_clean c e clean = text_clean_of 0x03 c e clean
 
 -- a name that is spelled out
 abbrev pub some_zero : List ℕ → Bool

@@ -13,11 +13,12 @@ use Rattle.c_types.specs.declared.base.Base.TheVariants.{Int, Float, Opaque}
 use Rattle.c_types.specs.Attributes.{name_asked, name_in_full, constant_asked, number_said}
 use Rattle.c_types.specs.Labels.{Row, plain_label, word_of, size_in}
 use Rattle.c_types.specs.BaseTypes.{int_word, is_integer, is_float, base_of, code_in, is_whole, base_with, base_label, base_row, unspecified_row}
-use Rattle.c_types.specs.References.{atomic_name, reference_row, pointer_row, typedef_row}
+use Rattle.c_types.specs.References.{atomic_name, reference_row, typedef_row}
+use Rattle.c_types.specs.Pointers.{pointer_row, tag_asked}
 use Rattle.c_types.specs.Types.{plain_row_of}
 use Rattle.c_types.specs.Arrays.{elements_of, elements_in, some_long, lengths_of, array_row}
 use Rattle.c_types.specs.Formed.{IsFormed}
-use Rattle.c_types.proofs.Formed.Names.{IsNamedCleanly, name_clean, spelled_clean}
+use Rattle.c_types.proofs.Formed.Names.{IsNamedCleanly, text_clean_of, name_clean, spelled_clean}
 use Rattle.c_types.proofs.Formed.Kinds.{no_name, int_formed, float_formed, opaque_formed, linked_formed, array_formed}
 
 -- the type of a row is formed
@@ -76,10 +77,10 @@ unspecified_formed : (c : Sections) (e : Given) → IsNamedCleanly e → HasForm
 unspecified_formed c e clean = opaque_formed (name_in_full (name_asked c e)) 0 (name_clean c e clean) (omega arith)
 
 typedef_formed : (c : Sections) (e : Given) → IsNamedCleanly e → HasFormed (typedef_row c e)
-typedef_formed c e clean = linked_formed 8 (name_in_full (name_asked c e)) refl (λ (tag : Tag) (h : declared_tag (plain_label 8 (name_in_full (name_asked c e)) 0) ≡ Some tag). none-some tag h) (name_clean c e clean)
+typedef_formed c e clean = linked_formed 8 (name_in_full (name_asked c e)) false refl (λ (tag : Tag) (h : declared_tag (plain_label 8 (name_in_full (name_asked c e)) 0) ≡ Some tag). none-some tag h) (name_clean c e clean)
 
 reference_formed : (kind : ℕ) (name : List ℕ) (c : Sections) (e : Given) → row_of kind ≡ Some (linked_row 1 false) → ((tag : Tag) → declared_tag (plain_label kind name 0) ≡ Some tag → ⊥) → HasNoNul name → HasFormed (reference_row kind name c e)
-reference_formed kind name c e is none clean = linked_formed kind name is none clean
+reference_formed kind name c e is none clean = linked_formed kind name false is none clean
 
 atomic_clean : HasNoNul atomic_name
 atomic_clean = spelled_clean atomic_name refl
@@ -98,14 +99,21 @@ either_row false r o h k = k
 
 pub plain_formed : (c : Sections) (e : Given) → IsNamedCleanly e → IsFormedIn (plain_row_of c e)
 plain_formed c e clean =
-    either_row (e.tag == 0x0f) (pointer_row c e) _ (λ n. reference_formed 2 [] c e refl (λ (tag : Tag) (h : declared_tag (plain_label 2 [] 0) ≡ Some tag). none-some tag h) no_name)
-    (either_row (e.tag == 0x16) (typedef_row c e) _ (λ n. typedef_formed c e clean)
+    either_row (e.tag == 0x16) (typedef_row c e) _ (λ n. typedef_formed c e clean)
     (either_row (e.tag == 0x24) (base_row c e) _ (λ n. base_formed c e clean)
     (either_row (e.tag == 0x26) (reference_row 10 [] c e) _ (λ n. reference_formed 10 [] c e refl (λ (tag : Tag) (h : declared_tag (plain_label 10 [] 0) ≡ Some tag). none-some tag h) no_name)
     (either_row (e.tag == 0x35) (reference_row 9 [] c e) _ (λ n. reference_formed 9 [] c e refl (λ (tag : Tag) (h : declared_tag (plain_label 9 [] 0) ≡ Some tag). none-some tag h) no_name)
     (either_row (e.tag == 0x37) (reference_row 11 [] c e) _ (λ n. reference_formed 11 [] c e refl (λ (tag : Tag) (h : declared_tag (plain_label 11 [] 0) ≡ Some tag). none-some tag h) no_name)
     (either_row (e.tag == 0x3b) (unspecified_row c e) _ (λ n. unspecified_formed c e clean)
-    (either_row (e.tag == 0x47) (reference_row 8 atomic_name c e) None (λ n. reference_formed 8 atomic_name c e refl (λ (tag : Tag) (h : declared_tag (plain_label 8 atomic_name 0) ≡ Some tag). none-some tag h) atomic_clean) tt)))))))
+    (either_row (e.tag == 0x47) (reference_row 8 atomic_name c e) None (λ n. reference_formed 8 atomic_name c e refl (λ (tag : Tag) (h : declared_tag (plain_label 8 atomic_name 0) ≡ Some tag). none-some tag h) atomic_clean) tt))))))
+
+-- pointers, and tag entries
+pub pointer_row_formed : (c : Sections) (e : Given) (children : List Given) → IsFormedRow (pointer_row c e children)
+pointer_row_formed c e children n = linked_formed 2 [] false refl (λ (tag : Tag) (h : declared_tag (plain_label 2 [] 0) ≡ Some tag). none-some tag h) no_name
+
+pub tag_formed : (c : Sections) (e : Given) → IsNamedCleanly e → IsFormed (plain_label 18 (name_in_full (tag_asked c e)) 0) 1
+tag_formed c e clean =
+    linked_formed 18 (name_in_full (tag_asked c e)) true refl (λ (tag : Tag) (h : declared_tag (plain_label 18 (name_in_full (tag_asked c e)) 0) ≡ Some tag). none-some tag h) (text_clean_of 0x1c c e clean)
 
 -- arrays
 few_elements : (os : List (Option ℕ)) (s t : Bool) → nat_lt (elements_of os) (2 ^ 32) ≡ t → (if s || not t then 0 else elements_of os) < 2 ^ 32

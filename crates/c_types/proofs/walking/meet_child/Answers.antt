@@ -1,4 +1,4 @@
-use Rattle.std.proofs.Common.{◌∷◌, ◌∙◌, ap, sym}
+use Rattle.std.proofs.Common.{◌≡◌, ◌∷◌, ◌∙◌, false, ap, sym, subst}
 use Rattle.dwarf_forms.specs.Meanings.{sections}
 use Rattle.entry_tree.specs.Walks.{given_entry}
 use Rattle.c_types.specs.declared.open.Kept.{Kept}
@@ -7,6 +7,9 @@ use Rattle.c_types.proofs.OpenStructures.{structure_met, structure_met_refused}
 use Rattle.c_types.proofs.OpenFunctions.{function_met, function_met_refused}
 use Rattle.c_types.proofs.OpenEnumerations.{enumeration_met, enumeration_met_refused}
 use Rattle.c_types.proofs.OpenArrays.{array_met, array_met_refused}
+use Rattle.c_types.specs.Pointers.{is_tag_entry}
+use Rattle.c_types.specs.Walking.{own_of}
+use Rattle.c_types.proofs.OpenPointers.{pointer_passes}
 use Rattle.c_types.proofs.walking.meet_child.Goals as goal
 
 pub returns-in_ok-meet_structure-in-Structure-clause-made : goal.returns-in_ok-meet_structure-in-Structure-clause-made
@@ -48,3 +51,13 @@ pub returns-in-Array-clause-refused : goal.returns-in-Array-clause-refused
 returns-in-Array-clause-refused c = λ kids.
     array_met_refused (given_entry c.args.child.now) c.in-Array.parent c.meet_array.new.parent kids c.meet_array.ensures.lengths c.meet_array.ensures.at c.meet_array.ensures.least
     ∙ ap (λ (k : Kept). kept_refused (sections c.args.ctx.now) k (given_entry c.args.child.now ∷ kids)) (sym c.in-Array.is)
+
+pub returns-in-Pointer-clause-made : goal.returns-in-Pointer-clause-made
+returns-in-Pointer-clause-made c = λ kids.
+    let untagged = subst (λ (k : Kept). is_tag_entry (sections c.args.ctx.now) (own_of k) (given_entry c.args.child.now) ≡ false) c.in-Pointer.is c.requires.untagged in
+    ap (λ (k : Kept). kept_made (sections c.args.ctx.now) k kids) c.in-Pointer.is ∙ pointer_passes (sections c.args.ctx.now) (given_entry c.args.child.now) _ kids untagged
+    ∙ ap (λ (k : Kept). kept_made (sections c.args.ctx.now) k (given_entry c.args.child.now ∷ kids)) (sym c.in-Pointer.is)
+
+pub returns-in-Pointer-clause-refused : goal.returns-in-Pointer-clause-refused
+returns-in-Pointer-clause-refused c = λ kids.
+    ap (λ (k : Kept). kept_refused (sections c.args.ctx.now) k kids) c.in-Pointer.is ∙ ap (λ (k : Kept). kept_refused (sections c.args.ctx.now) k (given_entry c.args.child.now ∷ kids)) (sym c.in-Pointer.is)

@@ -8,6 +8,7 @@ use Rattle.c_types.specs.Children.{children_of}
 use Rattle.c_types.specs.Faults.{noted}
 use Rattle.c_types.specs.Enumerations.{bare_row, enumeration_row}
 use Rattle.c_types.proofs.Stack.{row_declared, taken_filled, taken_least, joined_two}
+use Rattle.c_types.proofs.Pointing.{pointed_unopened}
 use Rattle.c_types.proofs.walking.take_enumeration.Goals as goal
 
 pub returns-then-not-is_declared-clause-types : goal.returns-then-not-is_declared-clause-types
@@ -36,3 +37,6 @@ returns-clause-least c = λ es later.
     (joined_two c.args.reading.now.current c.declared_enumeration-made.new.least c.join-reading.result (flag_asked 0x3c e).refused ((name_asked s e).refused ++ bare)
     (c.declared_enumeration-made.ensures.noted ∙ ap (λ (o : Option TypeFault). noted o ((name_asked s e).refused ++ bare)) c.flag-is_declared.ensures.noted) c.join-reading.ensures
     ∙ ap (λ (fs : List TypeFault). noted c.args.reading.now.current fs) (sym (append_assoc (flag_asked 0x3c e).refused (name_asked s e).refused bare) ∙ sym (row_declared s e kids set).1))
+
+pub returns-clause-pointed : goal.returns-clause-pointed
+returns-clause-pointed c = λ d. pointed_unopened c.args.reading.now.opens.items c.args.entry.now.depth d c.requires.above
