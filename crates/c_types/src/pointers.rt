@@ -22,6 +22,11 @@ use dwarf_forms::FormCtx;
 use entry_tree::Entry;
 use std::alloc::{AllocError, Global};
 
+/// The kinds of BTF that pointers and their tags are.
+pub(crate) const BTF_KIND_PTR: u8 = 2;
+
+pub(crate) const BTF_KIND_TYPE_TAG: u8 = 18;
+
 /// The type of a pointer, or of a tag entry, that refers to a target.
 pub(crate) fn pointing<'a>(
     alloc: Global,
