@@ -1,6 +1,6 @@
 -- The table of abbreviations that was read last.
-use Rattle.std.proofs.Common.{◌≡◌, ℕ, ◌<◌, Bool, List, length, take, drop, get_or, Option, None, Some, IsTrue, IfSome, sym, ap, subst, ◌∙◌}
-use Rattle.std.proofs.lemmas.List.Elements.{All-get_or, All-take, All-drop}
+use Rattle.std.proofs.Common.{◌≡◌, ℕ, ◌<◌, Bool, List, [], ◌∷◌, ◌++◌, length, take, drop, get_or, Option, None, Some, IsTrue, IfSome, sym, ap, subst, ◌∙◌}
+use Rattle.std.proofs.lemmas.List.Elements.{All-get_or, All-take, All-drop, All-push}
 use Rattle.c_types.specs.Tables.{IsTableAt}
 use Rattle.unit_encoder.specs.Sources.{FileUnit}
 use Rattle.unit_encoder.specs.Tables.{AreOf, AreOfFiles, IsKept}
@@ -25,3 +25,7 @@ files_before b n us h is = let of = h is in (of.0, All-take (λ (u : FileUnit). 
 
 pub files_behind : (b : Bool) (n : ℕ) (us : List FileUnit) → (IsTrue b → AreOfFiles us) → IsTrue b → AreOfFiles (drop n us)
 files_behind b n us h is = let of = h is in (of.0, All-drop (λ (u : FileUnit). u.bytes ≡ of.0 u.file) n us of.1)
+
+-- and one more unit of its file
+pub files_more : (files : ℕ → List ℕ) (us : List FileUnit) (u : FileUnit) → AreOf files us → u.bytes ≡ files u.file → AreOf files (us ++ u ∷ [])
+files_more files us u all own = All-push (λ (v : FileUnit). v.bytes ≡ files v.file) us u all own
