@@ -59,6 +59,7 @@ TOLD = [
     ("docs/PROMISES.md", r"(\d+) lists of words", lambda: 1 + occurrences("crates/command_line/src/tests.rt", r"^(?!const|///).* -> \w+ ")),
     ("docs/PROMISES.md", r"on (\d+) graphs whose", lambda: printed("graph_cases", r"^worked graphs with their tables: (\d+), as expected$")),
     ("docs/PROMISES.md", r"The tables of the (\d+),", lambda: printed("graph_cases", r"^worked graphs with their tables: (\d+), as expected$")),
+    ("docs/PROMISES.md", r"on (\d+) in shapes", lambda: printed("graph_cases", r"^shapes with their numbers of classes: (\d+), as expected$")),
     ("docs/PROMISES.md", r"and on (\d+) made ones", lambda: printed("graph_cases", r"^made graphs: (\d+), none differs$")),
     ("docs/PROMISES.md", r"merges ([\d,]+) integers", lambda: printed("graph_cases", r"^(\d+) sizes of INT, all differ: yes$")),
     ("docs/PROMISES.md", r"(\d+) BTF files of both", lambda: printed("btf_cases", r"^(\d+) cases, 0 differ$")),

@@ -3,7 +3,7 @@ use crate::fault::Fault;
 use crate::merged::{Found, merged};
 use crate::plain::{Relation, View, opened};
 use crate::rows::{Table, types_of};
-use std::alloc::Global;
+use std::alloc::{AllocError, Global};
 use std::thread::Threads;
 
 /// Whether numbers are equal exactly where a relation relates their places.
@@ -28,6 +28,14 @@ pub fn is_one_relation(p: &[u32], q: &[u32]) -> bool {
         }
     }
     p.len() == q.len()
+}
+
+/// How many different numbers there are.
+pub fn class_count(alloc: Global, numbers: &[u32]) -> Result<usize, AllocError> {
+    let mut sorted = Vec::from_slice(alloc, numbers)?;
+    sorted.sort_unstable();
+    sorted.dedup();
+    Ok(sorted.len())
 }
 
 /// What occurs in tables.

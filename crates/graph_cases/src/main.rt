@@ -9,13 +9,15 @@ mod made;
 mod merged;
 mod plain;
 mod rows;
+mod shapes;
 mod sizes;
 mod tables;
 mod worked;
 
 use anyhow::Error;
-use compared::{Tally, decided, is_one_relation};
+use compared::{Tally, class_count, decided, is_one_relation};
 use made::{Draws, made_table};
+use shapes::{SHAPES, shaped};
 use sizes::{
     all_differ, empty_rounds, ints_of_sizes, long_name_table, ring_has_two_classes, table_len,
 };
@@ -32,6 +34,7 @@ const MADE: u64 = 300;
 fn main(rt: HostRuntime) -> ExitCode {
     let alloc = rt.alloc();
     let all = worked_agree(&rt, alloc)
+        .and_then(|first| Ok(shapes_agree(&rt, alloc)? && first))
         .and_then(|first| Ok(joins_hold(&rt, alloc)? && first))
         .and_then(|first| Ok(made_agree(&rt, alloc)? && first))
         .and_then(|first| Ok(limits_hold(&rt, alloc)? && first));
@@ -87,6 +90,30 @@ fn worked_agree<R: Print + Threads + Sync>(rt: &R, alloc: Global) -> Result<bool
     let verdict = if all { "as expected" } else { "some differ" };
     println!(rt; "worked graphs with their tables: {count}, {verdict}")?;
     Ok(all)
+}
+
+/// The shapes: both programs find one relation, with as many classes as are written beside each.
+fn shapes_agree<R: Print + Threads + Sync>(rt: &R, alloc: Global) -> Result<bool, Error> {
+    let mut differ = 0u64;
+    let mut tally = Tally::default();
+    for (name, shape, classes) in SHAPES {
+        let table = shaped(alloc, shape)?;
+        let (found, same) = decided(rt, alloc, &table, &mut tally)?;
+        if !same || class_count(alloc, found.refined.classes.numbers())? != *classes {
+            println!(rt; "{name} differs")?;
+            differ = differ.saturating_add(1);
+        }
+    }
+    let verdict = if differ == 0 {
+        "as expected"
+    } else {
+        "some differ"
+    };
+    println!(rt;
+        "shapes with their numbers of classes: {}, {verdict}",
+        SHAPES.len()
+    )?;
+    Ok(differ == 0)
 }
 
 /// A base and a file at the limit of nodes.
