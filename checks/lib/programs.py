@@ -291,6 +291,8 @@ def type_tags(program, readers):
     wanted = ['int __attribute__((btf_type_tag("user"))) *one;', "int *none;"]
     if any(line not in re.sub(r" +", " ", shown) for line in wanted) or shown.count("percpu") != 1:
         return "failed", f"shown as {shown!r}"
+    if "libbpf" in readers and run([readers["libbpf"], "o"]).returncode != 0:
+        return "failed", "libbpf refuses it"
     if "bpftool" not in readers:
         return "passed", f"{len(stored)} bytes of BTF"
     told = run([readers["bpftool"], "btf", "dump", "file", "o", "format", "raw"]).stdout.decode()
