@@ -1,7 +1,7 @@
 -- Files that are patched one after the other.
-use Rattle.std.proofs.Common.{◌≡◌, ◌≢◌, ◌+◌, ◌<◌, ◌≤◌, ◌⊎◌, ◌++◌, ℕ, suc, List, [], ◌∷◌, All, Option, None, Some, refl, sym, ap, ◌∙◌, subst, arith, length, get_or, set, take, drop, map, min, inl, inr, ⊎_elim}
+use Rattle.std.proofs.Common.{◌≡◌, ◌≢◌, ◌+◌, ◌<◌, ◌≤◌, ◌⊎◌, ◌++◌, ℕ, suc, List, [], ◌∷◌, All, Option, None, Some, refl, sym, ap, ◌∙◌, subst, arith, length, get_or, set, take, drop, map, inl, inr}
 use Rattle.std.specs.Option.{option_or}
-use Rattle.std.proofs.lemmas.List.{append-nil, drop_all, drop_more, get_or_at, get_or_default, get_or-set_other, get_or-set_same, length-map, length-take, length-set, take_all}
+use Rattle.std.proofs.lemmas.List.{append-nil, drop_all, drop_more, get_or_at, get_or_default, get_or-set_other, get_or-set_same, length-map, length-take, take_all}
 use Rattle.std.proofs.lemmas.List.Edits.{map_over_more}
 use Rattle.std.proofs.lemmas.List.Sums.{sum_by-set}
 use Rattle.std.proofs.lemmas.Bool.{cases_eq}

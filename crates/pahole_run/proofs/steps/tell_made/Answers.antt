@@ -1,4 +1,4 @@
-use Rattle.std.proofs.Common.{◌≡◌, ◌∙◌, ◌∷◌, [], ℕ, List, None, Ok, Err, ap, rules}
+use Rattle.std.proofs.Common.{◌≡◌, ◌∙◌, ◌∷◌, [], None, Err, ap, rules}
 use Rattle.command_line.specs.declared.job.Format.TheVariants.{Dwarf}
 use Rattle.dwarf_gen.specs.Images.{image_bytes}
 use Rattle.dwarf_gen.specs.Sizes.{spec_from}
