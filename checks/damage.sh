@@ -7,12 +7,7 @@ set -u
 export LC_ALL=C
 . "$(dirname "$0")/lib/program.sh"
 
-for tool in cc python3; do
-  if ! command -v "$tool" >/dev/null; then
-    echo "skipped damage: $tool is not installed"
-    exit 0
-  fi
-done
+need damage cc python3
 scratch=$(mktemp -d) || exit 2
 trap 'rm -rf "$scratch"' EXIT
 build() { "$1" -g -gdwarf-5 ${3:+"$3"} -o "$scratch/whole.$2" "$root/demo/registry.c" "$root/demo/main.c" 2>/dev/null; }

@@ -5,10 +5,8 @@
 set -u
 export LC_ALL=C.UTF-8
 root=$(cd "$(dirname "$0")/.." && pwd) || exit 2
-if ! command -v python3 >/dev/null; then
-  echo "skipped docs: python3 is not installed"
-  exit 0
-fi
+. "$root/checks/lib/need.sh"
+need docs python3
 python3 -B "$root/checks/lib/docs.py" "$root"
 python3 -B "$root/checks/lib/counts.py" "$root"
 python3 -B "$root/checks/lib/bugs.py" "$root"

@@ -1,23 +1,18 @@
 #!/usr/bin/env bash
-# The examples of the README and of the manual page: the built program prints of the program of demo/ what they show, and files are as
+# The examples of the README, of the manual page and of docs/TASKS.md: the built program prints of the program of demo/ what they show, and files are as
 # long as they say.
 set -u
 export LC_ALL=C.UTF-8
 . "$(dirname "$0")/lib/program.sh"
 
-for tool in cc python3; do
-  if ! command -v "$tool" >/dev/null; then
-    echo "skipped examples: $tool is not installed"
-    exit 0
-  fi
-done
+need examples cc python3
 case "$(cc -dumpmachine)" in
   x86_64*) ;;
   *) echo "skipped examples: they are of another machine" && exit 0 ;;
 esac
-# as checks/lib/demo.sh does it: the names of folders stand in the file, so its size depends on them
+# as tools/demo.sh does it: the names of folders stand in the file, so its size depends on them
 scratch=$(TMPDIR=/tmp mktemp -d) || exit 2
 trap 'rm -rf "$scratch"' EXIT
 cp -r "$root/demo" "$scratch/demo"
 (cd "$scratch" && cc -g -gdwarf-5 -o registry demo/registry.c demo/main.c) || exit 2
-python3 -B "$root/checks/lib/examples.py" "$program" "$scratch" "$root/README.md" "$root/docs/man/pahole.1"
+python3 -B "$root/checks/lib/examples.py" "$program" "$scratch" "$root/README.md" "$root/docs/man/pahole.1" "$root/docs/TASKS.md"

@@ -6,10 +6,7 @@ set -u
 export LC_ALL=C
 . "$(dirname "$0")/lib/program.sh"
 
-if ! command -v python3 >/dev/null; then
-  echo "skipped growth: python3 is not installed"
-  exit 0
-fi
+need growth python3
 scratch=$(mktemp -d) || exit 2
 trap 'rm -rf "$scratch"' EXIT
 python3 -B "$root/checks/lib/growth.py" "$program" "$scratch" "$([ -n "${LARGE:-}" ] && echo large || echo small)"

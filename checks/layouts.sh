@@ -6,12 +6,7 @@ set -u
 export LC_ALL=C
 . "$(dirname "$0")/lib/program.sh"
 
-for tool in cc python3; do
-  if ! command -v "$tool" >/dev/null; then
-    echo "skipped layouts: $tool is not installed"
-    exit 0
-  fi
-done
+need layouts cc python3
 scratch=$(mktemp -d) || exit 2
 trap 'rm -rf "$scratch"' EXIT
 python3 "$root/checks/lib/layouts.py" "$program" "$root/demo" "$scratch"

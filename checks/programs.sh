@@ -2,17 +2,12 @@
 # Real programs: the C program of demo/, built by compilers in several ways and for several machines, encoded and shown by the built
 # program with one worker and with four. Both give the same bytes, bpftool and libbpf read them, and each structure's size and the places
 # and bits of its members, in the table and in the printed layouts, are what the compiler says of them. Files of a kind that is not
-# read are refused with their number and place. What is not installed is skipped by name; checks/lib/install-tools.sh installs it.
+# read are refused with their number and place. What is not installed is skipped by name; tools/install-tools.sh installs it.
 set -u
 export LC_ALL=C
 . "$(dirname "$0")/lib/program.sh"
 
-for tool in cc python3; do
-  if ! command -v "$tool" >/dev/null; then
-    echo "skipped programs: $tool is not installed"
-    exit 0
-  fi
-done
+need programs cc python3
 scratch=$(mktemp -d) || exit 2
 trap 'rm -rf "$scratch"' EXIT
 python3 -B "$root/checks/lib/programs.py" "$program" "$root/demo" "$scratch"

@@ -10,6 +10,8 @@ import sys
 
 from btf import KINDS
 from docs import CODE, ROOT, crates, read
+
+sys.path.append(os.path.join(ROOT, "tools"))
 from measure import ALL
 
 WORDS = "zero one two three four five six seven eight nine ten eleven twelve thirteen fourteen fifteen sixteen seventeen eighteen nineteen".split()
@@ -109,7 +111,7 @@ def check_unseen():
     page = read("docs/AUDIT.md")
     words = CODE.findall(page[page.index("## What no clause can refuse"):])
     told = {word for word in words if re.fullmatch(r"[a-z]+(_[a-z]+)+", word)} - set(crates())
-    there = {os.path.basename(path)[:-5] for path in glob.glob(f"{ROOT}/checks/lib/unseen/*.edit")}
+    there = {os.path.basename(path)[:-5] for path in glob.glob(f"{ROOT}/tools/unseen/*.edit")}
     faults = [f"{name} is not named" for name in sorted(there - told)]
     return faults + [f"{name} is named and not there" for name in sorted(told - there)], f"{len(there)} edits"
 

@@ -1,5 +1,6 @@
-"""examples.py PROGRAM FOLDER PAGE..: runs the commands `$ pahole ..` of pages in FOLDER, and compares what they print with the page. A line
-`FILE: N bytes of WHAT` is compared with the file that lies there, where the compiler is the one that the pages' numbers are from."""
+"""examples.py PROGRAM FOLDER PAGE..: runs the commands `$ ..` of pages in FOLDER, in their order, with PROGRAM as `pahole`, and compares what they
+print with the page. A line `FILE: N bytes of WHAT` is compared with the file that lies there, where the compiler is the one that the pages' numbers
+are from."""
 import os
 import re
 import subprocess
@@ -7,6 +8,8 @@ import sys
 
 SIZED = re.compile(r"(\S+): (\d+) bytes of \w+")
 COMPILER = "Debian 12."
+# commands that are run; what else a page shows is for readers
+RUN = ("$ pahole ", "$ cc ", "$ diff ")
 
 
 def lines_of(page):
@@ -28,7 +31,7 @@ def examples(page):
     for line in lines_of(page):
         if line is None or line.startswith("$ ") or SIZED.fullmatch(line):
             last = None
-        if line is not None and line.startswith("$ pahole "):
+        if line is not None and line.startswith(RUN):
             last = []
             found.append((line[2:], last))
         elif last is not None:
@@ -43,19 +46,29 @@ def sizes(page, folder):
         yield found[0], None if had == int(found[2]) else f"it has {had}"
 
 
+def run(command, folder):
+    """What a command prints and complains, and whether it did what it is for: `diff` ends with 1 where it finds something, and so does a refusal."""
+    words = ["bash", "-o", "pipefail", "-c", command]
+    path = f"{folder}/bin:{os.environ['PATH']}"
+    done = subprocess.run(words, cwd=folder, env={**os.environ, "PATH": path}, capture_output=True, text=True, timeout=120)
+    had = (done.stdout + done.stderr).expandtabs().rstrip()
+    expected = 1 if command.startswith("diff ") or had.startswith("pahole: ") else 0
+    return had, done.returncode == expected
+
+
 def main():
     program, folder, *pages = (os.path.abspath(word) for word in sys.argv[1:])
+    os.mkdir(f"{folder}/bin")
+    os.symlink(program, f"{folder}/bin/pahole")
     is_same_compiler = COMPILER in subprocess.run(["cc", "--version"], capture_output=True, text=True).stdout
     for page in pages:
         for command, wanted in examples(page):
-            words = command.split(" ")[1:]
-            done = subprocess.run([program, *words], cwd=folder, capture_output=True, text=True, timeout=120)
-            had = done.stdout.expandtabs().rstrip()
+            had, ended = run(command, folder)
             name = f"{os.path.basename(page)}: {command}"
-            if done.returncode == 0 and had == wanted.expandtabs():
+            if ended and had == wanted.expandtabs():
                 print(f"passed examples {name}")
             else:
-                print(f"failed examples {name}: status {done.returncode}, it prints {had!r}")
+                print(f"failed examples {name}: it prints {had!r}")
         for line, fault in sizes(page, folder) if is_same_compiler else []:
             print(f"failed examples {line}: {fault}" if fault else f"passed examples {line}")
     if not is_same_compiler:

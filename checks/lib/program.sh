@@ -2,6 +2,7 @@
 # PAHOLE names another program to look at.
 root=$(cd "$(dirname "${BASH_SOURCE[0]}")/../.." && pwd)
 . "$root/checks/lib/hex.sh"
+. "$root/checks/lib/need.sh"
 program=${PAHOLE:-$root/crates/pahole/out/pahole}
 if [ -z "${PAHOLE:-}" ]; then
   if [ ! -d "$root/crates/pahole" ]; then

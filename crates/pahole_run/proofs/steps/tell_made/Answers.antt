@@ -5,36 +5,25 @@ use Rattle.dwarf_gen.specs.Sizes.{spec_from}
 use Rattle.pahole_run.specs.Files.{patched_by}
 use Rattle.pahole_run.specs.Steps.{inputs_from}
 use Rattle.pahole_run.specs.Tasks.{made_task}
-use Rattle.pahole_run.proofs.DoneLemmas.{done_printed, done_unmade, made_unread, ready_made, unmade_memory}
+use Rattle.pahole_run.proofs.DoneLemmas.{made_unread, prepared, ready_made, unmade_memory}
 use Rattle.pahole_run.proofs.steps.tell_made.Goals as goal
 
 pub returns-in_default : goal.returns-in_default
-returns-in_default g c = unmade_memory c.args.limits c.args.number _
+returns-in_default g c w = unmade_memory c.args.limits c.args.number w
 
 pub returns-in_err-patch_inputs : goal.returns-in_err-patch_inputs
-returns-in_err-patch_inputs g c =
+returns-in_err-patch_inputs g c w =
     let gone : c.from_residual.result ≡ Err c.in_err-patch_inputs.field-0.0 = search rules in
     let bytes : c.in-Ok.image ≡ image_bytes (spec_from c.args.number) =
     c.in-Ok.ensures.bytes ∙ ap image_bytes c.spec_of.ensures.is in
     rw gone
-    (made_unread (λ (u : Unit {0}). c.patch_inputs.new.files ≡ patched_by Dwarf (c.in-Ok.image ∷ [])) c.args.limits c.args.number _
+    (made_unread (λ (u : Unit {0}). c.patch_inputs.new.files ≡ patched_by Dwarf (c.in-Ok.image ∷ [])) c.args.limits c.args.number w
     c.in-Ok.image c.in_err-patch_inputs.field-0.0 bytes c.in_err-patch_inputs.ensures.told c.in_err-patch_inputs.ensures.own)
 
-pub returns-in_err-line : goal.returns-in_err-line
-returns-in_err-line g c =
-    let gone : c.from_residual-in_err-line.result ≡ Err c.in_err-line.field-0.0 = search rules in
-    let bytes : c.in-Ok.image ≡ image_bytes (spec_from c.args.number) =
-    c.in-Ok.ensures.bytes ∙ ap image_bytes c.spec_of.ensures.is in
-    rw gone
-    (done_unmade c.args.limits (made_task c.args.number) _ _ (inputs_from c.patch_inputs.new.files None) c.in_err-line.field-0.0
-    (ready_made c.args.limits c.args.number _ c.in-Ok.image c.patch_inputs.new.files bytes c.in_ok-patch_inputs.ensures.told)
-    c.in_err-line.ensures)
-
 pub returns : goal.returns
-returns g c =
+returns g c w =
     let bytes : c.in-Ok.image ≡ image_bytes (spec_from c.args.number) =
     c.in-Ok.ensures.bytes ∙ ap image_bytes c.spec_of.ensures.is in
-    done_printed c.args.limits (made_task c.args.number) _ _ _ (inputs_from c.patch_inputs.new.files None) c.in_ok-line.line
-    c.print_out.result tt
-    (ready_made c.args.limits c.args.number _ c.in-Ok.image c.patch_inputs.new.files bytes c.in_ok-patch_inputs.ensures.told)
-    c.in_ok-line.ensures (rw c.items.ensures at c.print_out.ensures)
+    prepared c.args.limits (made_task c.args.number) w w (inputs_from c.patch_inputs.new.files None) c.make_line.result
+    (ready_made c.args.limits c.args.number w c.in-Ok.image c.patch_inputs.new.files bytes c.in_ok-patch_inputs.ensures.told)
+    c.make_line.ensures

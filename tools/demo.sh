@@ -4,7 +4,7 @@
 # a C compiler the first is all.
 set -eu
 program=$(cd "$(dirname "$1")" && pwd)/$(basename "$1")
-root=$(cd "$(dirname "$0")/../.." && pwd)
+root=$(cd "$(dirname "$0")/.." && pwd)
 . "$root/checks/lib/hex.sh"
 work=$(mktemp -d)
 trap 'rm -rf "$work"' EXIT

@@ -4,11 +4,9 @@
 # 2,000. With WRITE=1 the rows go into the page. No check runs this, for a crate takes minutes: `make plants`.
 set -u
 export LC_ALL=C.UTF-8
-root=$(cd "$(dirname "$0")/../.." && pwd) || exit 2
-if ! command -v rt >/dev/null; then
-  echo "skipped plants: rt is not installed"
-  exit 0
-fi
+root=$(cd "$(dirname "$0")/.." && pwd) || exit 2
+. "$root/checks/lib/need.sh"
+need plants rt
 scratch=$(mktemp -d) || exit 2
 trap 'rm -rf "$scratch"' EXIT
 page=$root/docs/AUDIT.md

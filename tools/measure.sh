@@ -4,16 +4,13 @@
 # often each is timed, by default 3. With WRITE=1 the table goes into docs/SPEED.md. No check runs this: its answers depend on the machine.
 set -u
 export LC_ALL=C.UTF-8 PATH=$PATH:/usr/sbin:/sbin
-. "$(dirname "$0")/program.sh"
+. "$(dirname "$0")/../checks/lib/program.sh"
 . "$root/checks/lib/pages.sh"
 
-if ! command -v python3 >/dev/null; then
-  echo "skipped measure: python3 is not installed"
-  exit 0
-fi
+need measure python3
 scratch=$(mktemp -d) || exit 2
 trap 'rm -rf "$scratch"' EXIT
 mkdir "$scratch/runs"
-python3 -B "$root/checks/lib/measure.py" "$program" "$root" "$scratch/runs" "${RUNS:-3}" "$@" | tee "$scratch/table"
+python3 -B "$root/tools/measure.py" "$program" "$root" "$scratch/runs" "${RUNS:-3}" "$@" | tee "$scratch/table"
 [ "${PIPESTATUS[0]}" = 0 ] || exit 1
 if [ -n "${WRITE:-}" ]; then put_between measured "$scratch/table" "$root/docs/SPEED.md"; fi

@@ -14,11 +14,12 @@ import subprocess
 import sys
 import time
 
+sys.path.append(os.path.join(os.path.dirname(os.path.abspath(__file__)), "..", "checks", "lib"))
 from btf import KINDS as BTF_KINDS, count, kinds
 from made import KINDS, Made
 
 KERNELS = "/usr/lib/debug/boot/vmlinux-*"
-PACKAGE = "linux-image-6.1.0-*-amd64-dbg of Debian 12 has one of 633 MB; a path is taken too: checks/lib/measure.sh VMLINUX"
+PACKAGE = "linux-image-6.1.0-*-amd64-dbg of Debian 12 has one of 633 MB; a path is taken too: tools/measure.sh VMLINUX"
 OWN = "/sys/kernel/btf/vmlinux"
 TIMER = "/usr/bin/time"
 
@@ -36,7 +37,13 @@ WHATS = {
 WIDE = "the layout of the widest structure"
 KERNEL, KERNEL_ONE, KERNEL_LAYOUT = "a kernel", "a kernel, one worker", "a layout of a kernel"
 TABLE, PEER = "the layouts of this machine's kernel, from its BTF", "a kernel, by the tool pahole"
-ALL = [KERNEL, KERNEL_ONE, KERNEL_LAYOUT, PEER, TABLE, *WHATS.values(), WIDE]
+# modules of a kernel that stand beside it, in ../lib/modules, and are encoded over its table
+MODULES = ["xfs.ko", "btrfs.ko", "mac80211.ko", "amdgpu.ko"]
+MADE = "a made input of 2,100,224 types"
+MODULE, MODULE_PEER = "a module of a kernel, {}", "{}, by the tool pahole"
+MADE_NUMBER, MADE_LINE = 8388607, b"units 1024, entries 2100224, types 16387, bytes 398366\n"
+ALL = [KERNEL, KERNEL_ONE, KERNEL_LAYOUT, PEER, TABLE, *WHATS.values(), WIDE, MADE,
+       *(form.format(name) for name in MODULES for form in (MODULE, MODULE_PEER))]
 
 
 said = []
@@ -171,6 +178,32 @@ def kernel(program, folder, runs, named):
     return one, b""
 
 
+def modules(program, folder, runs, named, base):
+    """Modules of the kernel over the table that was made of it, each by another program too."""
+    found = [named] if named else sorted(glob.glob(KERNELS))
+    place = os.path.dirname(os.path.dirname(os.path.abspath(found[-1]))) if found else ""
+    has_peer = tool(["pahole", "--version"], r"v(\S+)")
+    with open(f"{folder}/base", "wb") as file:
+        file.write(base)
+    for name in MODULES:
+        paths = glob.glob(f"{place}/lib/modules/*/kernel/**/{name}", recursive=True)
+        if not base or not paths:
+            say(f"skipped {name}: it does not stand beside a kernel that is measured")
+            continue
+        given = f"`{name}`, {number(os.path.getsize(paths[0]))} bytes, over the kernel's table"
+        show(Row(MODULE.format(name), given, [program, "--btf_encode_detached=o", "--btf_base=base", paths[0]]), folder, runs)
+        if has_peer:
+            words = ["pahole", "--btf_base=base", "--btf_encode_detached=o", paths[0]]
+            show(Row(MODULE_PEER.format(name), "the same", words), folder, runs)
+
+
+def made_number(program, folder, runs):
+    """A file that the program makes itself, from a number."""
+    show(Row(MADE, f"`--selfmade={MADE_NUMBER}`", [program, f"--selfmade={MADE_NUMBER}"]), folder, runs)
+    if read(f"{folder}/printed") != MADE_LINE:
+        say(f"failed {MADE}: it prints another line than {MADE_LINE.decode().strip()!r}")
+
+
 def compare(ours, theirs):
     """How many types of each kind are in the kernel's two tables."""
     here, there = kinds(ours), kinds(theirs)
@@ -213,7 +246,9 @@ def main():
     program, root, folder, runs = os.path.abspath(sys.argv[1]), *sys.argv[2:4], int(sys.argv[4])
     machine(program, runs)
     ours, theirs = kernel(program, folder, runs, sys.argv[5] if len(sys.argv) > 5 else None)
+    modules(program, folder, runs, sys.argv[5] if len(sys.argv) > 5 else None, ours)
     table(program, folder, runs)
+    made_number(program, folder, runs)
     made_inputs(program, root, folder, runs)
     if ours and theirs:
         compare(ours, theirs)

@@ -1,17 +1,13 @@
 #!/usr/bin/env bash
-# unseen.sh [NAME..]: applies each edit of checks/lib/unseen (or those named) to a copy of the repository, and proves the edited crate. Each
+# unseen.sh [NAME..]: applies each edit of tools/unseen (or those named) to a copy of the repository, and proves the edited crate. Each
 # is a wrong program, or an equal one, that docs/AUDIT.md says no clause refuses. An edit has the form of a must-fail edit, behind a line
 # `crate: NAME`; it may change several files, each behind a line `file: PATH` of its own. `passed` is what is proved. No check runs this, for
 # each edit costs a check of its crate: `make unseen`.
 set -u
 export LC_ALL=C.UTF-8
-root=$(cd "$(dirname "$0")/../.." && pwd) || exit 2
-for tool in rt python3; do
-  if ! command -v "$tool" >/dev/null; then
-    echo "skipped unseen: $tool is not installed"
-    exit 0
-  fi
-done
+root=$(cd "$(dirname "$0")/.." && pwd) || exit 2
+. "$root/checks/lib/need.sh"
+need unseen rt python3
 scratch=$(mktemp -d) || exit 2
 trap 'rm -rf "$scratch"' EXIT
 
@@ -44,10 +40,10 @@ PY
 }
 
 failed=0
-if [ $# = 0 ]; then edits=("$root"/checks/lib/unseen/*.edit); else edits=("$@"); fi
+if [ $# = 0 ]; then edits=("$root"/tools/unseen/*.edit); else edits=("$@"); fi
 for name in "${edits[@]}"; do
   name=$(basename "$name" .edit)
-  edit=$root/checks/lib/unseen/$name.edit
+  edit=$root/tools/unseen/$name.edit
   crate=$(sed -n 's/^crate: //p' "$edit")
   folder=$scratch/copy/crates/$crate
   if ! why=$(apply "$edit" "$folder" 2>&1); then

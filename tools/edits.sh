@@ -4,7 +4,7 @@
 # where they stand in their place. No check runs this, for each costs a check of its crate: `make edits`.
 set -u
 export LC_ALL=C.UTF-8
-root=$(cd "$(dirname "$0")/../.." && pwd) || exit 2
+root=$(cd "$(dirname "$0")/.." && pwd) || exit 2
 . "$root/checks/lib/toolchain.sh"
 scratch=$(mktemp -d) || exit 2
 trap 'rm -rf "$scratch"' EXIT
