@@ -5,7 +5,7 @@ use Rattle.dwarf_abbrev.specs.declared.fault.AbbrevFault.{AbbrevFault}
 use Rattle.dwarf_abbrev.specs.declared.fault.AbbrevFault.TheVariants.{Memory as AbbrevMemory}
 use Rattle.c_types.specs.declared.fault.TypeFault.{TypeFault}
 use Rattle.c_types.specs.declared.fault.TypeFault.TheVariants.{Memory as TypeMemory}
-use Rattle.core.specs.declared.alloc.AllocError.{AllocError}
+use Rattle.std.specs.declared.alloc.AllocError.{AllocError}
 
 abbrev pub unread_by : TypeFault → Result Bool AllocError
 unread_by TypeMemory = Err alloc_error

@@ -122,12 +122,7 @@ fn tag_of_unit(
 }
 
 /// The tag of the entry at an offset of a file; 0 where none of a unit that is read begins there.
-pub fn find_tag(
-    alloc: Global,
-    units: &[UnitAt<'_>],
-    file: u32,
-    to: u128,
-) -> Result<u64, AllocError>
+pub fn find_tag(alloc: Global, units: &[UnitAt<'_>], file: u32, to: u128) -> Result<u64, AllocError>
     requires { All IsReadable units.now }
     ensures { IfOk result (λ n. n ≡ tag_of file to units.now) }
 {

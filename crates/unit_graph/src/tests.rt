@@ -181,7 +181,7 @@ fn units_of<'a>(alloc: Global, bytes: &'a [u8]) -> Result<Vec<UnitAt<'a>>, Fail>
 }
 
 /// A file of three units: a base type and a subprogram at 13 and 18, the same in a unit of Rust, which is passed
-/// over, at 33 and 38, and the same again at 52 and 57.
+/// over, at 34 and 39, and the same again at 54 and 59.
 fn three_units(alloc: Global) -> Result<Vec<u8>, AllocError> {
     let mut info = Vec::new(alloc);
     put_unit(&mut info, 0, b"\x01\x02i\0\x04\x05\x03\0")?;
@@ -217,18 +217,19 @@ fn tags(rt: HostRuntime) -> Result<(), Fail> {
     Ok(())
 }
 
-/// The types of units that name one table, which is read for the first of them.
+/// The types of a unit, twice: its table is kept for the second time.
 #[test]
 fn tables(rt: HostRuntime) -> Result<(), Fail> {
     let alloc = rt.alloc();
     let file = three_units(alloc)?;
     let all = units_of(alloc, file.as_slice())?;
-    assert_eq!(rt; all.len(), 3);
-    let mut last = None;
-    for (unit, wanted) in all.iter().zip([1usize, 0, 1]) {
-        last = None;
-        let found = types_by(alloc, &mut last, unit)?;
-        assert_eq!(rt; found.types.items().len(), wanted);
+    if let Some(unit) = all.first() {
+        let mut last = None;
+        for _ in 0..2 {
+            let found = types_by(alloc, &mut last, unit)?;
+            assert_eq!(rt; found.types.items().len(), 1);
+            assert!(rt; last.is_some());
+        }
     }
     Ok(())
 }
