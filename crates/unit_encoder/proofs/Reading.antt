@@ -73,8 +73,13 @@ held_stop local p us k i u f lt is found h =
 
 -- ---- two workers
 
+same_fault : {X : Type 0} (a b : EncodeFault) → ◌≡◌ {A = Result X EncodeFault} (Err a) (Err b) → a ≡ b
+same_fault a b e = cc
+
 one_carried : {X Y : Type 0} (e : EncodeFault) (a : Result X UnitRefusal) (c : Result Y UnitRefusal) → ((r : UnitRefusal) → a ≡ Err r → c ≡ Err r) → unit_faults a ≡ Err e → unit_faults c ≡ Err e
-one_carried {Y = Y} e (Err r) c same h = ap (λ (q : Result Y UnitRefusal). unit_faults q) (same r refl) ∙ h
+one_carried {Y = Y} e (Err r) c same h =
+    let fault : UnitFault r.file r.unit r.fault ≡ e = same_fault (UnitFault r.file r.unit r.fault) e h in
+    ap (λ (q : Result Y UnitRefusal). unit_faults q) (same r refl) ∙ ap (λ (f : EncodeFault). Err f) fault
 one_carried e (Ok x) c same h = cc
 
 -- where one thing is refused, what is refused with it has the same fault

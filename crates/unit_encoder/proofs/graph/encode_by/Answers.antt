@@ -75,12 +75,12 @@ returns-in-Ok-2-clause-fitting g c =
     let w = whole types_in_order c.are_apart-local.result units p (Ok ns) c.are_apart-local.ensures c.in-Ok.ensures in
     fits c.new.result (subst (λ (xs : List CType). All IsFine xs) (sym c.new.ensures.nodes) (units_fine units w.all ns w.gathers (sym (w.linked rest))))
 
-pub returns-in-Err-2-clause-nodes : goal.returns-in-Err-2-clause-nodes
-returns-in-Err-2-clause-nodes g c =
+pub returns-in_ok-find_tag-in-Err-2-clause-nodes : goal.returns-in_ok-find_tag-in-Err-2-clause-nodes
+returns-in_ok-find_tag-in-Err-2-clause-nodes g c =
     let units : List FileUnit = c.args.units.now in
     let p : Piece = c.in-Ok.piece in
     let rest = subst (λ (r : Result (List CType) Out). IsRest p r) c.in-Err-2.is c.in_ok-nodes.ensures in
     let w = whole types_in_order c.are_apart-local.result units p (Err c.in-Err-2.out) c.are_apart-local.ensures c.in-Ok.ensures in
     let le : length p.nodes ≤ c.args.most = (let count = c.len-count.ensures in let most = c.from.ensures in let few = c.if-count-from.false in omega (arith, count, most, few)) in
     graph_out c.args.most units p c.in-Err-2.out w le rest
-    ∙ ap (λ (n : ℕ). Err (TypeRefOut c.in-Err-2.out.file c.in-Err-2.out.from c.in-Err-2.out.to n)) (sym c.in_ok-find_tag.ensures)
+    ∙ ap (λ (n : ℕ). Err (TypeRefOut c.in-Err-2.out.file c.in-Err-2.out.from c.in-Err-2.out.to n)) (sym c.in_ok-find_tag-in-Err-2.ensures)

@@ -24,8 +24,8 @@ returns c local nodes h rise = resting_end local nodes c.args.piece h rise c.loo
 
 pub push-requires : goal.push-requires
 push-requires c =
-    let small = subst (λ (rs : List Ref). All (IsBelow (2 ^ 32 - 1)) rs) c.as_slice-in-loop-x-2.ensures.value (c.if-not-are_small.ensures refl) in
-    subst (λ (rs : List Ref). All (IsBelow (2 ^ 32 - 1)) rs) (sym c.as_slice-in-loop-x-3.ensures.value) small
+    let small = subst (λ (rs : List Ref). All (IsBelow (2 ^ 32 - 1)) rs) c.as_slice-in-loop-x.ensures.value (c.if-not-are_small.ensures refl) in
+    subst (λ (rs : List Ref). All (IsBelow (2 ^ 32 - 1)) rs) (sym c.as_slice-in-loop-x-2.ensures.value) small
 
 pub returns-in-Err : goal.returns-in-Err
 returns-in-Err c local nodes h rise =
@@ -35,7 +35,7 @@ returns-in-Err c local nodes h rise =
     let lt : x < length p.nodes = (let n = c.len-x-end.ensures in let few = c.requires.few in let t = c.loop-x-test.true in omega (arith, n, few, t)) in
     let rest = c.loop-x.invariant local nodes h rise in
     let same : (q : ℕ × ℕ) → number_in q c.in_ok-places.places ≡ number_in q p.rows.items = c.in_ok-places.ensures in
-    let kept : c.as_slice-in-loop-x.result.now ≡ p.unlinked.items = c.as_slice-in-loop-x.ensures.value in
+    let kept : c.as_slice.result.now ≡ p.unlinked.items = c.as_slice.ensures.value in
     let answer : IsAnswer local nodes p h rise c.in_ok-places.places x c.loop-x.next c.link_node.new.next r =
     record {
       taken = λ u e at. let g = c.in_ok-refs.ensures.taken u (ap (λ (us : List Unlinked). slice_get us c.loop-x.next) kept ∙ e) at in (g.0, λ all nums size. sym (ap seen c.in-Err.is) ∙ g.1 all nums size);
@@ -52,7 +52,7 @@ loop-x-preserved c local nodes h rise =
     let lt : x < length p.nodes = (let n = c.len-x-end.ensures in let few = c.requires.few in let t = c.loop-x-test.true in omega (arith, n, few, t)) in
     let rest = c.loop-x.invariant local nodes h rise in
     let same : (q : ℕ × ℕ) → number_in q c.in_ok-places.places ≡ number_in q p.rows.items = c.in_ok-places.ensures in
-    let kept : c.as_slice-in-loop-x.result.now ≡ p.unlinked.items = c.as_slice-in-loop-x.ensures.value in
+    let kept : c.as_slice.result.now ≡ p.unlinked.items = c.as_slice.ensures.value in
     let answer : IsAnswer local nodes p h rise c.in_ok-places.places x c.loop-x.next c.link_node.new.next r =
     record {
       taken = λ u e at. let g = c.in_ok-refs.ensures.taken u (ap (λ (us : List Unlinked). slice_get us c.loop-x.next) kept ∙ e) at in (g.0, λ all nums size. sym (ap seen c.in-Ok.is) ∙ g.1 all nums size);
@@ -61,6 +61,6 @@ loop-x-preserved c local nodes h rise =
     let next = next_node local nodes p h rise c.in_ok-places.places x c.loop-x.next c.link_node.new.next c.loop-x.linked r same lt rest answer in
     let made : c.push.new.self ≡ c.loop-x.linked ++ record { label = c.label.result.now; targets = c.in-Ok.refs.items } ∷ [] =
     c.in_ok-push.ensures.pushed
-    ∙ ap (λ (l : Label). c.loop-x.linked ++ record { label = l; targets = c.as_slice-in-loop-x-3.result.now } ∷ []) c.in_ok-copy_of_label.ensures
-    ∙ ap (λ (rs : List Ref). c.loop-x.linked ++ record { label = c.label.result.now; targets = rs } ∷ []) c.as_slice-in-loop-x-3.ensures.value in
+    ∙ ap (λ (l : Label). c.loop-x.linked ++ record { label = l; targets = c.as_slice-in-loop-x-2.result.now } ∷ []) c.in_ok-copy_of_label.ensures
+    ∙ ap (λ (rs : List Ref). c.loop-x.linked ++ record { label = c.label.result.now; targets = rs } ∷ []) c.as_slice-in-loop-x-2.ensures.value in
     resting_more local nodes p h rise x c.loop-x.next c.link_node.new.next c.loop-x.linked c.push.new.self c.in-Ok.refs.items c.label.result.now lt rest next c.label.ensures made
