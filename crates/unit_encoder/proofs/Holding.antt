@@ -12,43 +12,13 @@ use Rattle.c_model.specs.Partition.{label_at, targets_at}
 use Rattle.packed_graph.specs.Packed.{moved}
 use Rattle.unit_encoder.specs.declared.piece.Piece.{Piece}
 use Rattle.unit_encoder.specs.declared.piece.Unlinked.{Unlinked}
-use Rattle.unit_encoder.specs.declared.places.Row.{Row}
-use Rattle.unit_encoder.specs.Sources.{Source}
-use Rattle.unit_encoder.specs.Graph.{refs_from}
-use Rattle.unit_encoder.specs.Held.{Stands, PlacesRise, rows_at, rows_from, IsLeft, IsListed, Holds}
-
--- ---- lists
-
-pub get-left : {X : Type 0} (xs ys : List X) (k : ℕ) → k < length xs → slice_get (xs ++ ys) k ≡ slice_get xs k
-get-left [] ys k h = absurd (omega arith)
-get-left (x ∷ xs) ys zero h = refl
-get-left (x ∷ xs) ys (suc k) h = get-left xs ys k (omega arith)
-
-pub get-right : {X : Type 0} (xs ys : List X) (k m : ℕ) → k ≡ length xs + m → slice_get (xs ++ ys) k ≡ slice_get ys m
-get-right [] ys k m h = let same : k ≡ m = omega (arith, h) in ap (slice_get ys) same
-get-right (x ∷ xs) ys zero m h = absurd (omega arith)
-get-right (x ∷ xs) ys (suc k) m h = get-right xs ys k m (omega arith)
-
-pub get-one : {X : Type 0} (x y : X) (m : ℕ) → slice_get (x ∷ []) m ≡ Some y → (m ≡ 0) × (x ≡ y)
-get-one x y zero e = (refl, same_Some x y e)
-get-one x y (suc m) e = absurd (none-some y e)
-
--- ---- places
-
-pub rows-append : (k m : ℕ) (ss ts : List Source) → m ≡ k + length ss → rows_from k (ss ++ ts) ≡ rows_from k ss ++ rows_from m ts
-unfolding rows_from
-rows-append k m [] ts e = let same : k ≡ m = omega arith in ap (λ n. rows_from n ts) same
-rows-append k m (s ∷ ss) ts e =
-    let next : m ≡ (k + 1) + length ss = omega arith in
-    ap (λ (rs : List Row). rows_at k s.file s.at ++ rs) (rows-append (k + 1) m ss ts next) ∙ sym (append_assoc (rows_at k s.file s.at) (rows_from (k + 1) ss) (rows_from m ts))
-
-pub rows-one : (k : ℕ) (s : Source) → rows_from k (s ∷ []) ≡ rows_at k s.file s.at
-unfolding rows_from
-rows-one k s = append-nil (rows_at k s.file s.at)
-
-pub rows-none : (k : ℕ) → rows_from k [] ≡ []
-unfolding rows_from
-rows-none k = refl
+use Rattle.unit_graph.specs.declared.places.Row.{Row}
+use Rattle.unit_graph.specs.Sources.{Source}
+use Rattle.unit_graph.specs.Links.{refs_from}
+use Rattle.unit_graph.proofs.Lists.{get-left, get-right, get-one}
+use Rattle.unit_graph.proofs.Numbering.{rows-append, rows-one}
+use Rattle.unit_encoder.specs.Held.{Stands, IsLeft, IsListed, Holds}
+use Rattle.unit_graph.specs.Numbers.{PlacesRise, rows_at, rows_from}
 
 -- ---- where nodes stand
 

@@ -12,10 +12,13 @@ use Rattle.c_model.specs.Partition.{label_at, targets_at}
 use Rattle.packed_graph.specs.Packed.{moved, moved_by}
 use Rattle.unit_encoder.specs.declared.piece.Piece.{Piece}
 use Rattle.unit_encoder.specs.declared.piece.Unlinked.{Unlinked}
-use Rattle.unit_encoder.specs.declared.places.Row.{Row}
-use Rattle.unit_encoder.specs.Sources.{Source}
-use Rattle.unit_encoder.specs.Held.{Stands, rows_at, rows_from, IsLeft, IsListed, Holds, row_moved, unlinked_moved, Follow}
-use Rattle.unit_encoder.proofs.Holding.{get-left, get-right, rows-append, rows-none, stands-left, stands-right, label-left, label-right, targets-left, targets-right}
+use Rattle.unit_graph.specs.declared.places.Row.{Row}
+use Rattle.unit_graph.specs.Sources.{Source}
+use Rattle.unit_encoder.specs.Held.{Stands, IsLeft, IsListed, Holds, row_moved, unlinked_moved, Follow}
+use Rattle.unit_graph.specs.Numbers.{rows_at, rows_from}
+use Rattle.unit_graph.proofs.Lists.{get-left, get-right}
+use Rattle.unit_graph.proofs.Numbering.{rows-append, rows-none}
+use Rattle.unit_encoder.proofs.Holding.{stands-left, stands-right, label-left, label-right, targets-left, targets-right}
 
 -- ---- the same nodes, told otherwise
 

@@ -7,39 +7,12 @@ use Rattle.c_types.specs.Types.{types_of_unit_of}
 use Rattle.unit_encoder.specs.declared.fault.EncodeFault.{EncodeFault}
 use Rattle.unit_encoder.specs.declared.fault.EncodeFault.TheVariants.{Unit as UnitFault, NodesTooMany, TypeRefOut, Memory}
 use Rattle.unit_encoder.specs.declared.piece.Piece.{Piece}
-use Rattle.unit_encoder.specs.Sources.{FileUnit, Source, sources_of, Fails}
-use Rattle.unit_encoder.specs.Pieces.{Read, read_before, reads, both, glued, sources_from}
+use Rattle.unit_graph.specs.Sources.{FileUnit, Source, UnitRefusal, sources_of}
+use Rattle.unit_encoder.specs.Faults.{Fails, unit_faults}
+use Rattle.unit_graph.specs.Pieces.{Read, read_before, reads, both, glued, sources_from}
 use Rattle.unit_encoder.specs.Held.{Holds, IsHeld, Follow}
-use Rattle.unit_encoder.proofs.Halves.{reads-append, reads_halves}
+use Rattle.unit_graph.proofs.Halves.{reads-append, reads_halves, sources-append, sources-one, sources-none}
 use Rattle.unit_encoder.proofs.Joining.{holds-none, holds-joined}
-
--- ---- nodes of units
-
-pub sources-append : (n : ℕ) (rs qs : List Read) → sources_from n (rs ++ qs) ≡ sources_from n rs ++ sources_from (n + length (sources_from n rs)) qs
-unfolding sources_from
-sources-append n [] qs = let e : n ≡ n + 0 = omega arith in ap (λ m. sources_from m qs) e
-sources-append n (r ∷ rs) qs =
-    let own = sources_of r.file n r.found in
-    let m = n + length own in
-    let size : length (own ++ sources_from m rs) ≡ length own + length (sources_from m rs) = length-append own (sources_from m rs) in
-    let e : m + length (sources_from m rs) ≡ n + length (own ++ sources_from m rs) = omega (arith, size) in
-    ap (λ (ss : List Source). own ++ ss) (sources-append m rs qs ∙ ap (λ k. sources_from m rs ++ sources_from k qs) e) ∙ sym (append_assoc own (sources_from m rs) (sources_from (n + length (own ++ sources_from m rs)) qs))
-
-sources-one : (n : ℕ) (r : Read) → sources_from n (r ∷ []) ≡ sources_of r.file n r.found
-unfolding sources_from
-sources-one n r = append-nil (sources_of r.file n r.found)
-
-sources-none : (n : ℕ) → sources_from n [] ≡ []
-unfolding sources_from
-sources-none n = refl
-
-pub glued_all : (seen : List Source) (rs : List Read) → glued seen rs ≡ seen ++ sources_from (length seen) rs
-unfolding glued sources_from
-glued_all seen [] = sym (append-nil seen)
-glued_all seen (r ∷ rs) =
-    let own = sources_of r.file (length seen) r.found in
-    let size : length (seen ++ own) ≡ length seen + length own = length-append seen own in
-    glued_all (seen ++ own) rs ∙ ap (λ k. (seen ++ own) ++ sources_from k rs) size ∙ append_assoc seen own (sources_from (length seen + length own) rs)
 
 -- ---- what is held
 
@@ -50,7 +23,7 @@ pub held_none : (local : Bool) (from : ℕ) (p : Piece) → p.nodes ≡ [] → p
 unfolding reads
 held_none local from p nodes rows unlinked = both_ways local (λ n. []) (λ n. sources_from n []) p (λ n. sym (sources-none n)) (holds-none local (λ n. []) p nodes rows unlinked)
 
-one_more : (local : Bool) (p q : Piece) (file : ℕ) (t : UnitTypes) (prev : Result (List Read) EncodeFault) → IsHeld local p prev
+one_more : (local : Bool) (p q : Piece) (file : ℕ) (t : UnitTypes) (prev : Result (List Read) UnitRefusal) → IsHeld local p prev
     → ((nodes : ℕ → List Source) → Holds local nodes nodes p → Holds local (λ n. nodes n ++ sources_of file (n + length p.nodes) t) (λ n. nodes n ++ sources_of file (n + length p.nodes) t) q)
     → IsHeld local q (both prev (Ok (record { file = file; found = t } ∷ [])))
 one_more local p q file t (Err e) h step = absurd h
@@ -83,36 +56,46 @@ held_more local p q us k i u t lt is found h step =
 pub held_end : (local : Bool) (p : Piece) (us : List FileUnit) (k i : ℕ) → length us ≤ i → IsHeld local p (reads k (take i us)) → IsHeld local p (reads k us)
 held_end local p us k i le h = subst (λ (vs : List FileUnit). IsHeld local p (reads k vs)) (take_all i us le) h
 
-stopped : (local : Bool) (p : Piece) (prev : Result (List Read) EncodeFault) (e : EncodeFault) → IsHeld local p prev → both prev (Err e) ≡ Err e
+stopped : (local : Bool) (p : Piece) (prev : Result (List Read) UnitRefusal) (e : UnitRefusal) → IsHeld local p prev → both prev (Err e) ≡ Err e
 stopped local p (Err f) e h = absurd h
 stopped local p (Ok rs) e h = refl
 
-reads-stop : (k : ℕ) (u : FileUnit) (us : List FileUnit) (f : TypeFault) → types_of_unit_of u.bytes u.unit ≡ Err f → reads k (u ∷ us) ≡ Err (UnitFault u.file k f)
+reads-stop : (k : ℕ) (u : FileUnit) (us : List FileUnit) (f : TypeFault) → types_of_unit_of u.bytes u.unit ≡ Err f → reads k (u ∷ us) ≡ Err (record { file = u.file; unit = k; fault = f })
 unfolding reads
 reads-stop k u us f e = ap (λ (x : Result UnitTypes TypeFault). read_before u.file k x (reads (k + 1) us)) e
 
-pub held_stop : (local : Bool) (p : Piece) (us : List FileUnit) (k i : ℕ) (u : FileUnit) (f : TypeFault) → i < length us → u ≡ get_or us i u → types_of_unit_of u.bytes u.unit ≡ Err f → IsHeld local p (reads k (take i us)) → reads k us ≡ Err (UnitFault u.file (k + i) f)
+pub held_stop : (local : Bool) (p : Piece) (us : List FileUnit) (k i : ℕ) (u : FileUnit) (f : TypeFault) → i < length us → u ≡ get_or us i u → types_of_unit_of u.bytes u.unit ≡ Err f → IsHeld local p (reads k (take i us)) → reads k us ≡ Err (record { file = u.file; unit = k + i; fault = f })
 held_stop local p us k i u f lt is found h =
     let d : drop i us ≡ u ∷ drop (i + 1) us = drop_more us i u lt ∙ ap (λ (x : FileUnit). x ∷ drop (i + 1) us) (sym is) in
     reads_halves k (k + i) i us (omega arith) refl
     ∙ ap (both (reads k (take i us))) (ap (reads (k + i)) d ∙ reads-stop (k + i) u (drop (i + 1) us) f found)
-    ∙ stopped local p (reads k (take i us)) (UnitFault u.file (k + i) f) h
+    ∙ stopped local p (reads k (take i us)) (record { file = u.file; unit = k + i; fault = f }) h
 
 -- ---- two workers
 
-pub fails_first : (e : EncodeFault) (a b : Result (List Read) EncodeFault) → Fails e a → Fails e (both a b)
-fails_first Memory a b h = tt
-fails_first (UnitFault x y z) a b h = ap (λ (r : Result (List Read) EncodeFault). both r b) h
-fails_first (NodesTooMany x) a b h = ap (λ (r : Result (List Read) EncodeFault). both r b) h
-fails_first (TypeRefOut x y z w) a b h = ap (λ (r : Result (List Read) EncodeFault). both r b) h
+same_fault : {X : Type 0} (a b : EncodeFault) → ◌≡◌ {A = Result X EncodeFault} (Err a) (Err b) → a ≡ b
+same_fault a b e = cc
 
-pub fails_second : (local : Bool) (p : Piece) (e : EncodeFault) (a b : Result (List Read) EncodeFault) → IsHeld local p a → Fails e b → Fails e (both a b)
-fails_second local p Memory a b g h = tt
-fails_second local p (UnitFault x y z) a b g h = ap (both a) h ∙ stopped local p a (UnitFault x y z) g
-fails_second local p (NodesTooMany x) a b g h = ap (both a) h ∙ stopped local p a (NodesTooMany x) g
-fails_second local p (TypeRefOut x y z w) a b g h = ap (both a) h ∙ stopped local p a (TypeRefOut x y z w) g
+one_carried : {X Y : Type 0} (e : EncodeFault) (a : Result X UnitRefusal) (c : Result Y UnitRefusal) → ((r : UnitRefusal) → a ≡ Err r → c ≡ Err r) → unit_faults a ≡ Err e → unit_faults c ≡ Err e
+one_carried {Y = Y} e (Err r) c same h =
+    let fault : UnitFault r.file r.unit r.fault ≡ e = same_fault (UnitFault r.file r.unit r.fault) e h in
+    ap (λ (q : Result Y UnitRefusal). unit_faults q) (same r refl) ∙ ap (λ (f : EncodeFault). Err f) fault
+one_carried e (Ok x) c same h = cc
 
-pub held_both : (local : Bool) (p q r : Piece) (a b : Result (List Read) EncodeFault) → IsHeld local p a → IsHeld local q b → Follow p q r → IsHeld local r (both a b)
+-- where one thing is refused, what is refused with it has the same fault
+pub carried : {X Y : Type 0} (e : EncodeFault) (a : Result X UnitRefusal) (c : Result Y UnitRefusal) → ((r : UnitRefusal) → a ≡ Err r → c ≡ Err r) → Fails e (unit_faults a) → Fails e (unit_faults c)
+carried Memory a c same h = tt
+carried (UnitFault x y z) a c same h = one_carried (UnitFault x y z) a c same h
+carried (NodesTooMany x) a c same h = one_carried (NodesTooMany x) a c same h
+carried (TypeRefOut x y z w) a c same h = one_carried (TypeRefOut x y z w) a c same h
+
+pub fails_first : (e : EncodeFault) (a b : Result (List Read) UnitRefusal) → Fails e (unit_faults a) → Fails e (unit_faults (both a b))
+fails_first e a b h = carried e a (both a b) (λ r is. ap (λ (x : Result (List Read) UnitRefusal). both x b) is) h
+
+pub fails_second : (local : Bool) (p : Piece) (e : EncodeFault) (a b : Result (List Read) UnitRefusal) → IsHeld local p a → Fails e (unit_faults b) → Fails e (unit_faults (both a b))
+fails_second local p e a b g h = carried e b (both a b) (λ r is. ap (both a) is ∙ stopped local p a r g) h
+
+pub held_both : (local : Bool) (p q r : Piece) (a b : Result (List Read) UnitRefusal) → IsHeld local p a → IsHeld local q b → Follow p q r → IsHeld local r (both a b)
 held_both local p q r (Err e) b h g f = absurd h
 held_both local p q r (Ok rs) (Err e) h g f = absurd g
 held_both local p q r (Ok rs) (Ok qs) h g f =

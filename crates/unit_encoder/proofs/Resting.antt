@@ -11,15 +11,16 @@ use Rattle.c_model.specs.declared.graph.Ref.{Ref}
 use Rattle.c_model.specs.declared.graph.Ref.TheVariants.{Void, Node}
 use Rattle.c_model.specs.Partition.{label_at, targets_at}
 use Rattle.packed_graph.specs.Packed.{moved}
-use Rattle.unit_encoder.specs.declared.links.Out.{Out}
+use Rattle.unit_graph.specs.declared.links.Out.{Out}
 use Rattle.unit_encoder.specs.declared.piece.Piece.{Piece}
 use Rattle.unit_encoder.specs.declared.piece.Unlinked.{Unlinked}
-use Rattle.unit_encoder.specs.declared.places.Row.{Row}
-use Rattle.unit_encoder.specs.Sources.{Source}
-use Rattle.unit_encoder.specs.Graph.{is_at, at_offset, or_here, number_from, refs_from, nodes_from}
-use Rattle.unit_encoder.specs.Numbers.{number_in}
-use Rattle.unit_encoder.specs.Held.{Stands, PlacesRise, rows_at, rows_from, Holds}
-use Rattle.unit_encoder.proofs.Linking.{nodes_go_on, nodes_stop, nodes_end}
+use Rattle.unit_graph.specs.declared.places.Row.{Row}
+use Rattle.unit_graph.specs.Sources.{Source}
+use Rattle.unit_graph.specs.Links.{is_at, at_offset, or_here, number_from, refs_from, nodes_from}
+use Rattle.unit_graph.specs.Numbers.{number_in, PlacesRise, rows_at, rows_from}
+use Rattle.unit_encoder.specs.Held.{Stands, Holds}
+use Rattle.unit_graph.proofs.Numbering.{numbers}
+use Rattle.unit_graph.proofs.Linking.{nodes_go_on, nodes_stop, nodes_end}
 
 -- ---- lists
 
@@ -29,25 +30,6 @@ all_more P xs i x lt is before here = subst (All P) (sym (take_more xs i x lt �
 pub take_read : {X : Type 0} (xs ys zs : List X) (i : ℕ) (x : X) → slice_get xs i ≡ Some x → ys ≡ take i xs → zs ≡ ys ++ x ∷ [] → zs ≡ take (i + 1) xs
 take_read xs ys zs i x e so_far made =
     made ∙ ap (λ us. us ++ x ∷ []) so_far ∙ sym (take_more xs i x (slice_get_within xs i x e) ∙ ap (λ y. take i xs ++ y ∷ []) (get_or_from_slice_get xs i x x e))
-
--- ---- places
-
-not_here : (k : ℕ) (o : Option ℕ) → or_here k false o ≡ o
-not_here k None = refl
-not_here k (Some n) = refl
-
-no_place : (b : Bool) → (b && false) ≡ false
-no_place true = refl
-no_place false = refl
-
-row_here : (p : ℕ × ℕ) (k file : ℕ) (at : Option ℕ) (rest : List Row) → number_in p (rows_at k file at ++ rest) ≡ or_here k (file == p.0 && at_offset p.1 at) (number_in p rest)
-row_here p k file None rest = sym (ap (λ (b : Bool). or_here k b (number_in p rest)) (no_place (file == p.0)) ∙ not_here k (number_in p rest))
-row_here p k file (Some a) rest = refl
-
-pub numbers : (p : ℕ × ℕ) (k : ℕ) (ss : List Source) → number_in p (rows_from k ss) ≡ number_from p k ss
-unfolding rows_from
-numbers p k [] = refl
-numbers p k (s ∷ ss) = row_here p k s.file s.at (rows_from (k + 1) ss) ∙ ap (or_here k (is_at p s)) (numbers p (k + 1) ss)
 
 -- ---- moves by nothing
 

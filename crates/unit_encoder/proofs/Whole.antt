@@ -5,16 +5,20 @@ use Rattle.c_model.specs.declared.graph.CType.{CType}
 use Rattle.c_types.specs.Laws.{TypesRise}
 use Rattle.unit_encoder.specs.declared.fault.EncodeFault.{EncodeFault}
 use Rattle.unit_encoder.specs.declared.fault.EncodeFault.TheVariants.{Unit as UnitFault, NodesTooMany, TypeRefOut, Memory}
-use Rattle.unit_encoder.specs.declared.links.Out.{Out}
+use Rattle.unit_graph.specs.declared.links.Out.{Out}
 use Rattle.unit_encoder.specs.declared.piece.Piece.{Piece}
-use Rattle.unit_encoder.specs.Sources.{FileUnit, Source, gathered, Fails}
-use Rattle.unit_encoder.specs.Pieces.{Read, reads, glue, sources_from}
-use Rattle.unit_encoder.specs.Graph.{nodes_from, graph_of, linked, told_out, tag_of}
-use Rattle.unit_encoder.specs.Apart.{AreApart}
-use Rattle.unit_encoder.specs.Held.{PlacesRise, Holds, IsHeld}
-use Rattle.unit_encoder.proofs.Halves.{gathered_glue, glue_fails}
-use Rattle.unit_encoder.proofs.Reading.{glued_all}
-use Rattle.unit_encoder.proofs.Rising.{all_rise}
+use Rattle.unit_graph.specs.Sources.{FileUnit, Source, UnitRefusal, gathered}
+use Rattle.unit_encoder.specs.Faults.{Fails, unit_faults}
+use Rattle.unit_encoder.proofs.Reading.{carried}
+use Rattle.unit_graph.specs.Pieces.{Read, reads, glue, sources_from}
+use Rattle.unit_graph.specs.Links.{nodes_from}
+use Rattle.unit_encoder.specs.Graph.{graph_of, linked, told_out}
+use Rattle.unit_graph.specs.Tags.{tag_of}
+use Rattle.unit_graph.specs.Apart.{AreApart}
+use Rattle.unit_graph.specs.Numbers.{PlacesRise}
+use Rattle.unit_encoder.specs.Held.{Holds, IsHeld}
+use Rattle.unit_graph.proofs.Halves.{gathered_glue, glued_all}
+use Rattle.unit_graph.proofs.Rising.{all_rise}
 
 -- what linking the rest of a piece answers
 abbrev pub IsRest : Piece → Result (List CType) Out → Type 0
@@ -29,7 +33,7 @@ pub record IsWhole (units : List FileUnit) (p : Piece) (r : Result (List CType) 
 pub whole : (rises : TypesRise) (local : Bool) (units : List FileUnit) (p : Piece) (r : Result (List CType) Out) → (IsTrue local → AreApart units) → IsHeld local p (reads 0 units) → IsWhole units p r
 whole rises local units p r apart held = by (reads 0 units) refl held
   where
-    by : (x : Result (List Read) EncodeFault) → reads 0 units ≡ x → IsHeld local p x → IsWhole units p r
+    by : (x : Result (List Read) UnitRefusal) → reads 0 units ≡ x → IsHeld local p x → IsWhole units p r
     by (Err e) is h = absurd h
     by (Ok rs) is h =
         record {
@@ -39,8 +43,8 @@ whole rises local units p r apart held = by (reads 0 units) refl held
           linked = λ rest. rest local (λ n. sources_from n rs) h (λ loc. all_rise rises 0 0 units rs is (apart loc));
         }
 
-pub fails : (e : EncodeFault) (units : List FileUnit) → Fails e (reads 0 units) → Fails e (gathered 0 [] units)
-fails e units h = subst (λ (r : Result (List Source) EncodeFault). Fails e r) (sym (gathered_glue 0 [] units)) (glue_fails e [] (reads 0 units) h)
+pub fails : (e : EncodeFault) (units : List FileUnit) → Fails e (unit_faults (reads 0 units)) → Fails e (unit_faults (gathered 0 [] units))
+fails e units h = carried e (reads 0 units) (gathered 0 [] units) (λ r is. gathered_glue 0 [] units ∙ ap (glue []) is) h
 
 -- ---- the graph
 
@@ -56,12 +60,12 @@ told most units all b e = ap (λ (t : Bool). if t then Err (NodesTooMany (length
 pub too_many : (most : ℕ) (units : List FileUnit) (p : Piece) (r : Result (List CType) Out) → IsWhole units p r → most < length p.nodes → graph_of most units ≡ Err (NodesTooMany (length p.nodes))
 too_many most units p r w more =
     let count = w.count in
-    ap (linked most units) w.gathers ∙ told most units w.all true (are_more most (length w.all) (omega (arith, count))) ∙ ap (λ (n : ℕ). Err (NodesTooMany n)) count
+    ap (λ (x : Result (List Source) UnitRefusal). linked most units (unit_faults x)) w.gathers ∙ told most units w.all true (are_more most (length w.all) (omega (arith, count))) ∙ ap (λ (n : ℕ). Err (NodesTooMany n)) count
 
 few : (most : ℕ) (units : List FileUnit) (p : Piece) (r : Result (List CType) Out) → IsWhole units p r → length p.nodes ≤ most → IsRest p r → graph_of most units ≡ told_out units r
 few most units p r w le rest =
     let count = w.count in
-    ap (linked most units) w.gathers ∙ told most units w.all false (are_few most (length w.all) (omega (arith, count))) ∙ ap (told_out units) (sym (w.linked rest))
+    ap (λ (x : Result (List Source) UnitRefusal). linked most units (unit_faults x)) w.gathers ∙ told most units w.all false (are_few most (length w.all) (omega (arith, count))) ∙ ap (told_out units) (sym (w.linked rest))
 
 pub graph_is : (most : ℕ) (units : List FileUnit) (p : Piece) (ns : List CType) → IsWhole units p (Ok ns) → length p.nodes ≤ most → IsRest p (Ok ns) → graph_of most units ≡ Ok ns
 graph_is most units p ns w le rest = few most units p (Ok ns) w le rest
@@ -69,7 +73,7 @@ graph_is most units p ns w le rest = few most units p (Ok ns) w le rest
 pub graph_out : (most : ℕ) (units : List FileUnit) (p : Piece) (o : Out) → IsWhole units p (Err o) → length p.nodes ≤ most → IsRest p (Err o) → graph_of most units ≡ Err (TypeRefOut o.file o.from o.to (tag_of o.file o.to units))
 graph_out most units p o w le rest = few most units p (Err o) w le rest
 
-pub graph_fails : (e : EncodeFault) (most : ℕ) (units : List FileUnit) → Fails e (reads 0 units) → Fails e (graph_of most units)
+pub graph_fails : (e : EncodeFault) (most : ℕ) (units : List FileUnit) → Fails e (unit_faults (reads 0 units)) → Fails e (graph_of most units)
 graph_fails Memory most units h = tt
 graph_fails (UnitFault a b c) most units h = ap (linked most units) (fails (UnitFault a b c) units h)
 graph_fails (NodesTooMany a) most units h = ap (linked most units) (fails (NodesTooMany a) units h)

@@ -1,38 +1,24 @@
 -- What a worker holds of the units that it has read: their nodes, linked where all that they refer to stands in their own unit, and of each other
 -- node what it refers to. Nodes are numbered from the first that the worker holds.
 use Rattle.std.specs.Prelude.{◌≡◌, ◌<◌, ◌+◌, ◌++◌, ◌⊎◌, ◌^◌, ℕ, Bool, List, [], ◌∷◌, Option, None, Some, Result, Ok, Err, Vec, IsTrue, length, map, slice_get}
-use Rattle.std.specs.Global.{Global}
 use Rattle.c_model.specs.declared.graph.CType.{CType}
 use Rattle.c_model.specs.declared.graph.Ref.{Ref}
-use Rattle.unit_encoder.specs.declared.links.Out.{Out}
 use Rattle.c_model.specs.Partition.{label_at, targets_at}
 use Rattle.packed_graph.specs.Packed.{moved, moved_by}
 use Rattle.unit_encoder.specs.declared.fault.EncodeFault.{EncodeFault}
 use Rattle.unit_encoder.specs.declared.piece.Piece.{Piece}
 use Rattle.unit_encoder.specs.declared.piece.Unlinked.{Unlinked}
 use Rattle.unit_encoder.specs.declared.piece.UnitNodes.{UnitNodes}
-use Rattle.unit_encoder.specs.declared.places.Row.{Row}
-use Rattle.unit_encoder.specs.Sources.{Source, Fails}
-use Rattle.unit_encoder.specs.Pieces.{Read, sources_from}
-use Rattle.unit_encoder.specs.Graph.{number_of, refs_from}
+use Rattle.unit_graph.specs.declared.places.Row.{Row}
+use Rattle.unit_graph.specs.Sources.{Source, UnitRefusal}
+use Rattle.unit_graph.specs.Pieces.{Read, sources_from}
+use Rattle.unit_graph.specs.Links.{number_of, refs_from}
+use Rattle.unit_graph.specs.Numbers.{PlacesRise, rows_from}
+use Rattle.unit_encoder.specs.Faults.{Fails, unit_faults}
 
 -- nodes stand in a list from a number on
 abbrev pub Stands : List Source → ℕ → List Source → Type 0
 Stands all n ss = (k : ℕ) (s : Source) → slice_get ss k ≡ Some s → slice_get all (n + k) ≡ Some s
-
--- the places of nodes rise: no two begin at one
-abbrev pub PlacesRise : List Source → Type 0
-PlacesRise all = (i j : ℕ) (s t : Source) (a b : ℕ) → i < j → slice_get all i ≡ Some s → slice_get all j ≡ Some t → s.at ≡ Some a → t.at ≡ Some b → (s.file < t.file) ⊎ ((s.file ≡ t.file) × (a < b))
-
--- the place of a node as rows
-abbrev pub rows_at : ℕ → ℕ → Option ℕ → List Row
-rows_at k file None = []
-rows_at k file (Some at) = record { file = file; number = k; at = at } ∷ []
-
--- the places of nodes that are numbered from one on
-unfoldable pub rows_from : ℕ → List Source → List Row
-rows_from k [] = []
-rows_from k (s ∷ ss) = rows_at k s.file s.at ++ rows_from (k + 1) ss
 
 -- a node is linked: its references, moved by the number of the first that is held, are those of its source
 abbrev pub IsLinked : List Source → ℕ → List CType → ℕ → Source → Type 0
@@ -64,13 +50,13 @@ pub record Finds (all : List Source) (n : ℕ) (u : UnitNodes) (offsets : List �
   pub index : IsTrue u.has_array → n + u.index < length all
 
 -- a worker holds what reading its units gives
-abbrev pub IsHeld : Bool → Piece → Result (List Read) EncodeFault → Type 0
+abbrev pub IsHeld : Bool → Piece → Result (List Read) UnitRefusal → Type 0
 IsHeld local p (Err e) = ⊥
 IsHeld local p (Ok rs) = Holds local (λ n. sources_from n rs) (λ n. sources_from n rs) p
 
-abbrev pub GivesPiece : Bool → Result Piece EncodeFault → Result (List Read) EncodeFault → Type 0
+abbrev pub GivesPiece : Bool → Result Piece EncodeFault → Result (List Read) UnitRefusal → Type 0
 GivesPiece local (Ok p) r = IsHeld local p r
-GivesPiece local (Err e) r = Fails e r
+GivesPiece local (Err e) r = Fails e (unit_faults r)
 
 -- a place, and a node that is not linked, of a node that comes so many later
 abbrev pub row_moved : ℕ → Row → Row
@@ -84,8 +70,3 @@ pub record Follow (p q r : Piece) : Type 0 where
   pub nodes : r.nodes ≡ p.nodes ++ moved_by (length p.nodes) q.nodes
   pub rows : r.rows.items ≡ p.rows.items ++ map (row_moved (length p.nodes)) q.rows.items
   pub unlinked : r.unlinked.items ≡ p.unlinked.items ++ map (unlinked_moved (length p.nodes)) q.unlinked.items
-
--- references that were found, as a list
-abbrev pub seen : Result (Vec Ref Global) Out → Result (List Ref) Out
-seen (Ok v) = Ok v.items
-seen (Err o) = Err o

@@ -5,17 +5,18 @@
 ghost use Rattle.std.specs.Prelude.{◌≡◌, ◌<◌, ◌+◌, ◌-◌, ◌^◌, ◌++◌, ◌∷◌, [], ℕ, List, Some, Ok, All, IsTrue, length, map, OnOk, IfOk, IfSome};
 ghost use Rattle.c_model.specs.Graph.{IsBelow};
 ghost use Rattle.packed_graph.specs.Packed.{moved};
-ghost use Rattle.unit_encoder.specs.Sources.{Source, index_label, source_of, made_sources, index_sources, sources_of};
-ghost use Rattle.unit_encoder.specs.Graph.{number_of, ref_of, refs_from};
-ghost use Rattle.unit_encoder.specs.Held.{Stands, PlacesRise, Finds, Holds};
+ghost use Rattle.unit_graph.specs.Sources.{Source, index_label, source_of, made_sources, index_sources, sources_of};
+ghost use Rattle.unit_graph.specs.Links.{number_of, ref_of, refs_from};
+ghost use Rattle.unit_graph.specs.Numbers.{PlacesRise};
+ghost use Rattle.unit_encoder.specs.Held.{Stands, Finds, Holds};
 ghost use Rattle.c_types.specs.declared.source.SourceType.{SourceType};
 
-use crate::places::Row;
 use c_model::{Label, Parts, Ref};
 use c_types::{SourceType, Target, Targets, UnitTypes};
 use dw_base::Name;
 use packed_graph::PackedNodes;
 use std::alloc::{AllocError, Global};
+use unit_graph::Row;
 
 /// The most nodes of a worker: a reference to each, and none, has a number of 32 bits.
 const MOST_NODES: u32 = u32::MAX - 2;
@@ -150,8 +151,9 @@ fn index_type<'a>(alloc: Global) -> Label<'a>
 
 impl<'a> Piece<'a> {
     ghost use Rattle.std.specs.Prelude.{◌≡◌, ◌<◌, ◌+◌, ◌-◌, ◌^◌, ◌++◌, ◌∷◌, [], ℕ, List, Some, All, IsTrue, length, map, OnOk, IfOk};
-    ghost use Rattle.unit_encoder.specs.Sources.{Source, source_of, made_sources, index_sources, sources_of};
-    ghost use Rattle.unit_encoder.specs.Held.{Stands, PlacesRise, Finds, Holds};
+    ghost use Rattle.unit_graph.specs.Sources.{Source, source_of, made_sources, index_sources, sources_of};
+    ghost use Rattle.unit_graph.specs.Numbers.{PlacesRise};
+    ghost use Rattle.unit_encoder.specs.Held.{Stands, Finds, Holds};
 
     /// Puts the node of a unit's type behind the others. The unit's types begin at these offsets.
     fn push_type(

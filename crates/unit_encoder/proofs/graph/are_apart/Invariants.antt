@@ -1,7 +1,7 @@
 use Rattle.std.proofs.Common.{◌≡◌, ◌+◌, ◌<◌, ℕ, Some}
 use Rattle.std.specs.List.{slice_get}
-use Rattle.unit_encoder.specs.Sources.{FileUnit}
-use Rattle.unit_encoder.specs.Apart.{IsBefore}
+use Rattle.unit_graph.specs.Sources.{FileUnit}
+use Rattle.unit_graph.specs.Apart.{IsBefore}
 use Rattle.unit_encoder.proofs.graph.are_apart.Given as goal
 
 abbrev pub invariant-loop-i : goal.invariant-loop-i

@@ -5,17 +5,14 @@ use Rattle.c_model.specs.declared.graph.CType.{CType}
 use Rattle.c_types.proofs.Standing.{types_in_order}
 use Rattle.unit_encoder.specs.declared.fault.EncodeFault.{EncodeFault}
 use Rattle.unit_encoder.specs.declared.fault.EncodeFault.TheVariants.{NodesTooMany, TypeRefOut}
-use Rattle.unit_encoder.specs.declared.links.Out.{Out}
+use Rattle.unit_graph.specs.declared.links.Out.{Out}
 use Rattle.unit_encoder.specs.declared.piece.Piece.{Piece}
-use Rattle.unit_encoder.specs.Sources.{FileUnit}
-use Rattle.unit_encoder.specs.Graph.{tag_of}
-use Rattle.unit_encoder.proofs.Formed.{IsFine, units_fine, well, fits}
-use Rattle.unit_encoder.proofs.Within.{linked_fine}
+use Rattle.unit_graph.specs.Sources.{FileUnit}
+use Rattle.unit_graph.specs.Tags.{tag_of}
+use Rattle.unit_graph.proofs.Formed.{IsFine, units_fine, well, fits}
+use Rattle.unit_graph.proofs.Within.{linked_fine}
 use Rattle.unit_encoder.proofs.Whole.{IsRest, whole, too_many, graph_is, graph_out, graph_fails}
 use Rattle.unit_encoder.proofs.graph.encode_by.Goals as goal
-
-same_tag : (a b : ℕ) → ◌≡◌ {A = Result ℕ EncodeFault} (Ok a) (Ok b) → a ≡ b
-same_tag a b e = cc
 
 pub returns-in-Err : goal.returns-in-Err
 returns-in-Err g c = record { nodes = graph_fails c.in-Err.fault c.args.most c.args.units.now c.in-Err.ensures; base = tt; well = tt; fitting = tt }
@@ -78,12 +75,12 @@ returns-in-Ok-2-clause-fitting g c =
     let w = whole types_in_order c.are_apart-local.result units p (Ok ns) c.are_apart-local.ensures c.in-Ok.ensures in
     fits c.new.result (subst (λ (xs : List CType). All IsFine xs) (sym c.new.ensures.nodes) (units_fine units w.all ns w.gathers (sym (w.linked rest))))
 
-pub returns-in-Ok-find_tag-clause-nodes : goal.returns-in-Ok-find_tag-clause-nodes
-returns-in-Ok-find_tag-clause-nodes g c =
+pub returns-in_ok-find_tag-in-Err-2-clause-nodes : goal.returns-in_ok-find_tag-in-Err-2-clause-nodes
+returns-in_ok-find_tag-in-Err-2-clause-nodes g c =
     let units : List FileUnit = c.args.units.now in
     let p : Piece = c.in-Ok.piece in
     let rest = subst (λ (r : Result (List CType) Out). IsRest p r) c.in-Err-2.is c.in_ok-nodes.ensures in
     let w = whole types_in_order c.are_apart-local.result units p (Err c.in-Err-2.out) c.are_apart-local.ensures c.in-Ok.ensures in
     let le : length p.nodes ≤ c.args.most = (let count = c.len-count.ensures in let most = c.from.ensures in let few = c.if-count-from.false in omega (arith, count, most, few)) in
     graph_out c.args.most units p c.in-Err-2.out w le rest
-    ∙ ap (λ (n : ℕ). Err (TypeRefOut c.in-Err-2.out.file c.in-Err-2.out.from c.in-Err-2.out.to n)) (same_tag (tag_of c.in-Err-2.out.file c.in-Err-2.out.to units) c.in-Ok-find_tag.tag c.in-Ok-find_tag.ensures)
+    ∙ ap (λ (n : ℕ). Err (TypeRefOut c.in-Err-2.out.file c.in-Err-2.out.from c.in-Err-2.out.to n)) (sym c.in_ok-find_tag-in-Err-2.ensures)

@@ -1,6 +1,7 @@
 use Rattle.std.proofs.Common.{ℕ, Bool, List, IsTrue}
-use Rattle.unit_encoder.specs.Sources.{Source}
-use Rattle.unit_encoder.specs.Held.{PlacesRise, Holds}
+use Rattle.unit_graph.specs.Sources.{Source}
+use Rattle.unit_graph.specs.Numbers.{PlacesRise}
+use Rattle.unit_encoder.specs.Held.{Holds}
 use Rattle.unit_encoder.proofs.Resting.{IsResting}
 use Rattle.unit_encoder.proofs.links.link_rest.Given as goal
 

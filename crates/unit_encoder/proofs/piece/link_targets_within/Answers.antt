@@ -3,7 +3,7 @@ use Rattle.std.proofs.lemmas.List.{map-append}
 use Rattle.std.proofs.lemmas.List.Elements.{All-push}
 use Rattle.c_model.specs.Graph.{IsBelow}
 use Rattle.packed_graph.specs.Packed.{moved}
-use Rattle.unit_encoder.proofs.Linking.{refs_go_on, refs_end}
+use Rattle.unit_graph.proofs.Linking.{refs_go_on, refs_end}
 use Rattle.unit_encoder.proofs.piece.link_targets_within.Goals as goal
 
 pub loop-i-preserved : goal.loop-i-preserved

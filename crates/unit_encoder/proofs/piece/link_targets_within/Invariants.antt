@@ -1,8 +1,8 @@
 use Rattle.std.proofs.Common.{◌≡◌, ◌+◌, ◌-◌, ◌^◌, ℕ, List, [], All, drop, map}
 use Rattle.c_model.specs.Graph.{IsBelow}
 use Rattle.packed_graph.specs.Packed.{moved}
-use Rattle.unit_encoder.specs.Sources.{Source}
-use Rattle.unit_encoder.specs.Graph.{refs_from}
+use Rattle.unit_graph.specs.Sources.{Source}
+use Rattle.unit_graph.specs.Links.{refs_from}
 use Rattle.unit_encoder.specs.Held.{Finds}
 use Rattle.unit_encoder.proofs.piece.link_targets_within.Given as goal
 

@@ -1,5 +1,5 @@
 use Rattle.std.proofs.Common.{◌≡◌, ℕ, List, ◌∙◌}
-use Rattle.unit_encoder.specs.Tables.{AreOf}
+use Rattle.unit_graph.specs.Tables.{AreOf}
 use Rattle.unit_encoder.proofs.tests.push_units.Goals as goal
 
 pub loop-i-preserved : goal.loop-i-preserved

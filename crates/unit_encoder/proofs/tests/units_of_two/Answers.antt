@@ -1,6 +1,6 @@
 use Rattle.std.proofs.Common.{◌≡◌, ℕ, ◌==◌, List, if◌then◌else◌, refl}
 use Rattle.std.proofs.lemmas.List.Elements.{All-nil}
-use Rattle.unit_encoder.specs.Sources.{FileUnit}
+use Rattle.unit_graph.specs.Sources.{FileUnit}
 use Rattle.unit_encoder.proofs.tests.units_of_two.Goals as goal
 
 two_files : List ℕ → List ℕ → ℕ → List ℕ

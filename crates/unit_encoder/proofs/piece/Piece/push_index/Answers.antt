@@ -4,7 +4,7 @@ use Rattle.c_model.specs.declared.label.Label.{Label}
 use Rattle.c_model.specs.declared.graph.CType.{CType}
 use Rattle.unit_encoder.specs.declared.piece.Piece.{Piece}
 use Rattle.unit_encoder.specs.declared.piece.Unlinked.{Unlinked}
-use Rattle.unit_encoder.specs.Sources.{Source, index_label, index_sources}
+use Rattle.unit_graph.specs.Sources.{Source, index_label, index_sources}
 use Rattle.unit_encoder.proofs.Holding.{holds-pushed, refs-none}
 use Rattle.unit_encoder.proofs.Joining.{holds-same}
 use Rattle.unit_encoder.proofs.piece.Piece.push_index.Goals as goal

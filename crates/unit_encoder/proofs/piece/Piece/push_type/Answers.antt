@@ -6,10 +6,11 @@ use Rattle.c_model.specs.declared.graph.Ref.{Ref}
 use Rattle.packed_graph.specs.Packed.{moved}
 use Rattle.unit_encoder.specs.declared.piece.Piece.{Piece}
 use Rattle.unit_encoder.specs.declared.piece.Unlinked.{Unlinked}
-use Rattle.unit_encoder.specs.Sources.{source_of}
-use Rattle.unit_encoder.specs.Graph.{refs_from}
-use Rattle.unit_encoder.specs.Held.{rows_at}
-use Rattle.unit_encoder.proofs.Holding.{holds-pushed, get-one}
+use Rattle.unit_graph.specs.Sources.{source_of}
+use Rattle.unit_graph.specs.Links.{refs_from}
+use Rattle.unit_graph.specs.Numbers.{rows_at}
+use Rattle.unit_encoder.proofs.Holding.{holds-pushed}
+use Rattle.unit_graph.proofs.Lists.{get-one}
 use Rattle.unit_encoder.proofs.piece.Piece.push_type.Goals as goal
 
 pub returns-in_ok-push-in-Some : goal.returns-in_ok-push-in-Some

@@ -1,6 +1,6 @@
 use Rattle.std.proofs.Common.{◌+◌, ◌++◌, ◌∷◌, [], List, sym, ap, ◌∙◌, append_assoc}
 use Rattle.std.proofs.lemmas.List.{map-append}
-use Rattle.unit_encoder.specs.Sources.{Source, source_of, made_sources}
+use Rattle.unit_graph.specs.Sources.{Source, source_of, made_sources}
 use Rattle.unit_encoder.proofs.Joining.{holds-same}
 use Rattle.unit_encoder.proofs.piece.Piece.push_types.Goals as goal
 

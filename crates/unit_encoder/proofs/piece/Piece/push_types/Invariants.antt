@@ -1,6 +1,7 @@
 use Rattle.std.proofs.Common.{◌+◌, ◌++◌, ℕ, List, IsTrue}
-use Rattle.unit_encoder.specs.Sources.{Source, made_sources}
-use Rattle.unit_encoder.specs.Held.{Stands, PlacesRise, Finds, Holds}
+use Rattle.unit_graph.specs.Sources.{Source, made_sources}
+use Rattle.unit_encoder.specs.Held.{Stands, Finds, Holds}
+use Rattle.unit_graph.specs.Numbers.{PlacesRise}
 use Rattle.unit_encoder.proofs.piece.Piece.push_types.Given as goal
 
 abbrev pub invariant-loop-one : goal.invariant-loop-one

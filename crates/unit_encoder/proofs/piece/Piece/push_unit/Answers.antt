@@ -3,7 +3,7 @@ use Rattle.c_types.specs.declared.source.SourceType.{SourceType}
 use Rattle.c_types.specs.declared.source.UnitTypes.{UnitTypes}
 use Rattle.unit_encoder.specs.declared.piece.Piece.{Piece}
 use Rattle.unit_encoder.specs.declared.piece.UnitNodes.{UnitNodes}
-use Rattle.unit_encoder.specs.Sources.{made_sources, sources_of}
+use Rattle.unit_graph.specs.Sources.{made_sources, sources_of}
 use Rattle.unit_encoder.specs.Held.{Holds}
 use Rattle.unit_encoder.proofs.Placing.{wider, unit_finds, unit_held}
 use Rattle.unit_encoder.proofs.Joining.{holds-wider}

@@ -1,0 +1,11 @@
+pub mod Finding
+pub mod Formed
+pub mod Halves
+pub mod Keeping
+pub mod Linking
+pub mod Lists
+pub mod Numbering
+pub mod Placing
+pub mod Rising
+pub mod Rows
+pub mod Within

@@ -1,0 +1,42 @@
+-- Rows that are made of nodes: those of two lists, and the numbers that they have.
+use Rattle.std.proofs.Common.{◌≡◌, ◌+◌, ◌==◌, ◌&&◌, ◌++◌, ◌∷◌, [], ℕ, Bool, true, false, List, Option, None, Some, length, refl, sym, ap, ◌∙◌, arith, append_assoc, append-nil}
+use Rattle.unit_graph.specs.declared.places.Row.{Row}
+use Rattle.unit_graph.specs.Sources.{Source}
+use Rattle.unit_graph.specs.Links.{is_at, at_offset, or_here, number_from}
+use Rattle.unit_graph.specs.Numbers.{number_in, rows_at, rows_from}
+
+-- ---- lists of nodes
+
+pub rows-append : (k m : ℕ) (ss ts : List Source) → m ≡ k + length ss → rows_from k (ss ++ ts) ≡ rows_from k ss ++ rows_from m ts
+unfolding rows_from
+rows-append k m [] ts e = let same : k ≡ m = omega arith in ap (λ n. rows_from n ts) same
+rows-append k m (s ∷ ss) ts e =
+    let next : m ≡ (k + 1) + length ss = omega arith in
+    ap (λ (rs : List Row). rows_at k s.file s.at ++ rs) (rows-append (k + 1) m ss ts next) ∙ sym (append_assoc (rows_at k s.file s.at) (rows_from (k + 1) ss) (rows_from m ts))
+
+pub rows-one : (k : ℕ) (s : Source) → rows_from k (s ∷ []) ≡ rows_at k s.file s.at
+unfolding rows_from
+rows-one k s = append-nil (rows_at k s.file s.at)
+
+pub rows-none : (k : ℕ) → rows_from k [] ≡ []
+unfolding rows_from
+rows-none k = refl
+
+-- ---- numbers
+
+not_here : (k : ℕ) (o : Option ℕ) → or_here k false o ≡ o
+not_here k None = refl
+not_here k (Some n) = refl
+
+no_place : (b : Bool) → (b && false) ≡ false
+no_place true = refl
+no_place false = refl
+
+row_here : (p : ℕ × ℕ) (k file : ℕ) (at : Option ℕ) (rest : List Row) → number_in p (rows_at k file at ++ rest) ≡ or_here k (file == p.0 && at_offset p.1 at) (number_in p rest)
+row_here p k file None rest = sym (ap (λ (b : Bool). or_here k b (number_in p rest)) (no_place (file == p.0)) ∙ not_here k (number_in p rest))
+row_here p k file (Some a) rest = refl
+
+pub numbers : (p : ℕ × ℕ) (k : ℕ) (ss : List Source) → number_in p (rows_from k ss) ≡ number_from p k ss
+unfolding rows_from
+numbers p k [] = refl
+numbers p k (s ∷ ss) = row_here p k s.file s.at (rows_from (k + 1) ss) ∙ ap (or_here k (is_at p s)) (numbers p (k + 1) ss)

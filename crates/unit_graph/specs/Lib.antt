@@ -1,0 +1,9 @@
+pub mod Sources
+pub mod Apart
+pub mod Laws
+pub mod Links
+pub mod Numbers
+pub mod Pieces
+pub mod Tables
+pub mod Tags
+pub mod Unread

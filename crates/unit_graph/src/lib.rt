@@ -1,0 +1,18 @@
+//! The graph of the types of all units: its definition, and looking for the node at an offset of a file.
+#![tactic(auto)]
+
+pub mod laws;
+pub mod links;
+pub mod places;
+mod shared;
+pub mod sources;
+pub mod tables;
+pub mod tags;
+#[cfg(test)]
+mod tests;
+
+pub use links::{Out, link_targets};
+pub use places::{Places, Row};
+pub use sources::UnitAt;
+pub use tables::{LastTable, table_for, types_by};
+pub use tags::find_tag;

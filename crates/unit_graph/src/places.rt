@@ -1,0 +1,114 @@
+//! Where the entries of nodes begin: looking for the node at an offset of a file, in a list by file and offset.
+ghost use Rattle.std.specs.Prelude.{◌≡◌, ◌≤◌, ℕ, length, OnOk, IfSome, true, false, Some};
+ghost use Rattle.std.specs.List.Sorted.{IsPartitionPoint};
+ghost use Rattle.unit_graph.specs.declared.places.Row.{Row};
+ghost use Rattle.unit_graph.specs.Numbers.{row_is_at, row_is_up_to, number_in, IsInOrder};
+
+use std::alloc::AllocError;
+use std::marker::Model;
+
+/// The place of a node: where its entry begins, and the number of the node.
+#[derive(Clone, Copy, Debug)]
+pub struct Row {
+    /// The file.
+    pub file: u32,
+    /// The number of the node.
+    pub number: u32,
+    /// The offset of its entry in `.debug_info`.
+    pub at: u64,
+}
+
+impl Row {
+    /// Whether this is an offset of a file.
+    #[inline(always)]
+    fn is_at(&self, file: u32, to: u64) -> bool
+        ensures { result ≡ row_is_at (file, to) self.now }
+    {
+        self.file == file && self.at == to
+    }
+
+    /// Whether this is an offset of a file or before it.
+    #[inline(always)]
+    fn is_up_to(&self, file: u32, to: u64) -> bool
+        ensures { result ≡ row_is_up_to (file, to) self.now }
+    {
+        self.file < file || self.file == file && self.at <= to
+    }
+}
+
+/// Puts the places in order. Those of units that follow one another are.
+fn order_rows(rows: &mut Vec<Row>) -> Result<(), AllocError>
+    ensures order { OnOk result (IsInOrder rows.new.items) }
+    ensures numbers { OnOk result ((p : ℕ × ℕ) → number_in p rows.new.items ≡ number_in p rows.old.items) }
+{
+    rows.sort_by_key(|row| (row.file, row.at))?;
+    Ok(())
+}
+
+/// The number of the row before an end, if it is the last at an offset of a file.
+fn number_before(rows: &[Row], end: usize, file: u32, to: u64) -> Option<u32>
+    requires order { IsInOrder rows.now }
+    requires within { end ≤ length rows.now }
+    ensures found { IfSome result (λ n. number_in (file, to) rows.now ≡ Some n) }
+    ensures exact { IsPartitionPoint (λ r. row_is_up_to (file, to) r ≡ true) (λ r. row_is_up_to (file, to) r ≡ false) rows.now end → result ≡ number_in (file, to) rows.now }
+{
+    if end == 0 {
+        return None;
+    }
+    let row = rows[end - 1];
+    if !row.is_at(file, to) {
+        return None;
+    }
+    if end < rows.len() && rows[end].is_at(file, to) {
+        return None;
+    }
+    Some(row.number)
+}
+
+/// The number of the last row at an offset of a file.
+fn find_in_all(rows: &[Row], file: u32, to: u64) -> Option<u32>
+    requires { IsInOrder rows.now }
+    ensures { result ≡ number_in (file, to) rows.now }
+{
+    let end = rows.partition_point(|row| row.is_up_to(file, to));
+    number_before(rows, end, file, to)
+}
+
+/// The places of nodes, in which they are looked for. Contracts see it as the rows, in order by file and offset.
+#[derive(Debug, Drop)]
+pub struct Places {
+    rows: Vec<Row>,
+}
+
+impl Model for Places {
+    ghost use Rattle.std.specs.Prelude.{List};
+    ghost use Rattle.unit_graph.specs.declared.places.Row.{Row};
+    ghost use Rattle.unit_graph.specs.Numbers.{IsInOrder};
+
+    ghost Value = { List Row };
+
+    ghost view = { λ p. p.rows.items };
+
+    ghost invariant = { λ p. IsInOrder p.rows.items };
+}
+
+impl Places {
+    ghost use Rattle.std.specs.Prelude.{◌≡◌, ℕ, IfOk};
+    ghost use Rattle.unit_graph.specs.Numbers.{number_in};
+
+    /// Takes rows in any order. Those of units that follow one another are in order, which costs one pass.
+    pub fn new(rows: Vec<Row>) -> Result<Places, AllocError>
+        ensures { IfOk result (λ places. (p : ℕ × ℕ) → number_in p places ≡ number_in p rows.items) }
+    {
+        let mut rows = rows;
+        order_rows(&mut rows)?;
+        Ok(Places { rows })
+    }
+
+    /// The number of the last row at an offset of a file; none where no row is there.
+    pub fn find(&self, file: u32, to: u64) -> Option<u32>
+        ensures { result ≡ number_in (file, to) self.now }
+    {
+        find_in_all(self.rows.as_slice(), file, to)
+    }
+}

@@ -1,0 +1,14 @@
+//! What workers share or give back may be shared and sent.
+use crate::links::Out;
+use crate::places::Places;
+use crate::sources::UnitAt;
+use crate::tables::LastTable;
+
+fn crosses<T: Send + Sync>() {}
+
+fn all_cross<'a>() {
+    crosses::<UnitAt<'a>>();
+    crosses::<Places>();
+    crosses::<Out>();
+    crosses::<LastTable>();
+}
