@@ -13,7 +13,8 @@ use Rattle.c_types.specs.Children.{tagged}
 use Rattle.c_types.specs.Labels.{size_in, size_refused}
 use Rattle.c_types.specs.Parts.{refused_by}
 use Rattle.c_types.specs.Taking.{refused_if}
-use Rattle.c_types.specs.Structures.{or_zero, position_of, near, defined_row, structure_row, member_part, member_target, member_refused, has_fields}
+use Rattle.c_types.specs.Positions.{position_of}
+use Rattle.c_types.specs.Structures.{or_zero, near, defined_row, structure_row, member_part, member_target, member_refused, has_fields}
 use Rattle.c_types.specs.Opened.{kept_of, part_from, all_members, all_targets, all_fields, structure_by, structure_made, own, too_many, structure_refused, GathersMember, ComesTo}
 use Rattle.c_types.proofs.Noting.{noted_append}
 use Rattle.c_types.proofs.Gathering.{gathers, notes, tag_tests}

@@ -1,5 +1,5 @@
 -- The invariant of the walk: what is read so far, and what is to come.
-use Rattle.std.proofs.Common.{◌≡◌, ℕ, ◌+◌, ◌≤◌, ◌==◌, ◌||◌, Bool, true, false, List, [], ◌∷◌, ◌++◌, Option, None, Some, if◌then◌else◌, refl, sym, ap, ◌∙◌, subst, append_assoc}
+use Rattle.std.proofs.Common.{◌≡◌, ℕ, ◌+◌, ◌≤◌, ◌==◌, ◌||◌, Bool, true, false, List, [], ◌∷◌, ◌++◌, Option, None, Some, IfSome, if◌then◌else◌, refl, sym, ap, ◌∙◌, subst, append_assoc}
 use Rattle.std.proofs.lemmas.List.{append-nil}
 use Rattle.entry_tree.specs.Items.{Given, Coming, with_first}
 use Rattle.entry_tree.specs.declared.fault.WalkFault.{WalkFault}
@@ -7,7 +7,10 @@ use Rattle.c_types.specs.declared.open.Open.{Open}
 use Rattle.c_types.specs.declared.source.SourceType.{SourceType}
 use Rattle.c_types.specs.declared.source.Target.{Target}
 use Rattle.c_types.specs.declared.fault.TypeFault.{TypeFault}
-use Rattle.c_types.specs.Scopes.{Scope}
+use Rattle.c_types.specs.declared.scope.UnitCtx.{UnitCtx}
+use Rattle.c_types.specs.declared.extents.Extents.{Extents}
+use Rattle.dwarf_forms.specs.Meanings.{sections}
+use Rattle.c_types.specs.Scopes.{Scope, scope}
 use Rattle.c_types.specs.Faults.{noted}
 use Rattle.c_types.specs.Parents.{Descends}
 use Rattle.c_types.specs.Parts.{some_tagged}
@@ -93,3 +96,13 @@ pub read_more : (c : Scope) (ending : Option WalkFault) (os : List Open) (types 
     → had ≡ (has || e.tag == 0x01) → ((d : ℕ) → d ≤ e.depth + 1 → pointed_at ps d ≡ (if e.depth + 1 == d then own_of_pointer c.sections (Some e) else pointed_at os d)) → IsReading c ending ps more after had new
 read_more c ending os types current has old ps more after had new e step h t l a p =
     one_more c ending os types current has ps more after had new e (subst (λ (w : Coming). IsReading c ending os types current has w) step h) t l a p
+
+-- what a reader knows of extents changes nothing of what is read so far
+pub carried : (a b : UnitCtx) (os : List Open) (types : List SourceType) (current : Option TypeFault) (has : Bool) (walk : Coming) → b.form ≡ a.form → b.version ≡ a.version → b.start ≡ a.start
+    → IsReading (scope a) a.start.ending os types current has walk → IsReading (scope b) b.start.ending os types current has walk
+carried a b os types current has walk form version start h =
+    let back : (scope b, b.start.ending) ≡ (scope a, a.start.ending) = λ i. (record { sections = sections (form i); version = version i; entries = (start i).entries }, (start i).ending) in
+    subst (λ (x : Scope × Option WalkFault). IsReading x.0 x.1 os types current has walk) (sym back) h
+
+pub none_yet : (o : Option Extents) (P : Extents → Type 0) → o ≡ None → IfSome o P
+none_yet o P none = subst (λ (x : Option Extents). IfSome x P) (sym none) tt

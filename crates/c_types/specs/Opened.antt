@@ -23,7 +23,8 @@ use Rattle.c_types.specs.Attributes.{has, name_asked, name_in_full, constant_ask
 use Rattle.c_types.specs.Children.{tagged}
 use Rattle.c_types.specs.Labels.{Row, plain_label, is_empty}
 use Rattle.c_types.specs.Parts.{part_of, refused_by, some_is, some_tagged, most}
-use Rattle.c_types.specs.Structures.{or_zero, position_of, bits_in, near, member_target, member_refused, has_fields, structure_label}
+use Rattle.c_types.specs.Positions.{position_of}
+use Rattle.c_types.specs.Structures.{or_zero, bits_in, near, member_target, member_refused, has_fields, structure_label}
 use Rattle.c_types.specs.Functions.{parameter_part, parameter_target, parameter_refused, rest_part, rest_target, function_label}
 use Rattle.c_types.specs.Enumerations.{is_negative, enumerator_part, enumerator_refused, enumeration_label}
 use Rattle.c_types.specs.Arrays.{lengths_of, array_label}

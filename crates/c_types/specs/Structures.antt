@@ -11,36 +11,11 @@ use Rattle.c_types.specs.declared.fault.TypeFault.TheVariants.{MissingType, Unna
 use Rattle.c_types.specs.Scopes.{Scope}
 use Rattle.c_types.specs.Faults.{refuse_if}
 use Rattle.c_types.specs.Numbers.{number_from}
+use Rattle.c_types.specs.Positions.{position_of}
 use Rattle.c_types.specs.Attributes.{Asked, has, name_asked, name_in_full, constant_asked, number_said, flag_asked, is_set, target_asked, target_of_type, offset_asked}
 use Rattle.c_types.specs.Children.{tagged}
 use Rattle.c_types.specs.Labels.{Row, type_of, is_empty, size_in, size_refused}
 use Rattle.c_types.specs.Parts.{part_of, refused_by, some_is, most}
-
--- a place in bits: a natural number of units of so many bits
-abbrev pub placed : ℕ → ℕ → Number → Asked ℕ
-placed at scale (Natural n) = record { said = Some (scale * n); refused = [] }
-placed at scale (Negative n) = record { said = None; refused = MemberPlace at ∷ [] }
-
-abbrev pub placed_by_bits : ℕ → Option Number → Asked ℕ
-placed_by_bits at None = record { said = None; refused = [] }
-placed_by_bits at (Some n) = placed at 1 n
-
--- a place that is computed at run time is refused; one that is not given is 0
-abbrev pub placed_by_bytes : ℕ → Bool → Option (Option ℤ) → Asked ℕ
-placed_by_bytes at given None = record { said = if given then None else Some 0; refused = [] }
-placed_by_bytes at given (Some None) = record { said = None; refused = MemberPlace at ∷ [] }
-placed_by_bytes at given (Some (Some z)) = placed at 8 (number_from z)
-
--- with refusals that came before
-abbrev pub after : List TypeFault → Asked ℕ → Asked ℕ
-after refused a = record { said = a.said; refused = refused ++ a.refused }
-
--- the bit position of a member: its data_bit_offset (0x6b), if it has one, else 8 times its data_member_location (0x38)
-abbrev pub position_of : Scope → Given → Asked ℕ
-position_of s m =
-    if has 0x6b m
-    then after (constant_asked 0x6b m).refused (placed_by_bits m.at (number_said (constant_asked 0x6b m)))
-    else after (offset_asked 0x38 m).refused (placed_by_bytes m.at (has 0x38 m) (offset_asked 0x38 m).said)
 
 abbrev pub or_zero : Option ℕ → ℕ
 or_zero None = 0

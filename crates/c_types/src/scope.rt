@@ -1,4 +1,5 @@
 //! What the types of a unit are read in.
+use crate::extents::Extents;
 use dwarf_forms::FormCtx;
 use entry_tree::Walk;
 
@@ -11,4 +12,6 @@ pub(crate) struct UnitCtx<'w, 'a> {
     pub(crate) version: u16,
     /// A walk at its first entry.
     pub(crate) start: Walk<'w, 'a>,
+    /// What its entries say of their extents, once the place of a member was found by it.
+    pub(crate) extents: Option<Extents>,
 }

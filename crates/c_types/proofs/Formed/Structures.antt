@@ -14,7 +14,8 @@ use Rattle.c_types.specs.Attributes.{name_asked, name_in_full, constant_asked, f
 use Rattle.c_types.specs.Children.{tagged}
 use Rattle.c_types.specs.Labels.{Row, size_in, size_refused}
 use Rattle.c_types.specs.Parts.{refused_by}
-use Rattle.c_types.specs.Structures.{position_of, or_zero, bits_of, bits_in, near, word_of, member_word, member_part, member_target, member_refused, has_fields, forward_row, defined_row, with_refused, structure_row}
+use Rattle.c_types.specs.Positions.{position_of}
+use Rattle.c_types.specs.Structures.{or_zero, bits_of, bits_in, near, word_of, member_word, member_part, member_target, member_refused, has_fields, forward_row, defined_row, with_refused, structure_row}
 use Rattle.c_types.proofs.Formed.Refused.{second_empty}
 use Rattle.c_types.proofs.Formed.Names.{IsNamedCleanly, name_clean}
 use Rattle.c_types.proofs.Formed.Children.{tagged_all}
