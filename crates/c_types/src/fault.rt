@@ -32,7 +32,8 @@ pub enum TypeFault {
     /// A declared structure, union or enumeration has no name.
     #[error("the declaration at {0} has no name")]
     UnnamedForward(u64),
-    /// The place of a member is negative or computed at run time.
+    /// The place of a member is negative or computed at run time; or it counts back from the end of a storage (DWARF 4,
+    /// section 5.5.6) whose size neither the member says nor its type, behind at most 64 types that stand for another.
     #[error("the place of the member at {0} is not fixed")]
     MemberPlace(u64),
     /// The bit_size of a member is this one, and not 1 to 255.

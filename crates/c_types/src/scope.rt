@@ -1,4 +1,4 @@
-//! What the types of a unit are read in.
+//! What a reader of a unit's types goes by.
 use crate::extents::Extents;
 use dwarf_forms::FormCtx;
 use entry_tree::Walk;
