@@ -2,5 +2,13 @@
 #![tactic(auto)]
 
 pub mod entries;
+pub mod laws;
+mod places;
+mod shared;
+#[cfg(test)]
+mod tests;
+pub mod unit;
+mod walking;
 
 pub use entries::{FuncEntries, FuncEntry, Places, UnitFuncs};
+pub use unit::{functions_of_unit, functions_of_unit_with};
