@@ -5,6 +5,7 @@ use Rattle.entry_tree.specs.Items.{Given}
 use Rattle.c_types.specs.declared.open.OpenArray.{OpenArray}
 use Rattle.c_types.specs.declared.open.Kept.TheVariants.{Array}
 use Rattle.c_types.specs.declared.fault.TypeFault.TheVariants.{MissingType, ArrayLength}
+use Rattle.c_types.specs.Scopes.{Scope}
 use Rattle.c_types.specs.Faults.{noted, refuse_if}
 use Rattle.c_types.specs.Attributes.{has, target_asked, target_of_type}
 use Rattle.c_types.specs.Taking.{made_if}
@@ -40,8 +41,8 @@ pub record IsFresh (c : Sections) (e : Given) (o : OpenArray) : Type 0 where
   pub lengths : o.lengths ≡ start
   pub least : o.least ≡ noted None ((target_asked c e).refused ++ refuse_if (not (has 0x49 e)) (MissingType e.at))
 
-pub array_comes : (c : Sections) (e : Given) (o : OpenArray) → IsFresh c e o → ComesTo c (Array o) (array_row c e)
-array_comes c e o h =
+pub array_comes : (s : Scope) (e : Given) (o : OpenArray) → IsFresh s.sections e o → ComesTo s (Array o) (array_row s.sections e)
+array_comes s e o h =
     record {
       made = λ kids. made_is o kids ∙ rw (h.at, h.target, h.lengths, elements_are (lengths_of kids)) refl;
       refused = λ kids.

@@ -7,6 +7,7 @@ use Rattle.c_types.specs.declared.open.OpenEnumeration.{OpenEnumeration}
 use Rattle.c_types.specs.declared.open.Kept.TheVariants.{Enumeration}
 use Rattle.c_types.specs.declared.source.SourceType.{SourceType}
 use Rattle.c_types.specs.declared.fault.TypeFault.{TypeFault}
+use Rattle.c_types.specs.Scopes.{Scope}
 use Rattle.c_types.specs.Faults.{noted}
 use Rattle.c_types.specs.Attributes.{name_asked, name_in_full, constant_asked, flag_asked, is_set}
 use Rattle.c_types.specs.Children.{tagged}
@@ -172,9 +173,11 @@ module _ (c : Sections) (e : Given) (o : OpenEnumeration) (h : IsFresh c e o) wh
   fresh_made : (kids : List Given) → enumeration_made c o kids ≡ made_by c e (bare_of c e kids) (some_is is_negative (tagged 0x28 kids)) (tagged 0x28 kids)
   fresh_made kids = made_is c o kids ∙ rw (h.at, h.name, h.has_some, h.has_negative, h.parts, h.size, h.wide) refl
 
-  pub enumeration_comes : is_set (flag_asked 0x3c e) ≡ false → ComesTo c (Enumeration o) (enumeration_row c e)
-  enumeration_comes defined =
-      record {
-        made = λ kids. fresh_made kids ∙ made_way c e (bare_of c e kids) (some_is is_negative (tagged 0x28 kids)) (tagged 0x28 kids) ∙ ap (λ (r : Row). r.made) (sym (row_open c e kids defined));
-        refused = λ kids. fresh_refused kids ∙ ap (λ (r : Row). noted None r.refused) (sym (row_open c e kids defined));
-      }
+  came_made : is_set (flag_asked 0x3c e) ≡ false → (kids : List Given) → enumeration_made c o kids ≡ (enumeration_row c e kids).made
+  came_made defined kids = fresh_made kids ∙ made_way c e (bare_of c e kids) (some_is is_negative (tagged 0x28 kids)) (tagged 0x28 kids) ∙ ap (λ (r : Row). r.made) (sym (row_open c e kids defined))
+
+  came_refused : is_set (flag_asked 0x3c e) ≡ false → (kids : List Given) → enumeration_refused c o kids ≡ noted None (enumeration_row c e kids).refused
+  came_refused defined kids = fresh_refused kids ∙ ap (λ (r : Row). noted None r.refused) (sym (row_open c e kids defined))
+
+pub enumeration_comes : (s : Scope) (e : Given) (o : OpenEnumeration) → IsFresh s.sections e o → is_set (flag_asked 0x3c e) ≡ false → ComesTo s (Enumeration o) (enumeration_row s.sections e)
+enumeration_comes s e o h defined = record { made = came_made s.sections e o h defined; refused = came_refused s.sections e o h defined }

@@ -6,6 +6,7 @@ use Rattle.entry_tree.specs.Items.{Given}
 use Rattle.c_types.specs.declared.open.OpenFunction.{OpenFunction}
 use Rattle.c_types.specs.declared.open.Kept.TheVariants.{Function}
 use Rattle.c_types.specs.declared.fault.TypeFault.{TypeFault}
+use Rattle.c_types.specs.Scopes.{Scope}
 use Rattle.c_types.specs.Faults.{noted}
 use Rattle.c_types.specs.Attributes.{target_asked, target_of_type}
 use Rattle.c_types.specs.Children.{tagged}
@@ -75,8 +76,9 @@ pub record IsFresh (c : Sections) (e : Given) (o : OpenFunction) : Type 0 where
   pub variadic : o.variadic ≡ false
   pub least : o.least ≡ noted None (target_asked c e).refused
 
-pub function_comes : (c : Sections) (e : Given) (o : OpenFunction) → IsFresh c e o → ComesTo c (Function o) (function_row c e)
-function_comes c e o h =
+pub function_comes : (s : Scope) (e : Given) (o : OpenFunction) → IsFresh s.sections e o → ComesTo s (Function o) (function_row s.sections e)
+function_comes s e o h =
+    let c = s.sections in
     record {
       made = λ kids. made_is c o kids ∙ rw (h.at, h.parts, h.targets, h.variadic) refl;
       refused = λ kids. refused_is c o kids ∙ rw (h.at, h.parts, h.variadic, h.least) (sym (noted_append None (target_asked c e).refused _));

@@ -9,6 +9,7 @@ use Rattle.entry_tree.specs.Items.{Given}
 use Rattle.c_types.specs.declared.open.OpenPointer.{OpenPointer}
 use Rattle.c_types.specs.declared.source.Target.{Target}
 use Rattle.c_types.specs.declared.source.Target.TheVariants.{Entry}
+use Rattle.c_types.specs.Scopes.{Scope}
 use Rattle.c_types.specs.Attributes.{name_asked, name_in_full}
 use Rattle.c_types.specs.Pointers.{is_type_tag, link_to, is_tag_entry, tag_asked, tag_in}
 use Rattle.c_types.specs.Opened.{pointer_by, pointer_made}
@@ -75,5 +76,5 @@ pub no_tag_entry : (c : Sections) (pointed : Option Target) (e : Given) → None
 no_tag_entry c pointed e is = untold_by (is_tag_entry c pointed e) (name_in_full (tag_asked c e)) is
 
 -- a tag entry has no row
-pub tag_rowless : (c : Sections) (e : Given) (es : List Given) → e.tag ≡ 0x6000 → row_of c e es ≡ None
+pub tag_rowless : (c : Scope) (e : Given) (es : List Given) → e.tag ≡ 0x6000 → row_of c e es ≡ None
 tag_rowless c e es is = rw is refl

@@ -2,27 +2,28 @@
 use Rattle.std.proofs.Common.{◌≡◌, ℕ, ◌^◌, ◌≤◌, ◌||◌, nat_lt, Bool, true, false, List, [], ◌∷◌, ◌++◌, length, map, Option, None, if◌then◌else◌, refl, sym, ap, ◌∙◌, arith}
 use Rattle.std.proofs.lemmas.Bool.{ltb-false, le-ltb}
 use Rattle.std.proofs.lemmas.List.{append-nil, length-map}
-use Rattle.dwarf_forms.specs.Meanings.{Sections}
 use Rattle.entry_tree.specs.Items.{Given}
 use Rattle.c_types.specs.declared.open.OpenStructure.{OpenStructure}
 use Rattle.c_types.specs.declared.open.Kept.TheVariants.{Structure}
 use Rattle.c_types.specs.declared.fault.TypeFault.{TypeFault}
+use Rattle.c_types.specs.Scopes.{Scope}
 use Rattle.c_types.specs.Faults.{noted}
 use Rattle.c_types.specs.Attributes.{has, flag_asked, is_set, name_asked, name_in_full, constant_asked}
 use Rattle.c_types.specs.Children.{tagged}
 use Rattle.c_types.specs.Labels.{size_in, size_refused}
 use Rattle.c_types.specs.Parts.{refused_by}
 use Rattle.c_types.specs.Taking.{refused_if}
-use Rattle.c_types.specs.Structures.{or_zero, position_of, near, defined_row, structure_row, member_part, member_target, member_refused, has_fields}
+use Rattle.c_types.specs.Positions.{position_of}
+use Rattle.c_types.specs.Structures.{or_zero, near, defined_row, structure_row, member_part, member_target, member_refused, has_fields}
 use Rattle.c_types.specs.Opened.{kept_of, part_from, all_members, all_targets, all_fields, structure_by, structure_made, own, too_many, structure_refused, GathersMember, ComesTo}
 use Rattle.c_types.proofs.Noting.{noted_append}
 use Rattle.c_types.proofs.Gathering.{gathers, notes, tag_tests}
 
-made_is : (c : Sections) (o : OpenStructure) (kids : List Given) → structure_made c o kids ≡ structure_by o (all_fields o kids) (all_members c o kids) (all_targets c o kids)
+made_is : (c : Scope) (o : OpenStructure) (kids : List Given) → structure_made c o kids ≡ structure_by o (all_fields o kids) (all_members c o kids) (all_targets c o kids)
 unfolding structure_made
 made_is c o kids = refl
 
-refused_is : (c : Sections) (o : OpenStructure) (kids : List Given)
+refused_is : (c : Scope) (o : OpenStructure) (kids : List Given)
     → structure_refused c o kids ≡ noted (own o (all_fields o kids)) (refused_by (member_refused c (all_fields o kids)) (tagged 0x0d kids) ++ too_many o.at (length (all_members c o kids)))
 unfolding structure_refused
 refused_is c o kids = refl
@@ -32,14 +33,14 @@ or_false true = refl
 or_false false = refl
 
 -- without children to come
-pub made_closed : (c : Sections) (o : OpenStructure) → structure_made c o [] ≡ structure_by o o.fields o.members.items o.targets.items
+pub made_closed : (c : Scope) (o : OpenStructure) → structure_made c o [] ≡ structure_by o o.fields o.members.items o.targets.items
 made_closed c o =
     let f : all_fields o [] ≡ o.fields = or_false o.fields in
     let m : all_members c o [] ≡ o.members.items = append-nil o.members.items in
     let t : all_targets c o [] ≡ o.targets.items = append-nil o.targets.items in
     made_is c o [] ∙ rw (f, m, t) refl
 
-pub refused_closed : (c : Sections) (o : OpenStructure) → structure_refused c o [] ≡ noted (own o o.fields) (too_many o.at (length o.members.items))
+pub refused_closed : (c : Scope) (o : OpenStructure) → structure_refused c o [] ≡ noted (own o o.fields) (too_many o.at (length o.members.items))
 refused_closed c o =
     let f : all_fields o [] ≡ o.fields = or_false o.fields in
     let m : all_members c o [] ≡ o.members.items = append-nil o.members.items in
@@ -52,11 +53,11 @@ pub own_plain : (o : OpenStructure) → o.fields ≡ false → own o o.fields �
 own_plain o e = rw e refl
 
 -- a child is met
-own_gathers : (c : Sections) (e : Given) (o p : OpenStructure) → GathersMember c e o p → (b : Bool) → own p b ≡ noted (own o b) (refused_if 0x0d (member_refused c b) e)
+own_gathers : (c : Scope) (e : Given) (o p : OpenStructure) → GathersMember c e o p → (b : Bool) → own p b ≡ noted (own o b) (refused_if 0x0d (member_refused c b) e)
 own_gathers c e o p g true = g.packed
 own_gathers c e o p g false = g.plain
 
-module _ (c : Sections) (e : Given) (o p : OpenStructure) (kids : List Given) (g : GathersMember c e o p) where
+module _ (c : Scope) (e : Given) (o p : OpenStructure) (kids : List Given) (g : GathersMember c e o p) where
   fields_met : all_fields p kids ≡ all_fields o (e ∷ kids)
   fields_met = tag_tests 0x0d (has 0x0d) (e ∷ kids) kids e o.fields p.fields (all_fields o (e ∷ kids)) refl g.fields refl
 
@@ -86,33 +87,33 @@ near_near : (p : ℕ) (t : Bool) → nat_lt p (2 ^ 32) ≡ t → near true (if t
 near_near p true e = refl
 near_near p false e = let far : nat_lt p (2 ^ 24) ≡ false = le-ltb p (2 ^ 24) (let h : 2 ^ 32 ≤ p = ltb-false p (2 ^ 32) e in omega arith) in rw far refl
 
-part_same : (c : Sections) (fields : Bool) (m : Given) → part_from fields (kept_of c m) ≡ member_part c fields m
-part_same c true m = rw (near_near (or_zero (position_of m).said) (nat_lt (or_zero (position_of m).said) (2 ^ 32)) refl) refl
+part_same : (c : Scope) (fields : Bool) (m : Given) → part_from fields (kept_of c m) ≡ member_part c fields m
+part_same c true m = rw (near_near (or_zero (position_of c m).said) (nat_lt (or_zero (position_of c m).said) (2 ^ 32)) refl) refl
 part_same c false m = refl
 
-parts_same : (c : Sections) (fields : Bool) (ms : List Given) → map (part_from fields) (map (kept_of c) ms) ≡ map (member_part c fields) ms
+parts_same : (c : Scope) (fields : Bool) (ms : List Given) → map (part_from fields) (map (kept_of c) ms) ≡ map (member_part c fields) ms
 parts_same c fields [] = refl
 parts_same c fields (m ∷ ms) = rw (part_same c fields m, parts_same c fields ms) refl
 
-pub record IsFresh (c : Sections) (union : Bool) (e : Given) (found : Option TypeFault) (o : OpenStructure) : Type 0 where
+pub record IsFresh (c : Scope) (union : Bool) (e : Given) (found : Option TypeFault) (o : OpenStructure) : Type 0 where
   pub members : o.members.items ≡ []
   pub targets : o.targets.items ≡ []
   pub fields : o.fields ≡ false
   pub at : o.at ≡ e.at
   pub is_union : o.is_union ≡ union
-  pub name : o.name ≡ name_in_full (name_asked c e)
+  pub name : o.name ≡ name_in_full (name_asked c.sections e)
   pub size : o.size ≡ size_in (constant_asked 0x0b e).said
   pub plain : o.plain ≡ found
   pub packed : o.packed ≡ found
 
-fresh_made : (c : Sections) (union : Bool) (e : Given) (found : Option TypeFault) (o : OpenStructure) (kids : List Given) → IsFresh c union e found o → structure_made c o kids ≡ (defined_row c union e (tagged 0x0d kids)).made
+fresh_made : (c : Scope) (union : Bool) (e : Given) (found : Option TypeFault) (o : OpenStructure) (kids : List Given) → IsFresh c union e found o → structure_made c o kids ≡ (defined_row c union e (tagged 0x0d kids)).made
 fresh_made c union e found o kids h = made_is c o kids ∙ rw (h.members, h.targets, h.fields, h.at, h.is_union, h.name, h.size, parts_same c (has_fields (tagged 0x0d kids)) (tagged 0x0d kids)) refl
 
 fresh_own : (o : OpenStructure) (found : Option TypeFault) (b : Bool) → o.plain ≡ found → o.packed ≡ found → own o b ≡ found
 fresh_own o found true p q = q
 fresh_own o found false p q = p
 
-fresh_refused : (c : Sections) (union : Bool) (e : Given) (found : Option TypeFault) (o : OpenStructure) (kids : List Given) → IsFresh c union e found o
+fresh_refused : (c : Scope) (union : Bool) (e : Given) (found : Option TypeFault) (o : OpenStructure) (kids : List Given) → IsFresh c union e found o
     → structure_refused c o kids ≡ noted found (refused_by (member_refused c (has_fields (tagged 0x0d kids))) (tagged 0x0d kids) ++ too_many e.at (length (tagged 0x0d kids)))
 fresh_refused c union e found o kids h =
     refused_is c o kids ∙ rw (fresh_own o found (all_fields o kids) h.plain h.packed, h.members, h.fields, h.at, length-map (tagged 0x0d kids) (kept_of c)) refl
@@ -120,21 +121,21 @@ fresh_refused c union e found o kids h =
 begun : (found : Option TypeFault) (f n s r x : List TypeFault) → found ≡ noted (noted (noted (noted None f) n) s) r → noted found x ≡ noted None (f ++ (n ++ (s ++ (r ++ x))))
 begun found f n s r x e = rw e (simp noted_append)
 
-row_defined : (c : Sections) (union : Bool) (e : Given) (kids : List Given) → is_set (flag_asked 0x3c e) ≡ false
+row_defined : (c : Scope) (union : Bool) (e : Given) (kids : List Given) → is_set (flag_asked 0x3c e) ≡ false
     → ((structure_row c union e kids).made ≡ (defined_row c union e (tagged 0x0d kids)).made) × ((structure_row c union e kids).refused ≡ (flag_asked 0x3c e).refused ++ (defined_row c union e (tagged 0x0d kids)).refused)
 row_defined c union e kids h = (rw h refl, rw h refl)
 
-pub structure_comes : (c : Sections) (union : Bool) (e : Given) (declared found : Option TypeFault) (o : OpenStructure) → is_set (flag_asked 0x3c e) ≡ false → declared ≡ noted None (flag_asked 0x3c e).refused
-    → found ≡ noted (noted (noted declared (name_asked c e).refused) (constant_asked 0x0b e).refused) (size_refused e.at (constant_asked 0x0b e).said) → IsFresh c union e found o → ComesTo c (Structure o) (structure_row c union e)
+pub structure_comes : (c : Scope) (union : Bool) (e : Given) (declared found : Option TypeFault) (o : OpenStructure) → is_set (flag_asked 0x3c e) ≡ false → declared ≡ noted None (flag_asked 0x3c e).refused
+    → found ≡ noted (noted (noted declared (name_asked c.sections e).refused) (constant_asked 0x0b e).refused) (size_refused e.at (constant_asked 0x0b e).said) → IsFresh c union e found o → ComesTo c (Structure o) (structure_row c union e)
 structure_comes c union e declared found o defined d f h =
     record {
       made = λ kids. fresh_made c union e found o kids h ∙ sym (row_defined c union e kids defined).0;
       refused = λ kids.
           let x = refused_by (member_refused c (has_fields (tagged 0x0d kids))) (tagged 0x0d kids) ++ too_many e.at (length (tagged 0x0d kids)) in
           let s = constant_asked 0x0b e in
-          let all : found ≡ noted (noted (noted (noted None (flag_asked 0x3c e).refused) (name_asked c e).refused) (constant_asked 0x0b e).refused) (size_refused e.at (constant_asked 0x0b e).said) =
-          f ∙ ap (λ (y : Option TypeFault). noted (noted (noted y (name_asked c e).refused) (constant_asked 0x0b e).refused) (size_refused e.at (constant_asked 0x0b e).said)) d in
+          let all : found ≡ noted (noted (noted (noted None (flag_asked 0x3c e).refused) (name_asked c.sections e).refused) (constant_asked 0x0b e).refused) (size_refused e.at (constant_asked 0x0b e).said) =
+          f ∙ ap (λ (y : Option TypeFault). noted (noted (noted y (name_asked c.sections e).refused) (constant_asked 0x0b e).refused) (size_refused e.at (constant_asked 0x0b e).said)) d in
           fresh_refused c union e found o kids h
-          ∙ begun found (flag_asked 0x3c e).refused (name_asked c e).refused s.refused (size_refused e.at s.said) x all
+          ∙ begun found (flag_asked 0x3c e).refused (name_asked c.sections e).refused s.refused (size_refused e.at s.said) x all
           ∙ ap (λ (fs : List TypeFault). noted None fs) (sym (row_defined c union e kids defined).1);
     }

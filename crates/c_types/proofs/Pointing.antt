@@ -17,6 +17,7 @@ use Rattle.c_types.specs.declared.source.SourceType.{SourceType}
 use Rattle.c_types.specs.declared.source.Target.{Target}
 use Rattle.c_types.specs.declared.source.Target.TheVariants.{Entry}
 use Rattle.c_types.specs.declared.fault.TypeFault.{TypeFault}
+use Rattle.c_types.specs.Scopes.{Scope}
 use Rattle.c_types.specs.Faults.{joined}
 use Rattle.c_types.specs.Children.{children_of}
 use Rattle.c_types.specs.Parents.{parent_in}
@@ -130,12 +131,12 @@ joined_none : (x : Option TypeFault) → joined None x ≡ x
 joined_none None = refl
 joined_none (Some f) = refl
 
-pub last_filled : (c : Sections) (os : List Open) (p : LastPointer) (rest : List Given) (types : List SourceType) → children_of p.depth rest ≡ [] → IsComplete c types (Some p) → filled c os rest types ≡ filled c (with_last os (Some p)) rest types
+pub last_filled : (c : Scope) (os : List Open) (p : LastPointer) (rest : List Given) (types : List SourceType) → children_of p.depth rest ≡ [] → IsComplete c types (Some p) → filled c os rest types ≡ filled c (with_last os (Some p)) rest types
 last_filled c os p rest types none complete =
     ap (λ (ts : List SourceType). filled c os rest ts) (sym complete)
     ∙ ap (λ (ks : List Given). filled c os rest (slice_set types p.index (made_at c (opened_pointer p) ks))) (sym none) ∙ sym (filled_push c os (opened_pointer p) rest types)
 
-pub last_least : (c : Sections) (os : List Open) (p : LastPointer) (rest : List Given) (current : Option TypeFault) (later : List TypeFault) → least_of c os rest current later ≡ least_of c (with_last os (Some p)) rest current later
+pub last_least : (c : Scope) (os : List Open) (p : LastPointer) (rest : List Given) (current : Option TypeFault) (later : List TypeFault) → least_of c os rest current later ≡ least_of c (with_last os (Some p)) rest current later
 last_least c os p rest current later =
     let kids = children_of p.depth rest in
     let own : refused_at c (opened_pointer p) kids ≡ None = refused_is c (opened_pointer p) kids in
@@ -146,7 +147,7 @@ pub last_pointed : (os : List Open) (p : LastPointer) (d depth : ℕ) → depth 
 last_pointed os p d depth deep le = sym (pointed_pop os (opened_pointer p) d (omega (arith, deep, le)))
 
 -- a pointer becomes the last entry
-pub pointer_complete : (c : Sections) (types more : List SourceType) (p : LastPointer) (t : SourceType) → more ≡ types ++ t ∷ [] → p.index ≡ length types → made_at c (opened_pointer p) [] ≡ t → IsComplete c more (Some p)
+pub pointer_complete : (c : Scope) (types more : List SourceType) (p : LastPointer) (t : SourceType) → more ≡ types ++ t ∷ [] → p.index ≡ length types → made_at c (opened_pointer p) [] ≡ t → IsComplete c more (Some p)
 pointer_complete c types more p t is index made =
     let m = made_at c (opened_pointer p) [] in
     ap (λ (ts : List SourceType). slice_set ts p.index m) is ∙ ap (λ (i : ℕ). slice_set (types ++ t ∷ []) i m) index ∙ set-append_seam types t [] m ∙ ap (λ (u : SourceType). types ++ u ∷ []) made ∙ sym is
@@ -170,11 +171,11 @@ pub pointed_chain : (k d : ℕ) (a z x y : Option Target) → z ≡ (if k + 1 ==
 pointed_chain k d a z x y is le h = is ∙ chained (k + 1 == d) d k a x y refl le h
 
 -- what a pointer comes to
-pub pointer_comes : (c : Sections) (e : Given) (p : LastPointer) (kids : List Given) → p.at ≡ e.at → p.own ≡ own_target c e → made_at c (opened_pointer p) kids ≡ (pointer_row c e kids).made
-pointer_comes c e p kids at own = stack.made_is c (opened_pointer p) kids ∙ pointers.made_is c (record { at = p.at; kind = 2; name = []; own = p.own }) kids ∙ rw (at, own) refl
+pub pointer_comes : (c : Scope) (e : Given) (p : LastPointer) (kids : List Given) → p.at ≡ e.at → p.own ≡ own_target c.sections e → made_at c (opened_pointer p) kids ≡ (pointer_row c.sections e kids).made
+pointer_comes c e p kids at own = stack.made_is c (opened_pointer p) kids ∙ pointers.made_is c.sections (record { at = p.at; kind = 2; name = []; own = p.own }) kids ∙ rw (at, own) refl
 
-pub pointer_alone : (c : Sections) (p : LastPointer) → made_at c (opened_pointer p) [] ≡ pointer_by (record { at = p.at; kind = 2; name = []; own = p.own }) p.own
-pointer_alone c p = stack.made_is c (opened_pointer p) [] ∙ pointers.made_closed c (record { at = p.at; kind = 2; name = []; own = p.own })
+pub pointer_alone : (c : Scope) (p : LastPointer) → made_at c (opened_pointer p) [] ≡ pointer_by (record { at = p.at; kind = 2; name = []; own = p.own }) p.own
+pointer_alone c p = stack.made_is c (opened_pointer p) [] ∙ pointers.made_closed c.sections (record { at = p.at; kind = 2; name = []; own = p.own })
 
 pub placed_push : (os : List Open) (o : Open) (types more : List SourceType) (t : SourceType) → more ≡ types ++ t ∷ [] → o.index ≡ length types → ArePlaced (length types) os → ArePlaced (length more) (os ++ o ∷ [])
 placed_push os o types more t is index placed =
@@ -186,16 +187,16 @@ placed_push os o types more t is index placed =
 abbrev pub tag_row : Sections → ℕ → List ℕ → Target → List Given → Row
 tag_row c at name own kids = record { made = pointer_made c (record { at = at; kind = 18; name = name; own = own }) kids; refused = [] }
 
-pub tag_comes : (c : Sections) (at : ℕ) (name : List ℕ) (own : Target) → ComesTo c (Pointer (record { at = at; kind = 18; name = name; own = own })) (tag_row c at name own)
+pub tag_comes : (c : Scope) (at : ℕ) (name : List ℕ) (own : Target) → ComesTo c (Pointer (record { at = at; kind = 18; name = name; own = own })) (tag_row c.sections at name own)
 tag_comes c at name own = record { made = λ kids. refl; refused = λ kids. refl }
 
 -- a tag entry: what is kept of its pointer refers to it, and it is kept in its place
-module _ (c : Sections) (left : List Open) (o : Open) (q : OpenPointer) (e : Given) (n : List ℕ) (kept : o.kept ≡ Pointer q) (nested : AreNested (left ++ o ∷ [])) (lt : o.depth < e.depth) (tag : tag_in c (pointed_at (left ++ o ∷ []) e.depth) e ≡ Some n) where
+module _ (c : Scope) (left : List Open) (o : Open) (q : OpenPointer) (e : Given) (n : List ℕ) (kept : o.kept ≡ Pointer q) (nested : AreNested (left ++ o ∷ [])) (lt : o.depth < e.depth) (tag : tag_in c.sections (pointed_at (left ++ o ∷ []) e.depth) e ≡ Some n) where
   own : own_of o.kept ≡ Some q.own
   own = ap own_of kept
 
-  told : ((o.depth + 1 == e.depth) ≡ true) × (is_type_tag c e ≡ true) × (n ≡ name_in_full (tag_asked c e))
-  told = tag_told c e n q.own (o.depth + 1 == e.depth) (ap (λ (x : Option Target). tag_in c x e) (sym (pointed_last left o e.depth nested lt ∙ ap (λ (x : Option Target). if o.depth + 1 == e.depth then x else None) own)) ∙ tag)
+  told : ((o.depth + 1 == e.depth) ≡ true) × (is_type_tag c.sections e ≡ true) × (n ≡ name_in_full (tag_asked c.sections e))
+  told = tag_told c.sections e n q.own (o.depth + 1 == e.depth) (ap (λ (x : Option Target). tag_in c.sections x e) (sym (pointed_last left o e.depth nested lt ∙ ap (λ (x : Option Target). if o.depth + 1 == e.depth then x else None) own)) ∙ tag)
 
   one : o.depth + 1 ≡ e.depth
   one = eqb-true (o.depth + 1) e.depth told.0
@@ -210,26 +211,26 @@ module _ (c : Sections) (left : List Open) (o : Open) (q : OpenPointer) (e : Giv
   pub done : (es : List Given) → made_at c o (children_of o.depth (e ∷ es)) ≡ pointer_by q (Entry q.at e.at)
   done es =
       ap (λ (ks : List Given). made_at c o ks) (kids_child o.depth e es (omega (arith, one))) ∙ stack.made_is c o (e ∷ children_of o.depth es)
-      ∙ ap (λ (k : Kept). kept_made c k (e ∷ children_of o.depth es)) kept ∙ pointer_linked c e q (children_of o.depth es) told.1
+      ∙ ap (λ (k : Kept). kept_made c k (e ∷ children_of o.depth es)) kept ∙ pointer_linked c.sections e q (children_of o.depth es) told.1
 
   -- and the new one
-  new_made : (es : List Given) → (tag_row c e.at n q.own (children_of o.depth es)).made ∷ [] ≡ listed (tag_made c (pointed_at (left ++ o ∷ []) e.depth) e es)
+  new_made : (es : List Given) → (tag_row c.sections e.at n q.own (children_of o.depth es)).made ∷ [] ≡ listed (tag_made c.sections (pointed_at (left ++ o ∷ []) e.depth) e es)
   new_made es =
       let back : o.depth ≡ e.depth - 1 = omega (arith, one) in
-      let is : (tag_row c e.at n q.own (children_of o.depth es)).made ≡ tag_type c q.own e (children_of (e.depth - 1) es) =
-      pointers.made_is c (record { at = e.at; kind = 18; name = n; own = q.own }) (children_of o.depth es)
-      ∙ ap (λ (d : ℕ). pointer_by (record { at = e.at; kind = 18; name = n; own = q.own }) (link_to c e.at q.own (children_of d es))) back
-      ∙ ap (λ (m : List ℕ). pointer_by (record { at = e.at; kind = 18; name = m; own = q.own }) (link_to c e.at q.own (children_of (e.depth - 1) es))) told.2 in
-      ap (λ (t : SourceType). t ∷ []) is ∙ ap (λ (x : Option Target). listed (tag_made c x e es)) (sym pointed_own)
+      let is : (tag_row c.sections e.at n q.own (children_of o.depth es)).made ≡ tag_type c.sections q.own e (children_of (e.depth - 1) es) =
+      pointers.made_is c.sections (record { at = e.at; kind = 18; name = n; own = q.own }) (children_of o.depth es)
+      ∙ ap (λ (d : ℕ). pointer_by (record { at = e.at; kind = 18; name = n; own = q.own }) (link_to c.sections e.at q.own (children_of d es))) back
+      ∙ ap (λ (m : List ℕ). pointer_by (record { at = e.at; kind = 18; name = m; own = q.own }) (link_to c.sections e.at q.own (children_of (e.depth - 1) es))) told.2 in
+      ap (λ (t : SourceType). t ∷ []) is ∙ ap (λ (x : Option Target). listed (tag_made c.sections x e es)) (sym pointed_own)
 
   pub tag_filled : (es : List Given) (ps : List Open) (types more next : List SourceType) (made : SourceType) → made ≡ pointer_by q (Entry q.at e.at) → more ≡ slice_set types o.index made
-      → filled c ps es next ≡ filled c left es more ++ (tag_row c e.at n q.own (children_of o.depth es)).made ∷ []
-      → filled c ps es next ≡ filled c (left ++ o ∷ []) (e ∷ es) types ++ listed (tag_made c (pointed_at (left ++ o ∷ []) e.depth) e es)
+      → filled c ps es next ≡ filled c left es more ++ (tag_row c.sections e.at n q.own (children_of o.depth es)).made ∷ []
+      → filled c ps es next ≡ filled c (left ++ o ∷ []) (e ∷ es) types ++ listed (tag_made c.sections (pointed_at (left ++ o ∷ []) e.depth) e es)
   tag_filled es ps types more next made linked is begun =
       let old : filled c left es more ≡ filled c (left ++ o ∷ []) (e ∷ es) types =
       ap (λ (ts : List SourceType). filled c left es ts) (is ∙ ap (λ (t : SourceType). slice_set types o.index t) (linked ∙ sym (done es)))
       ∙ far_filled c left e es (slice_set types o.index (made_at c o (children_of o.depth (e ∷ es)))) far ∙ sym (filled_push c left o (e ∷ es) types) in
-      begun ∙ ap (λ (ts : List SourceType). ts ++ (tag_row c e.at n q.own (children_of o.depth es)).made ∷ []) old ∙ ap (λ (ts : List SourceType). filled c (left ++ o ∷ []) (e ∷ es) types ++ ts) (new_made es)
+      begun ∙ ap (λ (ts : List SourceType). ts ++ (tag_row c.sections e.at n q.own (children_of o.depth es)).made ∷ []) old ∙ ap (λ (ts : List SourceType). filled c (left ++ o ∷ []) (e ∷ es) types ++ ts) (new_made es)
 
   pub tag_least : (es : List Given) (ps : List Open) (current more next : Option TypeFault) (later : List TypeFault) → more ≡ joined o.before current → least_of c ps es next later ≡ least_of c left es more later
       → least_of c ps es next later ≡ least_of c (left ++ o ∷ []) (e ∷ es) current later

@@ -3,14 +3,15 @@ use Rattle.std.proofs.Common.{◌≡◌, ℕ, ◌<◌, ◌≤◌, ◌==◌, Bool
 use Rattle.std.proofs.lemmas.List.Elements.{All-nil, All-cons, All-head, All-tail, All-append}
 use Rattle.dwarf_abbrev.specs.Declarations.{Declaration}
 use Rattle.dwarf_forms.specs.Meanings.{Sections}
-use Rattle.entry_tree.specs.Contexts.{sections_of}
-use Rattle.entry_tree.specs.Items.{Given, Coming}
+use Rattle.entry_tree.specs.declared.fault.WalkFault.{WalkFault}
+use Rattle.entry_tree.specs.Items.{Given}
 use Rattle.entry_tree.specs.Rising.{Rises, StandIn}
 use Rattle.entry_tree.specs.Walks.{entries_of}
 use Rattle.entry_tree.proofs.Rising.{entries_placed}
 use Rattle.c_types.specs.declared.source.SourceType.{SourceType}
 use Rattle.c_types.specs.declared.source.Target.{Target}
 use Rattle.c_types.specs.declared.source.UnitTypes.{UnitTypes}
+use Rattle.c_types.specs.Scopes.{Scope, scope_of}
 use Rattle.c_types.specs.Faults.{least}
 use Rattle.c_types.specs.Children.{children_of}
 use Rattle.c_types.specs.Labels.{Row}
@@ -49,15 +50,15 @@ plain_stands c e =
     (if_tag e.at (e.tag == 0x3b) (unspecified_row c e) _ refl
     (if_tag e.at (e.tag == 0x47) (reference_row 8 atomic_name c e) None refl tt))))))
 
-row_stands : (c : Sections) (e : Given) (after : List Given) → StandsAt e.at (row_of c e after)
+row_stands : (c : Scope) (e : Given) (after : List Given) → StandsAt e.at (row_of c e after)
 row_stands c e after =
     let children = children_of e.depth after in
-    if_tag e.at (e.tag == 0x01) (array_row c e children) _ refl
-    (if_tag e.at (e.tag == 0x04) (enumeration_row c e children) _ (one_of e.at _ _ _ refl refl)
-    (if_tag e.at (e.tag == 0x0f) (pointer_row c e children) _ refl
+    if_tag e.at (e.tag == 0x01) (array_row c.sections e children) _ refl
+    (if_tag e.at (e.tag == 0x04) (enumeration_row c.sections e children) _ (one_of e.at _ _ _ refl refl)
+    (if_tag e.at (e.tag == 0x0f) (pointer_row c.sections e children) _ refl
     (if_tag e.at (e.tag == 0x13) (structure_row c false e children) _ (one_of e.at _ _ _ refl refl)
-    (if_tag e.at (e.tag == 0x15) (function_row c e children) _ refl
-    (if_tag e.at (e.tag == 0x17) (structure_row c true e children) (plain_row_of c e) (one_of e.at _ _ _ refl refl) (plain_stands c e))))))
+    (if_tag e.at (e.tag == 0x15) (function_row c.sections e children) _ refl
+    (if_tag e.at (e.tag == 0x17) (structure_row c true e children) (plain_row_of c.sections e) (one_of e.at _ _ _ refl refl) (plain_stands c.sections e))))))
 
 -- the type that an entry is, if it is one, stands at the entry
 abbrev pub TypeStandsAt : ℕ → Option SourceType → Type 0
@@ -75,18 +76,18 @@ either_stands : (at : ℕ) (t : Bool) (x y : Option SourceType) → TypeStandsAt
 either_stands at true x y h k = h
 either_stands at false x y h k = k
 
-pub made_stands : (c : Sections) (pointed : Option Target) (e : Given) (after : List Given) → TypeStandsAt e.at (made_of c pointed e after)
-made_stands c pointed e after = either_stands e.at (is_tag_entry c pointed e) (tag_made c pointed e after) (made_in (row_of c e after)) (tag_stands c pointed e after) (row_type_stands e.at (row_of c e after) (row_stands c e after))
+pub made_stands : (c : Scope) (pointed : Option Target) (e : Given) (after : List Given) → TypeStandsAt e.at (made_of c pointed e after)
+made_stands c pointed e after = either_stands e.at (is_tag_entry c.sections pointed e) (tag_made c.sections pointed e after) (made_in (row_of c e after)) (tag_stands c.sections pointed e after) (row_type_stands e.at (row_of c e after) (row_stands c e after))
 
 -- what holds of the places of all entries holds of those of the types
 one_stands : (P : ℕ → Type 0) (at : ℕ) (o : Option SourceType) → TypeStandsAt at o → P at → All (λ (t : SourceType). P t.at) (listed o)
 one_stands P at None h p = All-nil (λ (t : SourceType). P t.at)
 one_stands P at (Some s) h p = All-cons (λ (t : SourceType). P t.at) s [] (subst P (sym h) p) (All-nil (λ (t : SourceType). P t.at))
 
-all_stand : (P : ℕ → Type 0) (c : Sections) (earlier es : List Given) → All (λ (e : Given). P e.at) es → All (λ (t : SourceType). P t.at) (types_of c earlier es)
+all_stand : (P : ℕ → Type 0) (c : Scope) (earlier es : List Given) → All (λ (e : Given). P e.at) es → All (λ (t : SourceType). P t.at) (types_of c earlier es)
 all_stand P c earlier [] h = All-nil (λ (t : SourceType). P t.at)
 all_stand P c earlier (e ∷ es) h =
-    let pointed = pointed_in c earlier e.depth in
+    let pointed = pointed_in c.sections earlier e.depth in
     All-append (λ (t : SourceType). P t.at) (listed (made_of c pointed e es)) (types_of c (e ∷ earlier) es)
     (one_stands P e.at (made_of c pointed e es) (made_stands c pointed e es) (All-head (λ (g : Given). P g.at) e es h)) (all_stand P c (e ∷ earlier) es (All-tail (λ (g : Given). P g.at) e es h))
 
@@ -94,21 +95,21 @@ first_stands : (at : ℕ) (o : Option SourceType) (ts : List SourceType) → Typ
 first_stands at None ts h all rest = rest
 first_stands at (Some s) ts h all rest = (subst (λ (n : ℕ). All (λ (t : SourceType). n < t.at) ts) (sym h) all, rest)
 
-all_in_order : (c : Sections) (earlier es : List Given) → Rises es → AreInOrder (types_of c earlier es)
+all_in_order : (c : Scope) (earlier es : List Given) → Rises es → AreInOrder (types_of c earlier es)
 all_in_order c earlier [] h = tt
 all_in_order c earlier (e ∷ es) h =
-    let pointed = pointed_in c earlier e.depth in
+    let pointed = pointed_in c.sections earlier e.depth in
     first_stands e.at (made_of c pointed e es) (types_of c (e ∷ earlier) es) (made_stands c pointed e es) (all_stand (λ (n : ℕ). e.at < n) c (e ∷ earlier) es h.0) (all_in_order c (e ∷ earlier) es h.1)
 
-walk_rises : (c : Sections) (walk : Coming) (from end : ℕ) (t : UnitTypes) → Rises walk.entries → StandIn from end walk.entries → types_in c walk ≡ Ok t → AreInOrder t.types × LieIn from end t.types
-walk_rises c walk from end t rise stand e =
-    let u : UnitTypes = unit_types (some_tagged 0x01 walk.entries) (types_of c [] walk.entries) in
-    let a = accepted u t (least (refusals_of c [] walk.entries)) (walked walk.ending (or_least u (least (refusals_of c [] walk.entries))) t e) in
-    subst (λ (v : UnitTypes). AreInOrder v.types × LieIn from end v.types) a.1 (all_in_order c [] walk.entries rise, all_stand (λ (n : ℕ). (from ≤ n) × (n < end)) c [] walk.entries stand)
+walk_rises : (c : Scope) (ending : Option WalkFault) (from end : ℕ) (t : UnitTypes) → Rises c.entries → StandIn from end c.entries → types_in c ending ≡ Ok t → AreInOrder t.types × LieIn from end t.types
+walk_rises c ending from end t rise stand e =
+    let u : UnitTypes = unit_types (some_tagged 0x01 c.entries) (types_of c [] c.entries) in
+    let a = accepted u t (least (refusals_of c [] c.entries)) (walked ending (or_least u (least (refusals_of c [] c.entries))) t e) in
+    subst (λ (v : UnitTypes). AreInOrder v.types × LieIn from end v.types) a.1 (all_in_order c [] c.entries rise, all_stand (λ (n : ℕ). (from ≤ n) × (n < end)) c [] c.entries stand)
 
 pub types_in_order : TypesRise
 types_in_order file unit =
     in_unit file unit (λ (t : UnitTypes). AreInOrder t.types × LieIn unit.first unit.end t.types) (tt, All-nil (λ (t : SourceType). (unit.first ≤ t.at) × (t.at < unit.end)))
     (λ (declarations : List Declaration) (base : ℕ) (t : UnitTypes).
     let placed = entries_placed file unit declarations in
-    walk_rises (sections_of file unit base) (entries_of file unit declarations) unit.first unit.end t placed.0 placed.1)
+    walk_rises (scope_of file unit declarations base) (entries_of file unit declarations).ending unit.first unit.end t placed.0 placed.1)

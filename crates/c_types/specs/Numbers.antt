@@ -6,3 +6,7 @@ use Rattle.c_types.specs.declared.number.Number.TheVariants.{Natural, Negative}
 abbrev pub number_from : ℤ → Number
 number_from (pos n) = Natural n
 number_from (negsuc n) = Negative n
+
+abbrev pub integer : Number → ℤ
+integer (Natural n) = pos n
+integer (Negative n) = negsuc n

@@ -17,12 +17,14 @@ use Rattle.c_types.specs.declared.source.Target.{Target}
 use Rattle.c_types.specs.declared.source.Target.TheVariants.{Index}
 use Rattle.c_types.specs.declared.fault.TypeFault.{TypeFault}
 use Rattle.c_types.specs.declared.fault.TypeFault.TheVariants.{TooMany, ArrayLength}
+use Rattle.c_types.specs.Scopes.{Scope}
 use Rattle.c_types.specs.Faults.{noted, refuse_if}
 use Rattle.c_types.specs.Attributes.{has, name_asked, name_in_full, constant_asked}
 use Rattle.c_types.specs.Children.{tagged}
 use Rattle.c_types.specs.Labels.{Row, plain_label, is_empty}
 use Rattle.c_types.specs.Parts.{part_of, refused_by, some_is, some_tagged, most}
-use Rattle.c_types.specs.Structures.{or_zero, position_of, bits_in, near, member_target, member_refused, has_fields, structure_label}
+use Rattle.c_types.specs.Positions.{position_of}
+use Rattle.c_types.specs.Structures.{or_zero, bits_in, near, member_target, member_refused, has_fields, structure_label}
 use Rattle.c_types.specs.Functions.{parameter_part, parameter_target, parameter_refused, rest_part, rest_target, function_label}
 use Rattle.c_types.specs.Enumerations.{is_negative, enumerator_part, enumerator_refused, enumeration_label}
 use Rattle.c_types.specs.Arrays.{lengths_of, array_label}
@@ -34,18 +36,18 @@ abbrev pub too_many : ℕ → ℕ → List TypeFault
 too_many at count = refuse_if (nat_lt most count) (TooMany at count)
 
 -- what is kept of a member, and the part that it is once its structure is complete
-abbrev pub kept_of : Sections → Given → Member
-kept_of c m = record { name = name_in_full (name_asked c m); bits = bits_in (constant_asked 0x0d m).said; near = near false (or_zero (position_of m).said) }
+abbrev pub kept_of : Scope → Given → Member
+kept_of s m = record { name = name_in_full (name_asked s.sections m); bits = bits_in (constant_asked 0x0d m).said; near = near false (or_zero (position_of s m).said) }
 
 abbrev pub part_from : Bool → Member → Part
 part_from fields k = part_of k.name (if fields then k.bits * 2 ^ 24 + near true k.near else k.near)
 
 -- of an open structure: all members, their types, and whether one is a bit field
-abbrev pub all_members : Sections → OpenStructure → List Given → List Member
-all_members c o kids = o.members.items ++ map (kept_of c) (tagged 0x0d kids)
+abbrev pub all_members : Scope → OpenStructure → List Given → List Member
+all_members s o kids = o.members.items ++ map (kept_of s) (tagged 0x0d kids)
 
-abbrev pub all_targets : Sections → OpenStructure → List Given → List Target
-all_targets c o kids = o.targets.items ++ map (member_target c) (tagged 0x0d kids)
+abbrev pub all_targets : Scope → OpenStructure → List Given → List Target
+all_targets s o kids = o.targets.items ++ map (member_target s) (tagged 0x0d kids)
 
 abbrev pub all_fields : OpenStructure → List Given → Bool
 all_fields o kids = o.fields || has_fields (tagged 0x0d kids)
@@ -54,16 +56,16 @@ all_fields o kids = o.fields || has_fields (tagged 0x0d kids)
 abbrev pub structure_by : OpenStructure → Bool → List Member → List Target → SourceType
 structure_by o fields members targets = record { at = o.at; label = structure_label o.is_union o.name o.size fields (map (part_from fields) members); targets = targets }
 
-unfoldable pub structure_made : Sections → OpenStructure → List Given → SourceType
-structure_made c o kids = structure_by o (all_fields o kids) (all_members c o kids) (all_targets c o kids)
+unfoldable pub structure_made : Scope → OpenStructure → List Given → SourceType
+structure_made s o kids = structure_by o (all_fields o kids) (all_members s o kids) (all_targets s o kids)
 
 -- and the first refusal of its row
 abbrev pub own : OpenStructure → Bool → Option TypeFault
 own o fields = if fields then o.packed else o.plain
 
-unfoldable pub structure_refused : Sections → OpenStructure → List Given → Option TypeFault
-structure_refused c o kids =
-    noted (own o (all_fields o kids)) (refused_by (member_refused c (all_fields o kids)) (tagged 0x0d kids) ++ too_many o.at (length (all_members c o kids)))
+unfoldable pub structure_refused : Scope → OpenStructure → List Given → Option TypeFault
+structure_refused s o kids =
+    noted (own o (all_fields o kids)) (refused_by (member_refused s (all_fields o kids)) (tagged 0x0d kids) ++ too_many o.at (length (all_members s o kids)))
 
 -- of an open subroutine type: the parameters, their types behind that of the result, and whether more may follow
 abbrev pub all_parameters : Sections → OpenFunction → List Given → List Part
@@ -136,32 +138,32 @@ unfoldable pub pointer_made : Sections → OpenPointer → List Given → Source
 pointer_made c o kids = pointer_by o (link_to c o.at o.own kids)
 
 -- of what is kept of any open type
-abbrev pub kept_made : Sections → Kept → List Given → SourceType
-kept_made c (Structure o) kids = structure_made c o kids
-kept_made c (Function o) kids = function_made c o kids
-kept_made c (Enumeration o) kids = enumeration_made c o kids
-kept_made c (Array o) kids = array_made o kids
-kept_made c (Pointer o) kids = pointer_made c o kids
+abbrev pub kept_made : Scope → Kept → List Given → SourceType
+kept_made s (Structure o) kids = structure_made s o kids
+kept_made s (Function o) kids = function_made s.sections o kids
+kept_made s (Enumeration o) kids = enumeration_made s.sections o kids
+kept_made s (Array o) kids = array_made o kids
+kept_made s (Pointer o) kids = pointer_made s.sections o kids
 
-abbrev pub kept_refused : Sections → Kept → List Given → Option TypeFault
-kept_refused c (Structure o) kids = structure_refused c o kids
-kept_refused c (Function o) kids = function_refused c o kids
-kept_refused c (Enumeration o) kids = enumeration_refused c o kids
-kept_refused c (Array o) kids = array_refused o kids
-kept_refused c (Pointer o) kids = None
+abbrev pub kept_refused : Scope → Kept → List Given → Option TypeFault
+kept_refused s (Structure o) kids = structure_refused s o kids
+kept_refused s (Function o) kids = function_refused s.sections o kids
+kept_refused s (Enumeration o) kids = enumeration_refused s.sections o kids
+kept_refused s (Array o) kids = array_refused o kids
+kept_refused s (Pointer o) kids = None
 
 -- it comes to a row, whichever children come
-pub record ComesTo (c : Sections) (k : Kept) (row : List Given → Row) : Type 0 where
-  pub made : (kids : List Given) → kept_made c k kids ≡ (row kids).made
-  pub refused : (kids : List Given) → kept_refused c k kids ≡ noted None (row kids).refused
+pub record ComesTo (s : Scope) (k : Kept) (row : List Given → Row) : Type 0 where
+  pub made : (kids : List Given) → kept_made s k kids ≡ (row kids).made
+  pub refused : (kids : List Given) → kept_refused s k kids ≡ noted None (row kids).refused
 
 -- before and after a child was met
-pub record GathersMember (c : Sections) (e : Given) (old new : OpenStructure) : Type 0 where
-  pub members : new.members.items ≡ old.members.items ++ made_if 0x0d (kept_of c) e
-  pub targets : new.targets.items ≡ old.targets.items ++ made_if 0x0d (member_target c) e
+pub record GathersMember (s : Scope) (e : Given) (old new : OpenStructure) : Type 0 where
+  pub members : new.members.items ≡ old.members.items ++ made_if 0x0d (kept_of s) e
+  pub targets : new.targets.items ≡ old.targets.items ++ made_if 0x0d (member_target s) e
   pub fields : new.fields ≡ (old.fields || (e.tag == 0x0d && has 0x0d e))
-  pub plain : new.plain ≡ noted old.plain (refused_if 0x0d (member_refused c false) e)
-  pub packed : new.packed ≡ noted old.packed (refused_if 0x0d (member_refused c true) e)
+  pub plain : new.plain ≡ noted old.plain (refused_if 0x0d (member_refused s false) e)
+  pub packed : new.packed ≡ noted old.packed (refused_if 0x0d (member_refused s true) e)
   pub at : new.at ≡ old.at
   pub is_union : new.is_union ≡ old.is_union
   pub name : new.name ≡ old.name

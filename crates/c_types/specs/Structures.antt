@@ -2,45 +2,20 @@
 use Rattle.std.specs.Prelude.{ℕ, ℤ, ◌+◌, ◌*◌, ◌^◌, nat_lt, nat_le, ◌&&◌, not, Bool, false, List, [], ◌∷◌, ◌++◌, length, map, Option, None, Some, if◌then◌else◌}
 use Rattle.c_model.specs.declared.label.Label.{Label}
 use Rattle.c_model.specs.declared.label.Part.{Part}
-use Rattle.dwarf_forms.specs.Meanings.{Sections}
 use Rattle.entry_tree.specs.Items.{Given}
 use Rattle.c_types.specs.declared.source.Target.{Target}
 use Rattle.c_types.specs.declared.number.Number.{Number}
 use Rattle.c_types.specs.declared.number.Number.TheVariants.{Natural, Negative}
 use Rattle.c_types.specs.declared.fault.TypeFault.{TypeFault}
 use Rattle.c_types.specs.declared.fault.TypeFault.TheVariants.{MissingType, UnnamedForward, MemberPlace, BitSize, MemberFar, TooMany}
+use Rattle.c_types.specs.Scopes.{Scope}
 use Rattle.c_types.specs.Faults.{refuse_if}
 use Rattle.c_types.specs.Numbers.{number_from}
+use Rattle.c_types.specs.Positions.{position_of}
 use Rattle.c_types.specs.Attributes.{Asked, has, name_asked, name_in_full, constant_asked, number_said, flag_asked, is_set, target_asked, target_of_type, offset_asked}
 use Rattle.c_types.specs.Children.{tagged}
 use Rattle.c_types.specs.Labels.{Row, type_of, is_empty, size_in, size_refused}
 use Rattle.c_types.specs.Parts.{part_of, refused_by, some_is, most}
-
--- a place in bits: a natural number of units of so many bits
-abbrev pub placed : ℕ → ℕ → Number → Asked ℕ
-placed at scale (Natural n) = record { said = Some (scale * n); refused = [] }
-placed at scale (Negative n) = record { said = None; refused = MemberPlace at ∷ [] }
-
-abbrev pub placed_by_bits : ℕ → Option Number → Asked ℕ
-placed_by_bits at None = record { said = None; refused = [] }
-placed_by_bits at (Some n) = placed at 1 n
-
--- a place that is computed at run time is refused; one that is not given is 0
-abbrev pub placed_by_bytes : ℕ → Bool → Option (Option ℤ) → Asked ℕ
-placed_by_bytes at given None = record { said = if given then None else Some 0; refused = [] }
-placed_by_bytes at given (Some None) = record { said = None; refused = MemberPlace at ∷ [] }
-placed_by_bytes at given (Some (Some z)) = placed at 8 (number_from z)
-
--- with refusals that came before
-abbrev pub after : List TypeFault → Asked ℕ → Asked ℕ
-after refused a = record { said = a.said; refused = refused ++ a.refused }
-
--- the bit position of a member: its data_bit_offset (0x6b), if it has one, else 8 times its data_member_location (0x38)
-abbrev pub position_of : Given → Asked ℕ
-position_of m =
-    if has 0x6b m
-    then after (constant_asked 0x6b m).refused (placed_by_bits m.at (number_said (constant_asked 0x6b m)))
-    else after (offset_asked 0x38 m).refused (placed_by_bytes m.at (has 0x38 m) (offset_asked 0x38 m).said)
 
 abbrev pub or_zero : Option ℕ → ℕ
 or_zero None = 0
@@ -73,29 +48,29 @@ near fields position = if nat_lt position (limit fields) then position else 0
 abbrev pub word_of : Bool → ℕ → ℕ → ℕ
 word_of fields position bits = if fields then bits * 2 ^ 24 + near fields position else near fields position
 
-abbrev pub member_word : Bool → Given → ℕ
-member_word fields m = word_of fields (or_zero (position_of m).said) (bits_in (constant_asked 0x0d m).said)
+abbrev pub member_word : Scope → Bool → Given → ℕ
+member_word s fields m = word_of fields (or_zero (position_of s m).said) (bits_in (constant_asked 0x0d m).said)
 
-abbrev pub member_part : Sections → Bool → Given → Part
-member_part c fields m = part_of (name_in_full (name_asked c m)) (member_word fields m)
+abbrev pub member_part : Scope → Bool → Given → Part
+member_part s fields m = part_of (name_in_full (name_asked s.sections m)) (member_word s fields m)
 
-abbrev pub member_target : Sections → Given → Target
-member_target c m = target_of_type m.at (target_asked c m)
+abbrev pub member_target : Scope → Given → Target
+member_target s m = target_of_type m.at (target_asked s.sections m)
 
 abbrev pub far_refused : ℕ → Bool → ℕ → List TypeFault
 far_refused at fields position = refuse_if (not (nat_lt position (limit fields))) (MemberFar at position)
 
 -- a member has a place that is fixed, a bit size in range, if it has one, and a position that fits its word
-abbrev pub place_refused : Bool → Given → List TypeFault
-place_refused fields m =
-    (position_of m).refused
+abbrev pub place_refused : Scope → Bool → Given → List TypeFault
+place_refused s fields m =
+    (position_of s m).refused
     ++ ((constant_asked 0x0d m).refused
-    ++ (bits_refused m.at (constant_asked 0x0d m).said ++ far_refused m.at fields (or_zero (position_of m).said)))
+    ++ (bits_refused m.at (constant_asked 0x0d m).said ++ far_refused m.at fields (or_zero (position_of s m).said)))
 
 -- and a type
-abbrev pub member_refused : Sections → Bool → Given → List TypeFault
-member_refused c fields m =
-    (name_asked c m).refused ++ ((target_asked c m).refused ++ (refuse_if (not (has 0x49 m)) (MissingType m.at) ++ place_refused fields m))
+abbrev pub member_refused : Scope → Bool → Given → List TypeFault
+member_refused s fields m =
+    (name_asked s.sections m).refused ++ ((target_asked s.sections m).refused ++ (refuse_if (not (has 0x49 m)) (MissingType m.at) ++ place_refused s fields m))
 
 -- some member is a bit field
 abbrev pub has_fields : List Given → Bool
@@ -108,28 +83,28 @@ abbrev pub structure_label : Bool → List ℕ → ℕ → Bool → List Part �
 structure_label union name size fields parts = record { kind = if union then 5 else 4; name = name; flag = fields; size = size; extra = 0; parts = parts }
 
 -- a declared one has a name, and neither its size nor its members are read
-abbrev pub forward_row : Sections → Bool → Given → Row
-forward_row c union e =
-    let name = name_asked c e in
+abbrev pub forward_row : Scope → Bool → Given → Row
+forward_row s union e =
+    let name = name_asked s.sections e in
     record {
       made = type_of e (forward_label union (name_in_full name)) [];
       refused = name.refused ++ refuse_if (is_empty (name_in_full name)) (UnnamedForward e.at);
     }
 
-abbrev pub defined_row : Sections → Bool → Given → List Given → Row
-defined_row c union e members =
-    let name = name_asked c e in
+abbrev pub defined_row : Scope → Bool → Given → List Given → Row
+defined_row s union e members =
+    let name = name_asked s.sections e in
     let size = constant_asked 0x0b e in
     let fields = has_fields members in
     record {
-      made = type_of e (structure_label union (name_in_full name) (size_in size.said) fields (map (member_part c fields) members)) (map (member_target c) members);
-      refused = name.refused ++ (size.refused ++ (size_refused e.at size.said ++ (refused_by (member_refused c fields) members ++ refuse_if (nat_lt most (length members)) (TooMany e.at (length members)))));
+      made = type_of e (structure_label union (name_in_full name) (size_in size.said) fields (map (member_part s fields) members)) (map (member_target s) members);
+      refused = name.refused ++ (size.refused ++ (size_refused e.at size.said ++ (refused_by (member_refused s fields) members ++ refuse_if (nat_lt most (length members)) (TooMany e.at (length members)))));
     }
 
 -- the refusal of a declaration (0x3c) of the wrong class comes besides; such a one is not declared
 abbrev pub with_refused : List TypeFault → Row → Row
 with_refused refused r = record { made = r.made; refused = refused ++ r.refused }
 
-abbrev pub structure_row : Sections → Bool → Given → List Given → Row
-structure_row c union e children =
-    with_refused (flag_asked 0x3c e).refused (if is_set (flag_asked 0x3c e) then forward_row c union e else defined_row c union e (tagged 0x0d children))
+abbrev pub structure_row : Scope → Bool → Given → List Given → Row
+structure_row s union e children =
+    with_refused (flag_asked 0x3c e).refused (if is_set (flag_asked 0x3c e) then forward_row s union e else defined_row s union e (tagged 0x0d children))

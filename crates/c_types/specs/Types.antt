@@ -8,8 +8,8 @@ use Rattle.dwarf_abbrev.specs.Table.{table_at}
 use Rattle.dwarf_abbrev.specs.declared.fault.AbbrevFault.{AbbrevFault}
 use Rattle.dwarf_abbrev.specs.declared.fault.AbbrevFault.TheVariants.{Memory as AbbrevMemory}
 use Rattle.dwarf_forms.specs.Meanings.{Sections}
-use Rattle.entry_tree.specs.Items.{Given, Coming}
-use Rattle.entry_tree.specs.Contexts.{within_of, sections_of}
+use Rattle.entry_tree.specs.Items.{Given}
+use Rattle.entry_tree.specs.Contexts.{within_of}
 use Rattle.entry_tree.specs.Roots.{root_of}
 use Rattle.entry_tree.specs.Walks.{entries_of}
 use Rattle.entry_tree.specs.declared.unit.Unit.{Unit}
@@ -20,6 +20,7 @@ use Rattle.c_types.specs.declared.source.Target.{Target}
 use Rattle.c_types.specs.declared.source.UnitTypes.{UnitTypes}
 use Rattle.c_types.specs.declared.fault.TypeFault.{TypeFault}
 use Rattle.c_types.specs.declared.fault.TypeFault.TheVariants.{Abbrev, Walk, Memory}
+use Rattle.c_types.specs.Scopes.{Scope, scope_of}
 use Rattle.c_types.specs.Faults.{least}
 use Rattle.c_types.specs.Children.{children_of}
 use Rattle.c_types.specs.Labels.{Row}
@@ -45,15 +46,15 @@ plain_row_of c e =
     else None
 
 -- and those whose rows do: arrays, enumerations, pointers, structures, subroutine types and unions
-abbrev pub row_of : Sections → Given → List Given → Option Row
-row_of c e after =
-    if e.tag == 0x01 then Some (array_row c e (children_of e.depth after))
-    else if e.tag == 0x04 then Some (enumeration_row c e (children_of e.depth after))
-    else if e.tag == 0x0f then Some (pointer_row c e (children_of e.depth after))
-    else if e.tag == 0x13 then Some (structure_row c false e (children_of e.depth after))
-    else if e.tag == 0x15 then Some (function_row c e (children_of e.depth after))
-    else if e.tag == 0x17 then Some (structure_row c true e (children_of e.depth after))
-    else plain_row_of c e
+abbrev pub row_of : Scope → Given → List Given → Option Row
+row_of s e after =
+    if e.tag == 0x01 then Some (array_row s.sections e (children_of e.depth after))
+    else if e.tag == 0x04 then Some (enumeration_row s.sections e (children_of e.depth after))
+    else if e.tag == 0x0f then Some (pointer_row s.sections e (children_of e.depth after))
+    else if e.tag == 0x13 then Some (structure_row s false e (children_of e.depth after))
+    else if e.tag == 0x15 then Some (function_row s.sections e (children_of e.depth after))
+    else if e.tag == 0x17 then Some (structure_row s true e (children_of e.depth after))
+    else plain_row_of s.sections e
 
 -- the type and the refusals of a row, where there is one
 abbrev pub made_in : Option Row → Option SourceType
@@ -68,20 +69,20 @@ refused_in None = []
 refused_in (Some r) = r.refused
 
 -- the type that an entry is, given what its parent points to where that is a pointer, and its refusals
-abbrev pub made_of : Sections → Option Target → Given → List Given → Option SourceType
-made_of c pointed e after = if is_tag_entry c pointed e then tag_made c pointed e after else made_in (row_of c e after)
+abbrev pub made_of : Scope → Option Target → Given → List Given → Option SourceType
+made_of s pointed e after = if is_tag_entry s.sections pointed e then tag_made s.sections pointed e after else made_in (row_of s e after)
 
-abbrev pub refused_of : Sections → Option Target → Given → List Given → List TypeFault
-refused_of c pointed e after = annotation_refused c pointed e ++ refused_in (row_of c e after)
+abbrev pub refused_of : Scope → Option Target → Given → List Given → List TypeFault
+refused_of s pointed e after = annotation_refused s.sections pointed e ++ refused_in (row_of s e after)
 
 -- the types of some entries, in order, and all their refusals; those before them come last one first
-abbrev pub types_of : Sections → List Given → List Given → List SourceType
-types_of c earlier [] = []
-types_of c earlier (e ∷ es) = listed (made_of c (pointed_in c earlier e.depth) e es) ++ types_of c (e ∷ earlier) es
+abbrev pub types_of : Scope → List Given → List Given → List SourceType
+types_of s earlier [] = []
+types_of s earlier (e ∷ es) = listed (made_of s (pointed_in s.sections earlier e.depth) e es) ++ types_of s (e ∷ earlier) es
 
-abbrev pub refusals_of : Sections → List Given → List Given → List TypeFault
-refusals_of c earlier [] = []
-refusals_of c earlier (e ∷ es) = refused_of c (pointed_in c earlier e.depth) e es ++ refusals_of c (e ∷ earlier) es
+abbrev pub refusals_of : Scope → List Given → List Given → List TypeFault
+refusals_of s earlier [] = []
+refusals_of s earlier (e ∷ es) = refused_of s (pointed_in s.sections earlier e.depth) e es ++ refusals_of s (e ∷ earlier) es
 
 -- the types where nothing is refused, else the first refusal by place, number and what is kept
 abbrev pub or_least : UnitTypes → Option TypeFault → Result UnitTypes TypeFault
@@ -95,9 +96,9 @@ or_walk (Some f) r = Err (Walk f)
 abbrev pub unit_types : Bool → List SourceType → UnitTypes
 unit_types has_array types = record { read = true; has_array = has_array; types = types }
 
--- of a walk: its own fault comes before all refusals of types
-abbrev pub types_in : Sections → Coming → Result UnitTypes TypeFault
-types_in c walk = or_walk walk.ending (or_least (unit_types (some_tagged 0x01 walk.entries) (types_of c [] walk.entries)) (least (refusals_of c [] walk.entries)))
+-- of a walk over all entries: its own fault comes before all refusals of types
+abbrev pub types_in : Scope → Option WalkFault → Result UnitTypes TypeFault
+types_in s ending = or_walk ending (or_least (unit_types (some_tagged 0x01 s.entries) (types_of s [] s.entries)) (least (refusals_of s [] s.entries)))
 
 -- the languages (section 7.12) whose units are passed over: C++, Go, C++03, C++11, Rust, C++14 and the assembler of MIPS
 abbrev pub is_other_language : ℕ → Bool
@@ -118,7 +119,7 @@ of_abbrev other = Abbrev other
 
 abbrev pub after_root : List ℕ → Unit → List Declaration → Result RootInfo WalkFault → Result UnitTypes TypeFault
 after_root file unit declarations (Err f) = Err (Walk f)
-after_root file unit declarations (Ok root) = if is_passed_over root.language then Ok no_types else types_in (sections_of file unit root.str_base) (entries_of file unit declarations)
+after_root file unit declarations (Ok root) = if is_passed_over root.language then Ok no_types else types_in (scope_of file unit declarations root.str_base) (entries_of file unit declarations).ending
 
 abbrev pub after_table : List ℕ → Unit → Result (List Declaration) AbbrevFault → Result UnitTypes TypeFault
 after_table file unit (Err f) = Err (Abbrev f)

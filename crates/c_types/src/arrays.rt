@@ -3,6 +3,7 @@ ghost use Rattle.std.specs.Prelude.{◌≡◌, ◌*◌, ◌^◌, [], ◌∷◌, 
 ghost use Rattle.dwarf_forms.specs.Meanings.{sections};
 ghost use Rattle.entry_tree.specs.Reads.{value_with};
 ghost use Rattle.entry_tree.specs.Walks.{given_entry};
+ghost use Rattle.c_types.specs.Scopes.{scope};
 ghost use Rattle.c_types.specs.Taking.{made_if};
 ghost use Rattle.c_types.specs.Arrays.{bound_in, length_of_count, length_of_bound, subrange_length, array_row};
 ghost use Rattle.c_types.specs.Lengths.{extended, is_too_long, elements_from};
@@ -13,10 +14,11 @@ use crate::attributes::{TYPE, attribute, is_given, type_target};
 use crate::fault::{TypeFault, note_if};
 use crate::number::{Number, by_sign};
 use crate::open::{Complete, OpenArray};
+use crate::scope::UnitCtx;
 use crate::source::{SourceType, Target, Targets};
 use c_model::{Label, Parts};
 use dw_base::Name;
-use dwarf_forms::{FormCtx, constant_of};
+use dwarf_forms::constant_of;
 use entry_tree::Entry;
 use std::alloc::{AllocError, Global};
 
@@ -204,11 +206,11 @@ pub(crate) fn complete_array<'a>(
 
 /// An array begins.
 #[tactic(auto, using(crate::proofs::Noting::noted_append))]
-pub(crate) fn open_array(ctx: &FormCtx<'_>, entry: &Entry<'_, '_>) -> OpenArray
-    ensures { ComesTo (sections ctx.now) (Array result) (array_row (sections ctx.now) (given_entry entry.now)) }
+pub(crate) fn open_array(ctx: &UnitCtx<'_, '_>, entry: &Entry<'_, '_>) -> OpenArray
+    ensures { ComesTo (scope ctx.now) (Array result) (array_row (sections ctx.now.form) (given_entry entry.now)) }
 {
     let mut found = None;
-    let target = type_target(ctx, entry, &mut found);
+    let target = type_target(&ctx.form, entry, &mut found);
     note_if(
         &mut found,
         !is_given(entry, TYPE),

@@ -135,6 +135,19 @@ pub(crate) fn type_target(
     }
 }
 
+/// The offset in `.debug_info` of the type that an entry refers to, where it refers to one.
+pub(crate) fn target_said(ctx: &FormCtx<'_>, entry: &Entry<'_, '_>) -> Option<u128>
+    ensures { result ≡ (target_asked (sections ctx.now) (given_entry entry.now)).said }
+{
+    match attribute(entry, TYPE) {
+        None => None,
+        Some(given) => match target_of(ctx, TYPE, &given) {
+            Ok(to) => Some(to),
+            Err(_) => None,
+        },
+    }
+}
+
 /// What the offset of a member says: a number of bytes, or `None` where it is computed at run time.
 pub(crate) fn offset(
     entry: &Entry<'_, '_>,

@@ -3,6 +3,7 @@ ghost use Rattle.std.specs.Prelude.{◌≡◌, ◌++◌, [], ◌∷◌, ◌||◌
 ghost use Rattle.dwarf_forms.specs.Values.{IsContext};
 ghost use Rattle.dwarf_forms.specs.Meanings.{Sections, sections, Fits64};
 ghost use Rattle.entry_tree.specs.Walks.{given_entry};
+ghost use Rattle.c_types.specs.Scopes.{scope};
 ghost use Rattle.c_types.specs.Faults.{noted};
 ghost use Rattle.c_types.specs.Labels.{is_empty};
 ghost use Rattle.c_types.specs.Attributes.{name_asked, name_in_full, flag_asked, is_set};
@@ -16,6 +17,7 @@ use crate::fault::{TypeFault, join, note, note_if};
 use crate::labels::{MOST, given_size, is_unnamed, no_targets};
 use crate::number::{Number, by_sign};
 use crate::open::{Complete, OpenEnumeration};
+use crate::scope::UnitCtx;
 use crate::source::SourceType;
 use c_model::{Label, Part, Parts};
 use dw_base::Name;
@@ -260,17 +262,17 @@ pub(crate) fn complete_enumeration<'a>(alloc: Global, whole: OpenEnumeration<'a>
 #[tactic(auto, using(crate::proofs::Noting::noted_append))]
 pub(crate) fn open_enumeration<'a>(
     alloc: Global,
-    ctx: &FormCtx<'a>,
+    ctx: &UnitCtx<'_, 'a>,
     entry: &Entry<'_, 'a>,
     declared: Option<TypeFault>,
 ) -> OpenEnumeration<'a>
-    requires context { IsContext ctx.now }
+    requires context { IsContext ctx.now.form }
     requires defined { is_set (flag_asked 0x3c (given_entry entry.now)) ≡ false }
     requires declared { declared ≡ noted None (flag_asked 0x3c (given_entry entry.now)).refused }
-    ensures { ComesTo (sections ctx.now) (Enumeration result) (enumeration_row (sections ctx.now) (given_entry entry.now)) }
+    ensures { ComesTo (scope ctx.now) (Enumeration result) (enumeration_row (sections ctx.now.form) (given_entry entry.now)) }
 {
     let mut bare = declared;
-    let name = name(ctx, entry, &mut bare);
+    let name = name(&ctx.form, entry, &mut bare);
     let mut found = bare;
     let size = constant(entry, BYTE_SIZE, &mut found);
     note_enum_size(&mut found, entry.at, size);

@@ -3,6 +3,7 @@ ghost use Rattle.std.specs.Prelude.{◌≡◌, ◌++◌, [], ◌∷◌, ◌||◌
 ghost use Rattle.dwarf_forms.specs.Values.{IsContext};
 ghost use Rattle.dwarf_forms.specs.Meanings.{Sections, sections};
 ghost use Rattle.entry_tree.specs.Walks.{given_entry};
+ghost use Rattle.c_types.specs.Scopes.{scope};
 ghost use Rattle.c_types.specs.Faults.{noted};
 ghost use Rattle.c_types.specs.Functions.{parameter_part, parameter_target, parameter_refused, rest_part, rest_target, function_row};
 ghost use Rattle.c_types.specs.Opened.{function_made, function_refused, ComesTo, GathersParameter};
@@ -12,6 +13,7 @@ use crate::attributes::{TYPE, is_given, name, type_target};
 use crate::fault::{TypeFault, note_if};
 use crate::labels::MOST;
 use crate::open::{Complete, OpenFunction};
+use crate::scope::UnitCtx;
 use crate::source::{SourceType, Target, Targets};
 use c_model::{Label, Part, Parts};
 use dw_base::Name;
@@ -122,14 +124,14 @@ pub(crate) fn complete_function<'a>(whole: OpenFunction<'a>) -> Result<Complete<
 /// A subroutine type begins.
 pub fn open_function<'a>(
     alloc: Global,
-    ctx: &FormCtx<'a>,
+    ctx: &UnitCtx<'_, 'a>,
     entry: &Entry<'_, 'a>,
 ) -> Result<OpenFunction<'a>, AllocError>
-    requires { IsContext ctx.now }
-    ensures { IfOk result (λ o. ComesTo (sections ctx.now) (Function o) (function_row (sections ctx.now) (given_entry entry.now))) }
+    requires { IsContext ctx.now.form }
+    ensures { IfOk result (λ o. ComesTo (scope ctx.now) (Function o) (function_row (sections ctx.now.form) (given_entry entry.now))) }
 {
     let mut found = None;
-    let target = type_target(ctx, entry, &mut found);
+    let target = type_target(&ctx.form, entry, &mut found);
     let mut targets = Vec::new(alloc);
     targets.push(target)?;
     Ok(OpenFunction {

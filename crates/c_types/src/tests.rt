@@ -1,4 +1,5 @@
 //! Units in bytes, and their types.
+mod bit_offsets;
 mod compiled;
 mod large;
 mod refusals;

@@ -4,17 +4,18 @@ use Rattle.std.specs.Prelude.{All}
 use Rattle.std.proofs.lemmas.Bool.{ltb-true, leb-true}
 use Rattle.std.proofs.lemmas.List.{length-map}
 use Rattle.c_model.specs.Kinds.{PartRow}
-use Rattle.dwarf_forms.specs.Meanings.{Sections}
 use Rattle.entry_tree.specs.Items.{Given}
 use Rattle.c_types.specs.declared.number.Number.{Number}
 use Rattle.c_types.specs.declared.number.Number.TheVariants.{Natural, Negative}
 use Rattle.c_types.specs.declared.fault.TypeFault.{TypeFault}
+use Rattle.c_types.specs.Scopes.{Scope}
 use Rattle.c_types.specs.Numbers.{number_from}
 use Rattle.c_types.specs.Attributes.{name_asked, name_in_full, constant_asked, flag_asked, is_set}
 use Rattle.c_types.specs.Children.{tagged}
 use Rattle.c_types.specs.Labels.{Row, size_in, size_refused}
 use Rattle.c_types.specs.Parts.{refused_by}
-use Rattle.c_types.specs.Structures.{position_of, or_zero, bits_of, bits_in, near, word_of, member_word, member_part, member_target, member_refused, has_fields, forward_row, defined_row, with_refused, structure_row}
+use Rattle.c_types.specs.Positions.{position_of}
+use Rattle.c_types.specs.Structures.{or_zero, bits_of, bits_in, near, word_of, member_word, member_part, member_target, member_refused, has_fields, forward_row, defined_row, with_refused, structure_row}
 use Rattle.c_types.proofs.Formed.Refused.{second_empty}
 use Rattle.c_types.proofs.Formed.Names.{IsNamedCleanly, name_clean}
 use Rattle.c_types.proofs.Formed.Children.{tagged_all}
@@ -42,21 +43,21 @@ word_small : (fields : Bool) (position bits : ℕ) → bits ≤ 255 → word_of 
 word_small true position bits le = let h : near true position < 2 ^ 24 = near_if position (2 ^ 24) (nat_lt position (2 ^ 24)) (omega arith) refl in omega arith
 word_small false position bits le = near_if position (2 ^ 32) (nat_lt position (2 ^ 32)) (omega arith) refl
 
-member_small : (fields : Bool) (m : Given) → member_word fields m < 2 ^ 32
-member_small fields m = word_small fields (or_zero (position_of m).said) (bits_in (constant_asked 0x0d m).said) (few_bits (constant_asked 0x0d m).said)
+member_small : (c : Scope) (fields : Bool) (m : Given) → member_word c fields m < 2 ^ 32
+member_small c fields m = word_small fields (or_zero (position_of c m).said) (bits_in (constant_asked 0x0d m).said) (few_bits (constant_asked 0x0d m).said)
 
-forward_row_formed : (c : Sections) (union : Bool) (e : Given) → IsNamedCleanly e → IsFormedRow (forward_row c union e)
-forward_row_formed c union e clean none = forward_formed union (name_in_full (name_asked c e)) (name_clean c e clean)
+forward_row_formed : (c : Scope) (union : Bool) (e : Given) → IsNamedCleanly e → IsFormedRow (forward_row c union e)
+forward_row_formed c union e clean none = forward_formed union (name_in_full (name_asked c.sections e)) (name_clean c.sections e clean)
 
-defined_row_formed : (c : Sections) (union : Bool) (e : Given) (members : List Given) → IsNamedCleanly e → All IsNamedCleanly members → IsFormedRow (defined_row c union e members)
+defined_row_formed : (c : Scope) (union : Bool) (e : Given) (members : List Given) → IsNamedCleanly e → All IsNamedCleanly members → IsFormedRow (defined_row c union e members)
 defined_row_formed c union e members clean all none =
     let fields = has_fields members in
     let size = constant_asked 0x0b e in
     let row : PartRow = record { named = true; refers = true; value = 2 ^ 32 } in
-    let few : length members ≤ 65535 = few_parts e.at (length members) (second_empty (refused_by (member_refused c fields) members) _ (second_empty (size_refused e.at size.said) _ (second_empty size.refused _ (second_empty (name_asked c e).refused _ none)))) in
-    structure_formed union (name_in_full (name_asked c e)) (size_in size.said) fields (map (member_part c fields) members) (length (map (member_target c) members)) (name_clean c e clean) (size_fits size.said)
+    let few : length members ≤ 65535 = few_parts e.at (length members) (second_empty (refused_by (member_refused c fields) members) _ (second_empty (size_refused e.at size.said) _ (second_empty size.refused _ (second_empty (name_asked c.sections e).refused _ none)))) in
+    structure_formed union (name_in_full (name_asked c.sections e)) (size_in size.said) fields (map (member_part c fields) members) (length (map (member_target c) members)) (name_clean c.sections e clean) (size_fits size.said)
     (omega (arith, length-map members (member_target c), length-map members (member_part c fields))) (omega (arith, length-map members (member_part c fields)))
-    (parts_fit row (member_part c fields) members (λ (m : Given) (h : IsNamedCleanly m). named_part true (2 ^ 32) (name_in_full (name_asked c m)) (member_word fields m) (name_clean c m h) (member_small fields m)) all)
+    (parts_fit row (member_part c fields) members (λ (m : Given) (h : IsNamedCleanly m). named_part true (2 ^ 32) (name_in_full (name_asked c.sections m)) (member_word c fields m) (name_clean c.sections m h) (member_small c fields m)) all)
 
 -- one row or another, and one with more refusals
 pub if_row : (a : Bool) (r s : Row) → IsFormedRow r → IsFormedRow s → IsFormedRow (if a then r else s)
@@ -66,7 +67,7 @@ if_row false r s h k = k
 pub more_refused : (fs : List TypeFault) (r : Row) → IsFormedRow r → IsFormedRow (with_refused fs r)
 more_refused fs r h none = h (second_empty fs r.refused none)
 
-pub structure_row_formed : (c : Sections) (union : Bool) (e : Given) (children : List Given) → IsNamedCleanly e → All IsNamedCleanly children → IsFormedRow (structure_row c union e children)
+pub structure_row_formed : (c : Scope) (union : Bool) (e : Given) (children : List Given) → IsNamedCleanly e → All IsNamedCleanly children → IsFormedRow (structure_row c union e children)
 structure_row_formed c union e children clean all =
     more_refused (flag_asked 0x3c e).refused (if is_set (flag_asked 0x3c e) then forward_row c union e else defined_row c union e (tagged 0x0d children))
     (if_row (is_set (flag_asked 0x3c e)) (forward_row c union e) (defined_row c union e (tagged 0x0d children)) (forward_row_formed c union e clean)

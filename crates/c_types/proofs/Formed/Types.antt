@@ -3,10 +3,12 @@ use Rattle.std.proofs.Common.{◌≡◌, ◌-◌, ◌==◌, Bool, true, false, L
 use Rattle.std.specs.Prelude.{All}
 use Rattle.std.proofs.lemmas.List.Elements.{All-nil, All-cons, All-head, All-tail, All-append}
 use Rattle.dwarf_forms.specs.Meanings.{Sections}
-use Rattle.entry_tree.specs.Items.{Given, Coming}
+use Rattle.entry_tree.specs.Items.{Given}
+use Rattle.entry_tree.specs.declared.fault.WalkFault.{WalkFault}
 use Rattle.c_types.specs.declared.source.SourceType.{SourceType}
 use Rattle.c_types.specs.declared.source.Target.{Target}
 use Rattle.c_types.specs.declared.source.UnitTypes.{UnitTypes}
+use Rattle.c_types.specs.Scopes.{Scope}
 use Rattle.c_types.specs.Faults.{least}
 use Rattle.c_types.specs.Children.{children_of}
 use Rattle.c_types.specs.Labels.{Row}
@@ -27,16 +29,16 @@ use Rattle.c_types.proofs.Formed.Functions.{function_row_formed}
 use Rattle.c_types.proofs.Formed.Structures.{structure_row_formed}
 use Rattle.c_types.proofs.Formed.Enumerations.{enumeration_row_formed}
 
-row_formed : (c : Sections) (e : Given) (after : List Given) → IsNamedCleanly e → All IsNamedCleanly after → IsFormedIn (row_of c e after)
+row_formed : (c : Scope) (e : Given) (after : List Given) → IsNamedCleanly e → All IsNamedCleanly after → IsFormedIn (row_of c e after)
 row_formed c e after clean all =
     let children = children_of e.depth after in
     let within = children_all IsNamedCleanly e.depth after all in
-    either_row (e.tag == 0x01) (array_row c e children) _ (array_row_formed c e children)
-    (either_row (e.tag == 0x04) (enumeration_row c e children) _ (enumeration_row_formed c e children clean within)
-    (either_row (e.tag == 0x0f) (pointer_row c e children) _ (pointer_row_formed c e children)
+    either_row (e.tag == 0x01) (array_row c.sections e children) _ (array_row_formed c.sections e children)
+    (either_row (e.tag == 0x04) (enumeration_row c.sections e children) _ (enumeration_row_formed c.sections e children clean within)
+    (either_row (e.tag == 0x0f) (pointer_row c.sections e children) _ (pointer_row_formed c.sections e children)
     (either_row (e.tag == 0x13) (structure_row c false e children) _ (structure_row_formed c false e children clean within)
-    (either_row (e.tag == 0x15) (function_row c e children) _ (function_row_formed c e children within)
-    (either_row (e.tag == 0x17) (structure_row c true e children) (plain_row_of c e) (structure_row_formed c true e children clean within) (plain_formed c e clean))))))
+    (either_row (e.tag == 0x15) (function_row c.sections e children) _ (function_row_formed c.sections e children within)
+    (either_row (e.tag == 0x17) (structure_row c true e children) (plain_row_of c.sections e) (structure_row_formed c true e children clean within) (plain_formed c.sections e clean))))))
 
 -- the types of a list are formed
 abbrev Formed : SourceType → Type 0
@@ -54,20 +56,20 @@ either_formed : (t : Bool) (x y : Option SourceType) → AreFormed (listed x) �
 either_formed true x y h k = h
 either_formed false x y h k = k
 
-list_formed : (c : Sections) (earlier es : List Given) → All IsNamedCleanly es → refusals_of c earlier es ≡ [] → AreFormed (types_of c earlier es)
+list_formed : (c : Scope) (earlier es : List Given) → All IsNamedCleanly es → refusals_of c earlier es ≡ [] → AreFormed (types_of c earlier es)
 list_formed c earlier [] clean none = All-nil Formed
 list_formed c earlier (e ∷ es) clean none =
-    let pointed = pointed_in c earlier e.depth in
+    let pointed = pointed_in c.sections earlier e.depth in
     let here = All-head IsNamedCleanly e es clean in
     let later = All-tail IsNamedCleanly e es clean in
     let mine : refused_of c pointed e es ≡ [] = first_empty (refused_of c pointed e es) (refusals_of c (e ∷ earlier) es) none in
     All-append Formed (listed (made_of c pointed e es)) (types_of c (e ∷ earlier) es)
-    (either_formed (is_tag_entry c pointed e) (tag_made c pointed e es) (made_in (row_of c e es)) (tag_made_formed c pointed e es here)
-    (one_formed (row_of c e es) (row_formed c e es here later) (second_empty (annotation_refused c pointed e) (refused_in (row_of c e es)) mine)))
+    (either_formed (is_tag_entry c.sections pointed e) (tag_made c.sections pointed e es) (made_in (row_of c e es)) (tag_made_formed c.sections pointed e es here)
+    (one_formed (row_of c e es) (row_formed c e es here later) (second_empty (annotation_refused c.sections pointed e) (refused_in (row_of c e es)) mine)))
     (list_formed c (e ∷ earlier) es later (second_empty (refused_of c pointed e es) (refusals_of c (e ∷ earlier) es) none))
 
-pub types_in_formed : (c : Sections) (walk : Coming) (t : UnitTypes) → All IsNamedCleanly walk.entries → types_in c walk ≡ Ok t → AreFormed t.types
-types_in_formed c walk t clean e =
-    let u : UnitTypes = unit_types (some_tagged 0x01 walk.entries) (types_of c [] walk.entries) in
-    let a = accepted u t (least (refusals_of c [] walk.entries)) (walked walk.ending (or_least u (least (refusals_of c [] walk.entries))) t e) in
-    subst (λ (v : UnitTypes). AreFormed v.types) a.1 (list_formed c [] walk.entries clean (least_none (refusals_of c [] walk.entries) a.0))
+pub types_in_formed : (c : Scope) (ending : Option WalkFault) (t : UnitTypes) → All IsNamedCleanly c.entries → types_in c ending ≡ Ok t → AreFormed t.types
+types_in_formed c ending t clean e =
+    let u : UnitTypes = unit_types (some_tagged 0x01 c.entries) (types_of c [] c.entries) in
+    let a = accepted u t (least (refusals_of c [] c.entries)) (walked ending (or_least u (least (refusals_of c [] c.entries))) t e) in
+    subst (λ (v : UnitTypes). AreFormed v.types) a.1 (list_formed c [] c.entries clean (least_none (refusals_of c [] c.entries) a.0))

@@ -3,11 +3,12 @@ use Rattle.std.proofs.Common.{ℕ, ◌+◌, List, length}
 use Rattle.std.specs.Prelude.{All}
 use Rattle.std.proofs.lemmas.List.Elements.{All-nil, All-weaker}
 use Rattle.dwarf_abbrev.specs.Declarations.{Declaration}
-use Rattle.entry_tree.specs.Contexts.{within_of, sections_of}
+use Rattle.entry_tree.specs.Contexts.{within_of}
 use Rattle.entry_tree.specs.Walks.{entries_of}
 use Rattle.entry_tree.specs.declared.unit.Unit.{Unit}
 use Rattle.c_types.specs.declared.source.SourceType.{SourceType}
 use Rattle.c_types.specs.declared.source.UnitTypes.{UnitTypes}
+use Rattle.c_types.specs.Scopes.{scope_of}
 use Rattle.c_types.specs.Formed.{IsFormed, AreFormed}
 use Rattle.c_types.specs.Laws.{TypesAreFormed}
 use Rattle.c_types.proofs.Accepted.{in_unit}
@@ -22,4 +23,4 @@ entries_clean file unit declarations =
 pub types_formed : TypesAreFormed
 types_formed file unit =
     in_unit file unit (λ (t : UnitTypes). AreFormed t.types) (All-nil (λ (s : SourceType). IsFormed s.label (length s.targets)))
-    (λ (declarations : List Declaration) (base : ℕ) (t : UnitTypes). types_in_formed (sections_of file unit base) (entries_of file unit declarations) t (entries_clean file unit declarations))
+    (λ (declarations : List Declaration) (base : ℕ) (t : UnitTypes). types_in_formed (scope_of file unit declarations base) (entries_of file unit declarations).ending t (entries_clean file unit declarations))

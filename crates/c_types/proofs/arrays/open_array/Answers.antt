@@ -1,13 +1,13 @@
 use Rattle.std.proofs.Common.{◌∙◌, refl}
-use Rattle.dwarf_forms.specs.Meanings.{sections}
 use Rattle.entry_tree.specs.Walks.{given_entry}
+use Rattle.c_types.specs.Scopes.{scope}
 use Rattle.c_types.proofs.Noting.{noted_append}
 use Rattle.c_types.proofs.OpenArrays.{array_comes}
 use Rattle.c_types.proofs.arrays.open_array.Goals as goal
 
 pub returns : goal.returns
 returns c =
-    array_comes (sections c.args.ctx.now) (given_entry c.args.entry.now) _
+    array_comes (scope c.args.ctx.now) (given_entry c.args.entry.now) _
     (record {
       at = refl;
       target = c.type_target-target.ensures.said;

@@ -1,6 +1,6 @@
 use Rattle.std.proofs.Common.{◌≡◌, ◌∙◌, ℤ, Option, refl, ap}
-use Rattle.dwarf_forms.specs.Meanings.{sections}
 use Rattle.entry_tree.specs.Walks.{given_entry}
+use Rattle.c_types.specs.Scopes.{scope}
 use Rattle.c_types.specs.Labels.{size_in}
 use Rattle.c_types.specs.Attributes.{constant_asked}
 use Rattle.c_types.proofs.OpenEnumerations.{enumeration_comes}
@@ -9,7 +9,7 @@ use Rattle.c_types.proofs.enumerations.open_enumeration.Goals as goal
 pub returns : goal.returns
 returns c =
     let size : c.given_size-size.result ≡ size_in (constant_asked 0x0b (given_entry c.args.entry.now)).said = c.given_size-size.ensures ∙ ap (λ (o : Option ℤ). size_in o) c.constant-size.ensures.said in
-    enumeration_comes (sections c.args.ctx.now) (given_entry c.args.entry.now) _
+    enumeration_comes (scope c.args.ctx.now) (given_entry c.args.entry.now) _
     (record {
       at = refl;
       name = c.name-name.ensures.said;

@@ -1,13 +1,13 @@
 use Rattle.std.proofs.Common.{◌∷◌, ◌++◌, [], ◌∙◌, List, refl, ap}
-use Rattle.dwarf_forms.specs.Meanings.{sections}
 use Rattle.entry_tree.specs.Walks.{given_entry}
+use Rattle.c_types.specs.Scopes.{scope}
 use Rattle.c_types.specs.declared.source.Target.{Target}
 use Rattle.c_types.proofs.OpenFunctions.{function_comes}
 use Rattle.c_types.proofs.functions.open_function.Goals as goal
 
 pub returns : goal.returns
 returns c =
-    function_comes (sections c.args.ctx.now) (given_entry c.args.entry.now) _
+    function_comes (scope c.args.ctx.now) (given_entry c.args.entry.now) _
     (record {
       at = refl;
       parts = c.new.ensures.items;

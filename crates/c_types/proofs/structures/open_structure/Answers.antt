@@ -1,13 +1,13 @@
 use Rattle.std.proofs.Common.{◌∙◌, ℤ, Option, refl, ap}
-use Rattle.dwarf_forms.specs.Meanings.{sections}
 use Rattle.entry_tree.specs.Walks.{given_entry}
+use Rattle.c_types.specs.Scopes.{scope}
 use Rattle.c_types.specs.Labels.{size_in}
 use Rattle.c_types.proofs.OpenStructures.{structure_comes}
 use Rattle.c_types.proofs.structures.open_structure.Goals as goal
 
 pub returns : goal.returns
 returns c =
-    structure_comes (sections c.args.ctx.now) c.args.is_union (given_entry c.args.entry.now) c.args.declared c.note_size.new.least _ c.requires.defined c.requires.declared
+    structure_comes (scope c.args.ctx.now) c.args.is_union (given_entry c.args.entry.now) c.args.declared c.note_size.new.least _ c.requires.defined c.requires.declared
     (c.note_size.ensures ∙ rw (c.constant-size.ensures.said, c.constant-size.ensures.noted, c.name-name.ensures.noted) refl)
     (record {
       members = c.new.ensures.items;

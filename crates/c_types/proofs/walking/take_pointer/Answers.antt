@@ -1,6 +1,6 @@
 use Rattle.std.proofs.Common.{◌≡◌, ◌+◌, ◌==◌, ◌∙◌, ℕ, List, length, Some, if◌then◌else◌, refl, sym, ap, rules}
-use Rattle.dwarf_forms.specs.Meanings.{sections}
 use Rattle.entry_tree.specs.Walks.{given_entry}
+use Rattle.c_types.specs.Scopes.{scope}
 use Rattle.c_types.specs.declared.open.LastPointer.{LastPointer}
 use Rattle.c_types.specs.declared.source.Target.{Target}
 use Rattle.c_types.specs.Attributes.{target_asked}
@@ -16,18 +16,18 @@ pub returns-clause-types : goal.returns-clause-types
 returns-clause-types c = λ es.
     let p : LastPointer = record { depth = c.args.entry.now.depth; index = c.len-index.result; at = c.args.entry.now.at; own = c.type_target-own.result } in
     let index : c.len-index.result ≡ length c.args.reading.now.types.items = search rules in
-    let s = sections c.args.ctx.now in
+    let s = scope c.args.ctx.now in
     let e = given_entry c.args.entry.now in
     let kids = children_of c.args.entry.now.depth es in
-    begun_filled s c.args.reading.now.opens.items (opened_pointer p) es c.args.reading.now.types.items c.push.new.self.items _ (pointer_row s e kids).made c.requires.placed index c.in_ok-push.ensures.items
+    begun_filled s c.args.reading.now.opens.items (opened_pointer p) es c.args.reading.now.types.items c.push.new.self.items _ (pointer_row s.sections e kids).made c.requires.placed index c.in_ok-push.ensures.items
     (pointer_comes s e p kids refl c.type_target-own.ensures.said)
 
 pub returns-clause-least : goal.returns-clause-least
 returns-clause-least c = λ es later.
     let p : LastPointer = record { depth = c.args.entry.now.depth; index = c.len-index.result; at = c.args.entry.now.at; own = c.type_target-own.result } in
-    let s = sections c.args.ctx.now in
+    let s = scope c.args.ctx.now in
     sym (last_least s c.args.reading.now.opens.items p es c.type_target-own.new.least later)
-    ∙ taken_least s c.args.reading.now.opens.items es c.args.reading.now.current c.type_target-own.new.least (target_asked s (given_entry c.args.entry.now)).refused later c.type_target-own.ensures.noted
+    ∙ taken_least s c.args.reading.now.opens.items es c.args.reading.now.current c.type_target-own.new.least (target_asked s.sections (given_entry c.args.entry.now)).refused later c.type_target-own.ensures.noted
 
 pub returns-clause-nested : goal.returns-clause-nested
 returns-clause-nested c =

@@ -19,14 +19,14 @@ returns-in_default-kept_pointer-clause-types c = λ s es tag.
     let items = c.in-Some.ensures.items in
     let lt = (All-pop (λ (o : Open). o.depth < c.args.entry.now.depth) c.args.reading.now.opens.items c.pop.new.self.items (Some c.in-Some.last) items c.requires.above).1 in
     let none = ap (λ (os : List Open). pointed_at os c.args.entry.now.depth) items ∙ stands_out c.pop.new.self.items c.in-Some.last c.args.entry.now.depth (subst AreNested items c.requires.nested) lt (unkept c.in-Some.last.kept c.kept_pointer.result c.kept_pointer.ensures c.in_default-kept_pointer.not-Some) in
-    absurd (tag_untold s (given_entry c.args.entry.now) c.args.tag (pointed_at c.args.reading.now.opens.items c.args.entry.now.depth) none tag)
+    absurd (tag_untold s.sections (given_entry c.args.entry.now) c.args.tag (pointed_at c.args.reading.now.opens.items c.args.entry.now.depth) none tag)
 
 pub returns-in_default-kept_pointer-clause-least : goal.returns-in_default-kept_pointer-clause-least
 returns-in_default-kept_pointer-clause-least c = λ s es later tag.
     let items = c.in-Some.ensures.items in
     let lt = (All-pop (λ (o : Open). o.depth < c.args.entry.now.depth) c.args.reading.now.opens.items c.pop.new.self.items (Some c.in-Some.last) items c.requires.above).1 in
     let none = ap (λ (os : List Open). pointed_at os c.args.entry.now.depth) items ∙ stands_out c.pop.new.self.items c.in-Some.last c.args.entry.now.depth (subst AreNested items c.requires.nested) lt (unkept c.in-Some.last.kept c.kept_pointer.result c.kept_pointer.ensures c.in_default-kept_pointer.not-Some) in
-    absurd (tag_untold s (given_entry c.args.entry.now) c.args.tag (pointed_at c.args.reading.now.opens.items c.args.entry.now.depth) none tag)
+    absurd (tag_untold s.sections (given_entry c.args.entry.now) c.args.tag (pointed_at c.args.reading.now.opens.items c.args.entry.now.depth) none tag)
 
 pub returns-in_default-kept_pointer-clause-nested : goal.returns-in_default-kept_pointer-clause-nested
 returns-in_default-kept_pointer-clause-nested c = (nested_pop c.pop.new.self.items c.in-Some.last (subst AreNested c.in-Some.ensures.items c.requires.nested)).0
@@ -39,7 +39,7 @@ returns-in_default-kept_pointer-clause-pointed c = λ s d tag.
     let items = c.in-Some.ensures.items in
     let lt = (All-pop (λ (o : Open). o.depth < c.args.entry.now.depth) c.args.reading.now.opens.items c.pop.new.self.items (Some c.in-Some.last) items c.requires.above).1 in
     let none = ap (λ (os : List Open). pointed_at os c.args.entry.now.depth) items ∙ stands_out c.pop.new.self.items c.in-Some.last c.args.entry.now.depth (subst AreNested items c.requires.nested) lt (unkept c.in-Some.last.kept c.kept_pointer.result c.kept_pointer.ensures c.in_default-kept_pointer.not-Some) in
-    absurd (tag_untold s (given_entry c.args.entry.now) c.args.tag (pointed_at c.args.reading.now.opens.items c.args.entry.now.depth) none tag)
+    absurd (tag_untold s.sections (given_entry c.args.entry.now) c.args.tag (pointed_at c.args.reading.now.opens.items c.args.entry.now.depth) none tag)
 
 -- it is one
 pub begin-requires-clause-nested : goal.begin-requires-clause-nested
@@ -60,11 +60,11 @@ returns-clause-types c = λ s es tag.
     let q = c.in-Some-kept_pointer.pointer in
     let lt = (All-pop (λ (o : Open). o.depth < c.args.entry.now.depth) c.args.reading.now.opens.items c.pop.new.self.items (Some c.in-Some.last) items c.requires.above).1 in
     tag_filled s c.pop.new.self.items c.in-Some.last q e c.args.tag (is_pointer c.in-Some.last.kept q (sym c.in-Some-kept_pointer.ensures)) (subst AreNested items c.requires.nested) lt
-    (ap (λ (os : List Open). tag_in s (pointed_at os c.args.entry.now.depth) (given_entry c.args.entry.now)) (sym items) ∙ tag)
+    (ap (λ (os : List Open). tag_in s.sections (pointed_at os c.args.entry.now.depth) (given_entry c.args.entry.now)) (sym items) ∙ tag)
     es c.begin.new.reading.opens.items c.args.reading.now.types.items (slice_set c.args.reading.now.types.items c.in-Some.last.index c.in_ok-made.made) c.begin.new.reading.types.items c.in_ok-made.made
     (c.in_ok-made.ensures ∙ ap (λ (to : ℕ). pointer_by c.in-Some-kept_pointer.pointer (Entry c.in-Some-kept_pointer.pointer.at to)) c.from.ensures) refl
-    (c.in_ok-begin.ensures.types s (tag_row s c.args.entry.now.at c.args.tag q.own) es (tag_comes s c.args.entry.now.at c.args.tag q.own))
-    ∙ ap (λ (os : List Open). filled s os (given_entry c.args.entry.now ∷ es) c.args.reading.now.types.items ++ listed (tag_made s (pointed_at os c.args.entry.now.depth) (given_entry c.args.entry.now) es)) (sym items)
+    (c.in_ok-begin.ensures.types s (tag_row s.sections c.args.entry.now.at c.args.tag q.own) es (tag_comes s c.args.entry.now.at c.args.tag q.own))
+    ∙ ap (λ (os : List Open). filled s os (given_entry c.args.entry.now ∷ es) c.args.reading.now.types.items ++ listed (tag_made s.sections (pointed_at os c.args.entry.now.depth) (given_entry c.args.entry.now) es)) (sym items)
 
 pub returns-clause-least : goal.returns-clause-least
 returns-clause-least c = λ s es later tag.
@@ -73,9 +73,9 @@ returns-clause-least c = λ s es later tag.
     let q = c.in-Some-kept_pointer.pointer in
     let lt = (All-pop (λ (o : Open). o.depth < c.args.entry.now.depth) c.args.reading.now.opens.items c.pop.new.self.items (Some c.in-Some.last) items c.requires.above).1 in
     tag_least s c.pop.new.self.items c.in-Some.last q e c.args.tag (is_pointer c.in-Some.last.kept q (sym c.in-Some-kept_pointer.ensures)) (subst AreNested items c.requires.nested) lt
-    (ap (λ (os : List Open). tag_in s (pointed_at os c.args.entry.now.depth) (given_entry c.args.entry.now)) (sym items) ∙ tag)
+    (ap (λ (os : List Open). tag_in s.sections (pointed_at os c.args.entry.now.depth) (given_entry c.args.entry.now)) (sym items) ∙ tag)
     es c.begin.new.reading.opens.items c.args.reading.now.current c.join-reading.result c.begin.new.reading.current later c.join-reading.ensures
-    (c.in_ok-begin.ensures.least s (tag_row s c.args.entry.now.at c.args.tag q.own) es later (tag_comes s c.args.entry.now.at c.args.tag q.own))
+    (c.in_ok-begin.ensures.least s (tag_row s.sections c.args.entry.now.at c.args.tag q.own) es later (tag_comes s c.args.entry.now.at c.args.tag q.own))
     ∙ ap (λ (os : List Open). least_of s os (given_entry c.args.entry.now ∷ es) c.args.reading.now.current later) (sym items)
 
 pub returns-clause-pointed : goal.returns-clause-pointed
@@ -85,6 +85,6 @@ returns-clause-pointed c = λ s d tag.
     let q = c.in-Some-kept_pointer.pointer in
     let lt = (All-pop (λ (o : Open). o.depth < c.args.entry.now.depth) c.args.reading.now.opens.items c.pop.new.self.items (Some c.in-Some.last) items c.requires.above).1 in
     tag_pointed s c.pop.new.self.items c.in-Some.last q e c.args.tag (is_pointer c.in-Some.last.kept q (sym c.in-Some-kept_pointer.ensures)) (subst AreNested items c.requires.nested) lt
-    (ap (λ (os : List Open). tag_in s (pointed_at os c.args.entry.now.depth) (given_entry c.args.entry.now)) (sym items) ∙ tag)
+    (ap (λ (os : List Open). tag_in s.sections (pointed_at os c.args.entry.now.depth) (given_entry c.args.entry.now)) (sym items) ∙ tag)
     d (pointed_at c.begin.new.reading.opens.items d) (subst (AreAbove c.args.entry.now.depth) items c.requires.above) (c.in_ok-begin.ensures.pointed d)
     ∙ ap (λ (os : List Open). if c.args.entry.now.depth + 1 == d then None else pointed_at os d) (sym items)

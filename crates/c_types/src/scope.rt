@@ -1,0 +1,17 @@
+//! What the types of a unit are read in.
+use crate::extents::Extents;
+use dwarf_forms::FormCtx;
+use entry_tree::Walk;
+
+/// What the types of a unit are read in.
+#[derive(Drop)]
+pub struct UnitCtx<'w, 'a> {
+    /// What its names and references are read in.
+    pub form: FormCtx<'a>,
+    /// The version of DWARF in its header.
+    pub version: u16,
+    /// A walk at its first entry.
+    pub start: Walk<'w, 'a>,
+    /// What its entries say of their extents, once the place of a member was found by it.
+    pub extents: Option<Extents>,
+}
