@@ -61,7 +61,7 @@ row_stands c e after =
     (if_tag e.at (e.tag == 0x17) (structure_row c true e children) (plain_row_of c.sections e) (one_of e.at _ _ _ refl refl) (plain_stands c.sections e))))))
 
 -- the type that an entry is, if it is one, stands at the entry
-abbrev TypeStandsAt : ℕ → Option SourceType → Type 0
+abbrev pub TypeStandsAt : ℕ → Option SourceType → Type 0
 TypeStandsAt at o = IfSome o (λ (t : SourceType). t.at ≡ at)
 
 row_type_stands : (at : ℕ) (o : Option Row) → StandsAt at o → TypeStandsAt at (made_in o)
@@ -76,7 +76,7 @@ either_stands : (at : ℕ) (t : Bool) (x y : Option SourceType) → TypeStandsAt
 either_stands at true x y h k = h
 either_stands at false x y h k = k
 
-made_stands : (c : Scope) (pointed : Option Target) (e : Given) (after : List Given) → TypeStandsAt e.at (made_of c pointed e after)
+pub made_stands : (c : Scope) (pointed : Option Target) (e : Given) (after : List Given) → TypeStandsAt e.at (made_of c pointed e after)
 made_stands c pointed e after = either_stands e.at (is_tag_entry c.sections pointed e) (tag_made c.sections pointed e after) (made_in (row_of c e after)) (tag_stands c.sections pointed e after) (row_type_stands e.at (row_of c e after) (row_stands c e after))
 
 -- what holds of the places of all entries holds of those of the types

@@ -62,7 +62,7 @@ pub(crate) fn constant(
 }
 
 /// Whether a flag is given and true.
-pub(crate) fn flag(entry: &Entry<'_, '_>, name: u64, least: &mut Option<TypeFault>) -> bool
+pub fn flag(entry: &Entry<'_, '_>, name: u64, least: &mut Option<TypeFault>) -> bool
     ensures said { result ≡ is_set (flag_asked name (given_entry entry.now)) }
     ensures noted { least.new ≡ noted least.old (flag_asked name (given_entry entry.now)).refused }
 {
@@ -102,7 +102,7 @@ pub(crate) fn text<'a>(
 }
 
 /// The name of an entry; the empty one where it has none.
-pub(crate) fn name<'a>(
+pub fn name<'a>(
     ctx: &FormCtx<'a>,
     entry: &Entry<'_, 'a>,
     least: &mut Option<TypeFault>,

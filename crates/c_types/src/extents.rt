@@ -39,7 +39,7 @@ pub(crate) struct ExtentRow {
 
 /// What the entries of a unit say, those that say something, in the order of their offsets.
 #[derive(Drop)]
-pub(crate) struct Extents {
+pub struct Extents {
     pub(crate) rows: Vec<ExtentRow>,
 }
 

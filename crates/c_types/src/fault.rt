@@ -190,7 +190,7 @@ pub(crate) fn note_if(least: &mut Option<TypeFault>, refused: bool, fault: TypeF
 }
 
 /// The first of two refusals, the left one where neither comes first.
-pub(crate) fn join(a: Option<TypeFault>, b: Option<TypeFault>) -> Option<TypeFault>
+pub fn join(a: Option<TypeFault>, b: Option<TypeFault>) -> Option<TypeFault>
     ensures { result ≡ joined a b }
 {
     match b {

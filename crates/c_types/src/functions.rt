@@ -122,7 +122,7 @@ pub(crate) fn complete_function<'a>(whole: OpenFunction<'a>) -> Result<Complete<
 }
 
 /// A subroutine type begins.
-pub(crate) fn open_function<'a>(
+pub fn open_function<'a>(
     alloc: Global,
     ctx: &UnitCtx<'_, 'a>,
     entry: &Entry<'_, 'a>,

@@ -45,7 +45,7 @@ pub(crate) fn no_targets(alloc: Global) -> Targets
 }
 
 /// Whether a name is missing.
-pub(crate) fn is_unnamed(name: &Name<'_>) -> bool
+pub fn is_unnamed(name: &Name<'_>) -> bool
     ensures { result ≡ is_empty name.now }
 {
     name.bytes().is_empty()

@@ -70,7 +70,7 @@ pub(crate) fn kept_pointer(kept: Kept<'_>) -> Option<OpenPointer<'_>>
 }
 
 /// Whether a name is that of type tags.
-fn is_of_type_tags(name: &Name<'_>) -> bool
+pub fn is_of_type_tags(name: &Name<'_>) -> bool
     ensures { result ≡ bytes_eq name.now (codes "btf_type_tag") }
 {
     name.bytes() == b"btf_type_tag".as_slice()

@@ -5,13 +5,13 @@ use entry_tree::Walk;
 
 /// What the types of a unit are read in.
 #[derive(Drop)]
-pub(crate) struct UnitCtx<'w, 'a> {
+pub struct UnitCtx<'w, 'a> {
     /// What its names and references are read in.
-    pub(crate) form: FormCtx<'a>,
+    pub form: FormCtx<'a>,
     /// The version of DWARF in its header.
-    pub(crate) version: u16,
+    pub version: u16,
     /// A walk at its first entry.
-    pub(crate) start: Walk<'w, 'a>,
+    pub start: Walk<'w, 'a>,
     /// What its entries say of their extents, once the place of a member was found by it.
-    pub(crate) extents: Option<Extents>,
+    pub extents: Option<Extents>,
 }

@@ -26,4 +26,4 @@ pub(crate) const UNSPECIFIED_TYPE: u64 = 0x3b;
 pub(crate) const ATOMIC_TYPE: u64 = 0x47;
 
 /// An annotation, as compilers write it beside the standard: a name and a value for the entry that is its parent.
-pub(crate) const DW_TAG_GNU_annotation: u64 = 0x6000;
+pub const DW_TAG_GNU_annotation: u64 = 0x6000;

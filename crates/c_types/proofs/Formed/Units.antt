@@ -16,7 +16,7 @@ use Rattle.c_types.proofs.Formed.Names.{IsNamedCleanly}
 use Rattle.c_types.proofs.Formed.Clean.{IsClean, coming_clean, named_cleanly}
 use Rattle.c_types.proofs.Formed.Types.{types_in_formed}
 
-entries_clean : (file : List ℕ) (unit : Unit) (declarations : List Declaration) → All IsNamedCleanly (entries_of file unit declarations).entries
+pub entries_clean : (file : List ℕ) (unit : Unit) (declarations : List Declaration) → All IsNamedCleanly (entries_of file unit declarations).entries
 entries_clean file unit declarations =
     All-weaker IsClean IsNamedCleanly named_cleanly (entries_of file unit declarations).entries (coming_clean (within_of file unit) declarations unit.first (length (within_of file unit).unit + 1) unit.first 0)
 

@@ -1,0 +1,21 @@
+use Rattle.std.proofs.Common.{◌≡◌, ◌≤◌, ◌+◌, ◌++◌, ◌∷◌, ◌∙◌, ℕ, List, None, sym, ap}
+use Rattle.dwarf_forms.specs.Meanings.{sections}
+use Rattle.entry_tree.specs.Walks.{given_entry}
+use Rattle.c_types.specs.declared.source.SourceType.{SourceType}
+use Rattle.func_entries.specs.Walking.{prototypes_at}
+use Rattle.func_entries.proofs.Reading.{low_pointed, shallow_first}
+use Rattle.func_entries.proofs.walking.take.Goals as goal
+
+pub returns-clause-types : goal.returns-clause-types
+returns-clause-types c = λ es.
+    let s = sections c.args.ctx.now in
+    let e = given_entry c.args.entry.now in
+    c.in_ok-take_function.ensures.types es
+    ∙ ap (λ (ts : List SourceType). ts ++ prototypes_at s e es) (c.in_ok-meet.ensures.types es c.close.new.reading.types.items ∙ c.in_ok-close.ensures.types s (e ∷ es) (shallow_first e es))
+
+pub returns-clause-pointed : goal.returns-clause-pointed
+returns-clause-pointed c = λ d le.
+    let os = c.close.new.reading.opens.items in
+    let k = c.args.entry.now.depth in
+    c.in_ok-take_function.ensures.pointed d
+    (c.in_ok-meet.ensures.pointed d ∙ low_pointed os k d (λ (j : ℕ) (low : j ≤ k). c.in_ok-close.ensures.pointed j low ∙ c.requires.pointed j low) c.in_ok-close.ensures.above le)

@@ -1,0 +1,44 @@
+-- The functions of a unit (DWARF 5, section 3.3): subprogram entries at any depth that have a name and are no mere declarations.
+use Rattle.std.specs.Prelude.{◌==◌, ◌&&◌, ◌||◌, not, Bool, true, false, ℕ, List, [], ◌∷◌, ◌++◌, if◌then◌else◌}
+use Rattle.dwarf_forms.specs.Meanings.{Sections}
+use Rattle.entry_tree.specs.Items.{Given}
+use Rattle.c_types.specs.declared.fault.TypeFault.{TypeFault}
+use Rattle.c_types.specs.Attributes.{Asked, name_asked, name_in_full, flag_asked, is_set}
+use Rattle.c_types.specs.Children.{children_of}
+use Rattle.c_types.specs.Functions.{function_row}
+use Rattle.c_types.specs.Labels.{is_empty}
+use Rattle.func_entries.specs.declared.entries.FuncEntry.{FuncEntry}
+
+abbrev pub some_refused : List TypeFault → Bool
+some_refused [] = false
+some_refused (f ∷ fs) = true
+
+-- a name that is not empty; one that is refused counts as such
+abbrev pub has_name : Asked (List ℕ) → Bool
+has_name name = some_refused name.refused || not (is_empty (name_in_full name))
+
+-- a subprogram (0x2e) with a name and without a true declaration (0x3c); a declaration that is refused counts as one that is not true
+abbrev pub is_function : Sections → Given → Bool
+is_function c e = e.tag == 0x2e && (has_name (name_asked c e) && not (is_set (flag_asked 0x3c e)))
+
+-- its name, whether it is external (0x3f), and its prototype: the subroutine type of its own type and parameters
+abbrev pub function_at : Sections → Given → List Given → FuncEntry
+function_at c e after =
+    record {
+      name = name_in_full (name_asked c e);
+      external = is_set (flag_asked 0x3f e);
+      proto = (function_row c e (children_of e.depth after)).made;
+    }
+
+abbrev pub function_refused : Sections → Given → List Given → List TypeFault
+function_refused c e after =
+    (name_asked c e).refused ++ ((flag_asked 0x3c e).refused ++ ((flag_asked 0x3f e).refused ++ (function_row c e (children_of e.depth after)).refused))
+
+-- the functions among some entries, in order, and all their refusals
+abbrev pub functions_of : Sections → List Given → List FuncEntry
+functions_of c [] = []
+functions_of c (e ∷ es) = if is_function c e then function_at c e es ∷ functions_of c es else functions_of c es
+
+abbrev pub refusals_of : Sections → List Given → List TypeFault
+refusals_of c [] = []
+refusals_of c (e ∷ es) = if is_function c e then function_refused c e es ++ refusals_of c es else refusals_of c es

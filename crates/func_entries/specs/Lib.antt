@@ -1,0 +1,4 @@
+pub mod Functions
+pub mod Laws
+pub mod Units
+pub mod Walking

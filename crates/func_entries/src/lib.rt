@@ -1,0 +1,14 @@
+//! The functions of one unit and their prototypes (DWARF 5, section 3.3), as BTF has them.
+#![tactic(auto)]
+
+pub mod entries;
+pub mod laws;
+mod places;
+mod shared;
+#[cfg(test)]
+mod tests;
+pub mod unit;
+mod walking;
+
+pub use entries::{FuncEntries, FuncEntry, Places, UnitFuncs};
+pub use unit::{functions_of_unit, functions_of_unit_with};
