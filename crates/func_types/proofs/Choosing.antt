@@ -109,11 +109,14 @@ passed class funcs n places g at out are =
       few = omega (arith, are.few);
     }
 
-pub all_placed : (class : ℕ → ℕ) (funcs : List Func) (places : List ℕ) → ArePlaced class funcs (length funcs) places → filter_map (slice_get funcs) places ≡ chosen_funcs class funcs
+-- those among all entries are the chosen functions
+pub chosen_is : (class : ℕ → ℕ) (funcs : List Func) → chosen_among class funcs (length funcs) ≡ chosen_funcs class funcs
 unfolding chosen_funcs
-all_placed class funcs places are =
-    are.listed
-    ∙ ap (λ (fs : List Func). filter (is_agreed class funcs) (map (λ (e : ℕ × Func). e.1) (filter (λ (e : ℕ × Func). is_first funcs e.0 e.1) (enumerate_from 0 fs)))) (take_all (length funcs) funcs (omega arith))
+chosen_is class funcs =
+    ap (λ (fs : List Func). filter (is_agreed class funcs) (map (λ (e : ℕ × Func). e.1) (filter (λ (e : ℕ × Func). is_first funcs e.0 e.1) (enumerate_from 0 fs)))) (take_all (length funcs) funcs (omega arith))
+
+pub all_placed : (class : ℕ → ℕ) (funcs : List Func) (places : List ℕ) → ArePlaced class funcs (length funcs) places → filter_map (slice_get funcs) places ≡ chosen_funcs class funcs
+all_placed class funcs places are = are.listed ∙ chosen_is class funcs
 
 module _ (class : ℕ → ℕ) (funcs : List Func) (n : ℕ) (firsts : List ℕ) (agreed : List Bool) (places : List ℕ) (within : n < length funcs)
     (are_firsts : AreFirsts funcs (length funcs) firsts) (are_agreed : AreAgreed class funcs firsts (length funcs) agreed) (are : ArePlaced class funcs n places) where

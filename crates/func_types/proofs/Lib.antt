@@ -4,3 +4,6 @@ pub mod Agreeing
 pub mod Choosing
 pub mod Building
 pub mod Shaping
+pub mod Relating
+pub mod Choice
+pub mod Standing

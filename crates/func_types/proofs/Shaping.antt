@@ -43,15 +43,17 @@ module _ {X : Type 0} (Q : X → Type 0) where
   all_counted k (x ∷ xs) all =
       All-cons (λ (e : ℕ × X). Q e.1) (k, x) (enumerate_from (k + 1) xs) (All-head Q x xs all) (all_counted (k + 1) xs (All-tail Q x xs all))
 
+pub all_firsts : (Q : Func → Type 0) (funcs : List Func) → All Q funcs → All Q (first_entries funcs)
+all_firsts Q funcs all =
+    All-map Q (λ (e : ℕ × Func). e.1) (filter (λ (e : ℕ × Func). is_first funcs e.0 e.1) (enumerate_from 0 funcs))
+    (All-filter (λ (e : ℕ × Func). is_first funcs e.0 e.1) (λ (e : ℕ × Func). Q e.1) (enumerate_from 0 funcs) (all_counted Q 0 funcs all))
+
 pub all_chosen : (Q : Func → Type 0) (class : ℕ → ℕ) (funcs : List Func) → All Q funcs → All Q (chosen_funcs class funcs)
 unfolding chosen_funcs
-all_chosen Q class funcs all =
-    All-filter (is_agreed class funcs) Q (first_entries funcs)
-    (All-map Q (λ (e : ℕ × Func). e.1) (filter (λ (e : ℕ × Func). is_first funcs e.0 e.1) (enumerate_from 0 funcs))
-    (All-filter (λ (e : ℕ × Func). is_first funcs e.0 e.1) (λ (e : ℕ × Func). Q e.1) (enumerate_from 0 funcs) (all_counted Q 0 funcs all)))
+all_chosen Q class funcs all = All-filter (is_agreed class funcs) Q (first_entries funcs) (all_firsts Q funcs all)
 
 module _ (P : CType → Type 0) where
-  all_prototypes : (nodes : List CType) (fs : List Func) → All P nodes → All P (prototypes_of nodes fs)
+  pub all_prototypes : (nodes : List CType) (fs : List Func) → All P nodes → All P (prototypes_of nodes fs)
   all_prototypes nodes [] all = All-nil P
   all_prototypes nodes (f ∷ fs) all = by (slice_get nodes f.proto) refl (all_prototypes nodes fs all)
     where

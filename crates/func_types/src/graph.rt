@@ -33,7 +33,7 @@ pub fn chosen_packed<'a, G: TypeGraph<'a>>(
     ensures fitting { IfOk result (λ g. HasFittingForwards (G.shape protos.now.graph) → HasFittingForwards g) }
 {
     let funcs = protos.funcs.items();
-    let count = protos.graph.len();
+    let _ = protos.graph.len();
     let places = chosen_places(alloc, funcs, base, classes)?;
     let mut nodes = first_nodes(alloc, &protos.graph, protos.plain)?;
     push_prototypes(alloc, &mut nodes, &protos.graph, funcs, &places)?;

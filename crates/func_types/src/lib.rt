@@ -2,10 +2,13 @@
 #![tactic(auto)]
 
 pub mod graph;
+pub mod laws;
 pub mod nodes;
 pub mod places;
 pub mod protos;
 mod shared;
+#[cfg(test)]
+mod tests;
 
 pub use graph::{chosen, chosen_packed};
 pub use protos::{Func, Funcs, Protos};
