@@ -1,0 +1,9 @@
+pub mod Noting
+pub mod Firsts
+pub mod Agreeing
+pub mod Choosing
+pub mod Building
+pub mod Shaping
+pub mod Relating
+pub mod Choice
+pub mod Standing

@@ -1,0 +1,7 @@
+use Rattle.std.proofs.Common.{sym}
+use Rattle.func_types.proofs.Noting.{noted_now}
+use Rattle.func_types.proofs.places.place_of.Goals as goal
+
+pub returns-in_ok-insert-in-None : goal.returns-in_ok-insert-in-None
+returns-in_ok-insert-in-None c =
+    noted_now c.args.name c.args.at c.args.held.now.entries c.insert.new.self.entries (sym c.in-None.ensures.value) c.in_ok-insert-in-None.ensures.updates.0

@@ -1,0 +1,131 @@
+//! The nodes of the graph of the chosen functions.
+ghost use Rattle.std.specs.Prelude.{◌≡◌, ◌<◌, ◌≤◌, ◌+◌, ◌-◌, ◌^◌, ◌++◌, ◌∷◌, [], ℕ, All, length, slice_get, take, Some, IfOk, OnOk};
+ghost use Rattle.std.specs.List.{filter_map};
+ghost use Rattle.c_model.specs.Graph.{RefersWithin};
+ghost use Rattle.c_model.specs.Partition.{targets_at};
+ghost use Rattle.c_model.specs.declared.graph.CType.{CType};
+ghost use Rattle.func_types.specs.Chosen.{func_type, funcs_from, prototypes_of};
+
+use crate::protos::{Func, func_at};
+use c_model::{Label, Parts, Ref, TypeGraph, copy_of_label};
+use dw_base::Name;
+use packed_graph::PackedNodes;
+use std::alloc::{AllocError, Global};
+
+/// The kind of a function in a BTF table (the Linux kernel's BTF documentation, "Type Encoding").
+const BTF_KIND_FUNC: u8 = 12;
+
+/// The linkage of a function that other units can't call.
+const BTF_FUNC_STATIC: u32 = 0;
+
+/// The linkage of a function that other units can call.
+const BTF_FUNC_GLOBAL: u32 = 1;
+
+/// The targets of a node.
+fn targets_of<'a, G: TypeGraph<'a>>(
+    alloc: Global,
+    graph: &G,
+    x: u32,
+) -> Result<Vec<Ref>, AllocError>
+    requires { x < length (G.shape graph.now).nodes }
+    ensures { IfOk result (λ v. v.items ≡ targets_at (G.shape graph.now).nodes x) }
+{
+    let count = graph.target_count(x);
+    let mut targets = Vec::with_capacity(alloc, count)?;
+    for i in 0..count {
+        targets.push(graph.target(x, i))?;
+    }
+    Ok(targets)
+}
+
+/// Appends a second copy of a node.
+fn push_node<'a, G: TypeGraph<'a>>(
+    alloc: Global,
+    nodes: &mut PackedNodes<'a>,
+    graph: &G,
+    x: u32,
+) -> Result<(), AllocError>
+    requires node { x < length (G.shape graph.now).nodes }
+    requires within { RefersWithin (2 ^ 32 - 1) (G.shape graph.now).nodes }
+    ensures { OnOk result ((t : CType) → slice_get (G.shape graph.now).nodes x ≡ Some t → nodes.new ≡ nodes.old ++ t ∷ []) }
+{
+    let label = copy_of_label(alloc, graph.label(x))?;
+    let targets = targets_of(alloc, graph, x)?;
+    nodes.push(label, &targets)
+}
+
+/// The first nodes of a graph.
+pub fn first_nodes<'a, G: TypeGraph<'a>>(
+    alloc: Global,
+    graph: &G,
+    count: u32,
+) -> Result<PackedNodes<'a>, AllocError>
+    requires count { count ≤ length (G.shape graph.now).nodes }
+    requires within { RefersWithin (2 ^ 32 - 1) (G.shape graph.now).nodes }
+    ensures { IfOk result (λ nodes. nodes ≡ take count (G.shape graph.now).nodes) }
+{
+    let mut nodes = PackedNodes::new(alloc)?;
+    for x in 0..count {
+        push_node(alloc, &mut nodes, graph, x)?;
+    }
+    Ok(nodes)
+}
+
+/// Appends the prototypes of the functions in these places.
+pub fn push_prototypes<'a, G: TypeGraph<'a>>(
+    alloc: Global,
+    nodes: &mut PackedNodes<'a>,
+    graph: &G,
+    funcs: &[Func<'_>],
+    places: &[u32],
+) -> Result<(), AllocError>
+    requires protos { All (λ f. f.proto < length (G.shape graph.now).nodes) funcs.now }
+    requires places { All (λ i. i < length funcs.now) places.now }
+    requires within { RefersWithin (2 ^ 32 - 1) (G.shape graph.now).nodes }
+    ensures { OnOk result (nodes.new ≡ nodes.old ++ prototypes_of (G.shape graph.now).nodes (filter_map (slice_get funcs.now) places.now)) }
+{
+    for place in places {
+        let func = func_at(funcs, *place as usize);
+        push_node(alloc, nodes, graph, func.proto)?;
+    }
+    Ok(())
+}
+
+/// The label of a FUNC.
+fn func_label<'a>(alloc: Global, func: &Func<'a>) -> Label<'a>
+    ensures { (proto : ℕ) → result ≡ (func_type proto func.now).label }
+{
+    Label {
+        kind: BTF_KIND_FUNC,
+        name: Name::new(func.name.bytes()),
+        flag: false,
+        size: 0,
+        extra: if func.external {
+            BTF_FUNC_GLOBAL
+        } else {
+            BTF_FUNC_STATIC
+        },
+        parts: Parts::new(Vec::new(alloc)),
+    }
+}
+
+/// Appends a FUNC for each of the functions in these places. Their prototypes are the nodes from `first` on.
+pub fn push_funcs<'a>(
+    alloc: Global,
+    nodes: &mut PackedNodes<'a>,
+    funcs: &[Func<'a>],
+    places: &[u32],
+    first: u32,
+) -> Result<(), AllocError>
+    requires places { All (λ i. i < length funcs.now) places.now }
+    requires few { first + length places.now < 2 ^ 32 }
+    ensures { OnOk result (nodes.new ≡ nodes.old ++ funcs_from first (filter_map (slice_get funcs.now) places.now)) }
+{
+    let mut proto = first;
+    for place in places {
+        let func = func_at(funcs, *place as usize);
+        nodes.push(func_label(alloc, func), &[Ref::Node(proto)])?;
+        proto += 1;
+    }
+    Ok(())
+}
