@@ -19,6 +19,7 @@ LAYERS = {
     "Entries": ["entry_tree"],
     "Types": ["c_types"],
     "Made input": ["dwarf_gen"],
+    "Functions": ["func_entries", "func_types"],
     "Graph": ["c_model", "packed_graph", "unit_graph", "unit_encoder", "forward_rule"],
     "Classes": ["type_signature", "class_refine", "class_halves"],
     "Table": ["split_base", "base_merge", "btf_strings"],
