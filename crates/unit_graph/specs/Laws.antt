@@ -1,5 +1,5 @@
 -- What the definitions say of the nodes of all units.
-use Rattle.std.specs.Prelude.{◌≡◌, ℕ, List, [], Ok, All, length}
+use Rattle.std.specs.Prelude.{◌≡◌, List, [], Ok, All, length}
 use Rattle.c_model.specs.declared.graph.CType.{CType}
 use Rattle.c_model.specs.Graph.{Shape, RefersWithin}
 use Rattle.c_model.specs.Kinds.{IsWellFormed}
