@@ -1,15 +1,17 @@
-use Rattle.std.proofs.Common.{◌≡◌, Ok, Err, List, ℕ, Result, subst}
-use Rattle.pahole_run.specs.Steps.{Prepares}
+use Rattle.std.proofs.Common.{◌≡◌, Ok, Err, List, ℕ, Result, subst, sym}
+use Rattle.pahole_run.specs.Steps.{IsMade, Prepares}
 use Rattle.pahole_run.specs.Tasks.{task_of}
 use Rattle.pahole_run.proofs.top.finish.Goals as goal
 
 pub returns-in-Ok : goal.returns-in-Ok
 returns-in-Ok g c limits before p =
+    let now = g.W.World.meaning c.args.world.now in
+    let made : IsMade limits (task_of c.args.job.now) before now c.in-Ok.bytes =
+    subst (Prepares limits (task_of c.args.job.now) before now) c.in-Ok.is p in
     c.end_job.ensures limits before
-    (c.send.ensures limits before
-    (rw c.items.ensures (subst (Prepares limits (task_of c.args.job.now) before (g.W.World.meaning c.args.world.now)) c.in-Ok.is p)))
+    (c.send-done.ensures limits before (subst (IsMade limits (task_of c.args.job.now) before now) (sym c.items.ensures) made))
 
 pub returns-in-Err : goal.returns-in-Err
 returns-in-Err g c limits before p =
-    c.end_job-2.ensures limits before
+    c.end_job-in-Err.ensures limits before
     (subst (Prepares limits (task_of c.args.job.now) before (g.W.World.meaning c.args.world.now)) c.in-Err.is p)
