@@ -1,5 +1,5 @@
 -- Structures and unions (DWARF 5, sections 5.7.1 to 5.7.6): declared ones are forward declarations, the others have a size and members.
-use Rattle.std.specs.Prelude.{ℕ, ℤ, ◌+◌, ◌*◌, ◌^◌, nat_lt, nat_le, ◌&&◌, not, Bool, false, List, [], ◌∷◌, ◌++◌, length, map, Option, None, Some, if◌then◌else◌}
+use Rattle.std.specs.Prelude.{ℕ, ℤ, ◌+◌, ◌*◌, ◌^◌, nat_lt, nat_le, ◌&&◌, not, Bool, false, List, [], ◌++◌, length, map, Option, None, Some, if◌then◌else◌}
 use Rattle.c_model.specs.declared.label.Label.{Label}
 use Rattle.c_model.specs.declared.label.Part.{Part}
 use Rattle.entry_tree.specs.Items.{Given}
@@ -7,12 +7,12 @@ use Rattle.c_types.specs.declared.source.Target.{Target}
 use Rattle.c_types.specs.declared.number.Number.{Number}
 use Rattle.c_types.specs.declared.number.Number.TheVariants.{Natural, Negative}
 use Rattle.c_types.specs.declared.fault.TypeFault.{TypeFault}
-use Rattle.c_types.specs.declared.fault.TypeFault.TheVariants.{MissingType, UnnamedForward, MemberPlace, BitSize, MemberFar, TooMany}
+use Rattle.c_types.specs.declared.fault.TypeFault.TheVariants.{MissingType, UnnamedForward, BitSize, MemberFar, TooMany}
 use Rattle.c_types.specs.Scopes.{Scope}
 use Rattle.c_types.specs.Faults.{refuse_if}
 use Rattle.c_types.specs.Numbers.{number_from}
 use Rattle.c_types.specs.Positions.{position_of}
-use Rattle.c_types.specs.Attributes.{Asked, has, name_asked, name_in_full, constant_asked, number_said, flag_asked, is_set, target_asked, target_of_type, offset_asked}
+use Rattle.c_types.specs.Attributes.{has, name_asked, name_in_full, constant_asked, flag_asked, is_set, target_asked, target_of_type}
 use Rattle.c_types.specs.Children.{tagged}
 use Rattle.c_types.specs.Labels.{Row, type_of, is_empty, size_in, size_refused}
 use Rattle.c_types.specs.Parts.{part_of, refused_by, some_is, most}

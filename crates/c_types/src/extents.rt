@@ -1,6 +1,6 @@
 //! How many bytes the objects of a unit's types have, as far as the storage of a bit field needs it (DWARF 4, section
 //! 5.5.6).
-ghost use Rattle.std.specs.Prelude.{◌≡◌, ◌++◌, ◌<◌, ℕ, nat_lt, OnOk, IfOk};
+ghost use Rattle.std.specs.Prelude.{◌≡◌, ◌++◌, ◌<◌, OnOk, IfOk};
 ghost use Rattle.std.specs.List.Sorted.{IsNonDecreasingBy};
 ghost use Rattle.dwarf_forms.specs.Meanings.{sections};
 ghost use Rattle.entry_tree.specs.Walks.{given_entry};

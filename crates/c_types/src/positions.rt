@@ -1,13 +1,12 @@
 //! The places of members.
 ghost use Rattle.std.specs.Prelude.{◌≡◌, ◌≤◌, ◌<ℤ◌, ◌≤ℤ◌, ◌+ℤ◌, neg_ℤ, pos, ◌^◌, ◌++◌, OnOk, IfSome, false, true};
-ghost use Rattle.dwarf_forms.specs.Values.{IsContext};
 ghost use Rattle.dwarf_forms.specs.Meanings.{Fits64};
 ghost use Rattle.entry_tree.specs.Rising.{Rises};
 ghost use Rattle.entry_tree.specs.Walks.{given_entry};
 ghost use Rattle.c_types.specs.Scopes.{scope};
 ghost use Rattle.c_types.specs.Faults.{noted};
-ghost use Rattle.c_types.specs.Attributes.{has, constant_asked, target_asked, offset_asked};
-ghost use Rattle.c_types.specs.Positions.{placed, placed_by_bits, placed_by_bytes, is_stored, location_in, offset_number, storage_in, bytes_of_type, eightfold, first_bit_big, first_bit_little, first_bit, counted, storage_refused, stored_position, position_of, is_little, needs_extents};
+ghost use Rattle.c_types.specs.Attributes.{has, constant_asked, offset_asked};
+ghost use Rattle.c_types.specs.Positions.{placed, placed_by_bits, placed_by_bytes, is_stored, location_in, offset_number, storage_in, bytes_of_type, eightfold, first_bit_big, first_bit_little, first_bit, counted, storage_refused, position_of, is_little, needs_extents};
 ghost use Rattle.c_types.specs.Rows.{SayExtents, AreKnown, IsReady};
 
 use crate::attributes::{constant, is_given, offset, signed_constant, target_said};
