@@ -4,7 +4,6 @@ use Rattle.std.specs.Prelude.{All}
 use Rattle.std.proofs.lemmas.List.Elements.{All-nil, All-cons, All-head, All-tail, All-map}
 use Rattle.dwarf_abbrev.specs.Declarations.{Declaration}
 use Rattle.dwarf_forms.specs.Meanings.{Sections}
-use Rattle.entry_tree.specs.Contexts.{sections_of}
 use Rattle.entry_tree.specs.Items.{Given, Coming}
 use Rattle.entry_tree.specs.Walks.{entries_of}
 use Rattle.c_types.specs.declared.fault.TypeFault.{TypeFault}
@@ -14,6 +13,7 @@ use Rattle.c_types.specs.Children.{children_of}
 use Rattle.c_types.specs.Formed.{IsFormed, AreFormed}
 use Rattle.c_types.specs.Functions.{function_row}
 use Rattle.c_types.specs.Labels.{is_empty}
+use Rattle.c_types.specs.Scopes.{scope_of}
 use Rattle.c_types.proofs.Formed.Children.{children_all}
 use Rattle.c_types.proofs.Formed.Functions.{function_row_formed}
 use Rattle.c_types.proofs.Formed.Names.{IsNamedCleanly, name_clean}
@@ -52,13 +52,13 @@ proto_formed c e after clean all is none =
 pub functions_formed : FunctionsAreFormed
 functions_formed file unit =
     in_unit file unit (λ (u : UnitFuncs). AreFormed (protos_of u.funcs)) (All-nil (λ (t : SourceType). IsFormed t.label (length t.targets)))
-    (λ (declarations : List Declaration) (base : ℕ) (u : UnitFuncs) (e : functions_in (sections_of file unit base) (entries_of file unit declarations) ≡ Ok u).
-    let c = sections_of file unit base in
+    (λ (declarations : List Declaration) (base : ℕ) (u : UnitFuncs) (e : functions_in (scope_of file unit declarations base) (entries_of file unit declarations).ending ≡ Ok u).
+    let s = scope_of file unit declarations base in
     let walk = entries_of file unit declarations in
-    let a = in_walk c walk u e in
+    let a = in_walk s walk.ending u e in
     subst (λ (v : UnitFuncs). AreFormed (protos_of v.funcs)) a.1
-    (All-map (λ (t : SourceType). IsFormed t.label (length t.targets)) (λ (f : FuncEntry). f.proto) (functions_of c walk.entries)
-    (functions_all c HasFormed IsNamedCleanly (proto_formed c) walk.entries (entries_clean file unit declarations) a.0)))
+    (All-map (λ (t : SourceType). IsFormed t.label (length t.targets)) (λ (f : FuncEntry). f.proto) (functions_of s.sections walk.entries)
+    (functions_all s.sections HasFormed IsNamedCleanly (proto_formed s.sections) walk.entries (entries_clean file unit declarations) a.0)))
 
 -- names
 named_by : (refused : List TypeFault) (name : List ℕ) → refused ≡ [] → (some_refused refused || not (is_empty name)) ≡ true → 0 < length name
@@ -80,9 +80,9 @@ name_is c e after clean all is none =
 pub functions_named : FunctionsAreNamed
 functions_named file unit =
     in_unit file unit (λ (u : UnitFuncs). All (λ (f : FuncEntry). IsName f.name) u.funcs) (All-nil (λ (f : FuncEntry). IsName f.name))
-    (λ (declarations : List Declaration) (base : ℕ) (u : UnitFuncs) (e : functions_in (sections_of file unit base) (entries_of file unit declarations) ≡ Ok u).
-    let c = sections_of file unit base in
+    (λ (declarations : List Declaration) (base : ℕ) (u : UnitFuncs) (e : functions_in (scope_of file unit declarations base) (entries_of file unit declarations).ending ≡ Ok u).
+    let s = scope_of file unit declarations base in
     let walk = entries_of file unit declarations in
-    let a = in_walk c walk u e in
+    let a = in_walk s walk.ending u e in
     subst (λ (v : UnitFuncs). All (λ (f : FuncEntry). IsName f.name) v.funcs) a.1
-    (functions_all c (λ (f : FuncEntry). IsName f.name) IsNamedCleanly (name_is c) walk.entries (entries_clean file unit declarations) a.0))
+    (functions_all s.sections (λ (f : FuncEntry). IsName f.name) IsNamedCleanly (name_is s.sections) walk.entries (entries_clean file unit declarations) a.0))

@@ -13,6 +13,7 @@ use Rattle.c_types.specs.Arrays.{array_row}
 use Rattle.c_types.specs.Enumerations.{enumeration_row}
 use Rattle.c_types.specs.Functions.{function_row}
 use Rattle.c_types.specs.Pointers.{pointer_row, is_type_tag, tag_type}
+use Rattle.c_types.specs.Scopes.{Scope}
 use Rattle.c_types.specs.Structures.{structure_row}
 use Rattle.c_types.specs.Types.{plain_row_of, row_of, made_in, listed, made_of}
 use Rattle.c_types.proofs.Standing.{TypeStandsAt, made_stands}
@@ -23,22 +24,22 @@ chosen : (t s : Bool) (r : Row) (o : Option Row) → is_some o ≡ s → is_some
 chosen true s r o h = refl
 chosen false s r o h = h
 
-row_there : (c : Sections) (e : Given) (after : List Given) → is_some (row_of c e after) ≡ has_row e.tag
+row_there : (c : Scope) (e : Given) (after : List Given) → is_some (row_of c e after) ≡ has_row e.tag
 row_there c e after =
     let kids = children_of e.depth after in
-    chosen (e.tag == 0x01) _ (array_row c e kids) _
-    (chosen (e.tag == 0x04) _ (enumeration_row c e kids) _
-    (chosen (e.tag == 0x0f) _ (pointer_row c e kids) _
+    chosen (e.tag == 0x01) _ (array_row c.sections e kids) _
+    (chosen (e.tag == 0x04) _ (enumeration_row c.sections e kids) _
+    (chosen (e.tag == 0x0f) _ (pointer_row c.sections e kids) _
     (chosen (e.tag == 0x13) _ (structure_row c false e kids) _
-    (chosen (e.tag == 0x15) _ (function_row c e kids) _
+    (chosen (e.tag == 0x15) _ (function_row c.sections e kids) _
     (chosen (e.tag == 0x17) _ (structure_row c true e kids) _
-    (chosen (e.tag == 0x16) _ (typedef_row c e) _
-    (chosen (e.tag == 0x24) _ (base_row c e) _
-    (chosen (e.tag == 0x26) _ (reference_row 10 [] c e) _
-    (chosen (e.tag == 0x35) _ (reference_row 9 [] c e) _
-    (chosen (e.tag == 0x37) _ (reference_row 11 [] c e) _
-    (chosen (e.tag == 0x3b) _ (unspecified_row c e) _
-    (chosen (e.tag == 0x47) false (reference_row 8 atomic_name c e) None refl))))))))))))
+    (chosen (e.tag == 0x16) _ (typedef_row c.sections e) _
+    (chosen (e.tag == 0x24) _ (base_row c.sections e) _
+    (chosen (e.tag == 0x26) _ (reference_row 10 [] c.sections e) _
+    (chosen (e.tag == 0x35) _ (reference_row 9 [] c.sections e) _
+    (chosen (e.tag == 0x37) _ (reference_row 11 [] c.sections e) _
+    (chosen (e.tag == 0x3b) _ (unspecified_row c.sections e) _
+    (chosen (e.tag == 0x47) false (reference_row 8 atomic_name c.sections e) None refl))))))))))))
 
 made_there : (o : Option Row) → is_some (made_in o) ≡ is_some o
 made_there None = refl
@@ -49,9 +50,9 @@ either_there true s a o h = refl
 either_there false s a o h = h
 
 -- an entry is a type, given what its parent points to
-type_there : (c : Sections) (pointed : Option Target) (e : Given) (after : List Given) → is_some (made_of c pointed e after) ≡ is_type c (is_some pointed) e
+type_there : (c : Scope) (pointed : Option Target) (e : Given) (after : List Given) → is_some (made_of c pointed e after) ≡ is_type c.sections (is_some pointed) e
 type_there c None e after = made_there (row_of c e after) ∙ row_there c e after
-type_there c (Some own) e after = either_there (is_type_tag c e) (has_row e.tag) (tag_type c own e (children_of (e.depth - 1) after)) (made_in (row_of c e after)) (made_there (row_of c e after) ∙ row_there c e after)
+type_there c (Some own) e after = either_there (is_type_tag c.sections e) (has_row e.tag) (tag_type c.sections own e (children_of (e.depth - 1) after)) (made_in (row_of c e after)) (made_there (row_of c e after) ∙ row_there c e after)
 
 placed : (at : ℕ) (o : Option SourceType) (t : Bool) → TypeStandsAt at o → is_some o ≡ t → map (λ (s : SourceType). s.at) (listed o) ≡ (if t then at ∷ [] else [])
 placed at None true h e = cc
@@ -59,8 +60,8 @@ placed at None false h e = refl
 placed at (Some s) true h e = ap (λ (n : ℕ). n ∷ []) h
 placed at (Some s) false h e = cc
 
-pub type_place : (c : Sections) (pointed : Option Target) (e : Given) (after : List Given) → map (λ (s : SourceType). s.at) (listed (made_of c pointed e after)) ≡ place_of c (is_some pointed) e
-type_place c pointed e after = placed e.at (made_of c pointed e after) (is_type c (is_some pointed) e) (made_stands c pointed e after) (type_there c pointed e after)
+pub type_place : (c : Scope) (pointed : Option Target) (e : Given) (after : List Given) → map (λ (s : SourceType). s.at) (listed (made_of c pointed e after)) ≡ place_of c.sections (is_some pointed) e
+type_place c pointed e after = placed e.at (made_of c pointed e after) (is_type c.sections (is_some pointed) e) (made_stands c pointed e after) (type_there c pointed e after)
 
 -- an entry of another tag is no type tag
 pub other_tag : (c : Sections) (e : Given) → e.tag ≢ 0x6000 → is_type_tag c e ≡ false

@@ -4,12 +4,12 @@ use Rattle.std.specs.Prelude.{All}
 use Rattle.std.proofs.lemmas.List.Elements.{All-nil, All-cons, All-head, All-tail}
 use Rattle.dwarf_abbrev.specs.Declarations.{Declaration}
 use Rattle.dwarf_forms.specs.Meanings.{Sections}
-use Rattle.entry_tree.specs.Contexts.{sections_of}
 use Rattle.entry_tree.specs.Items.{Given, Coming}
 use Rattle.entry_tree.specs.Rising.{Rises, StandIn}
 use Rattle.entry_tree.specs.Walks.{entries_of}
 use Rattle.entry_tree.proofs.Rising.{entries_placed}
 use Rattle.c_types.specs.declared.source.SourceType.{SourceType}
+use Rattle.c_types.specs.Scopes.{scope_of}
 use Rattle.c_types.specs.Ordered.{AreInOrder, LieIn}
 use Rattle.func_entries.specs.declared.entries.FuncEntry.{FuncEntry}
 use Rattle.func_entries.specs.declared.entries.UnitFuncs.{UnitFuncs}
@@ -39,9 +39,9 @@ all_in_order c (e ∷ es) h = one_first (is_function c e) (function_at c e es) (
 pub functions_in_order : FunctionsRise
 functions_in_order file unit =
     in_unit file unit (λ (u : UnitFuncs). AreInOrder (protos_of u.funcs) × LieIn unit.first unit.end (protos_of u.funcs)) (tt, All-nil (λ (t : SourceType). (unit.first ≤ t.at) × (t.at < unit.end)))
-    (λ (declarations : List Declaration) (base : ℕ) (u : UnitFuncs) (e : functions_in (sections_of file unit base) (entries_of file unit declarations) ≡ Ok u).
-    let c = sections_of file unit base in
+    (λ (declarations : List Declaration) (base : ℕ) (u : UnitFuncs) (e : functions_in (scope_of file unit declarations base) (entries_of file unit declarations).ending ≡ Ok u).
+    let s = scope_of file unit declarations base in
     let walk = entries_of file unit declarations in
     let placed = entries_placed file unit declarations in
-    subst (λ (v : UnitFuncs). AreInOrder (protos_of v.funcs) × LieIn unit.first unit.end (protos_of v.funcs)) (in_walk c walk u e).1
-    (all_in_order c walk.entries placed.0, all_stand (λ (n : ℕ). (unit.first ≤ n) × (n < unit.end)) c walk.entries placed.1))
+    subst (λ (v : UnitFuncs). AreInOrder (protos_of v.funcs) × LieIn unit.first unit.end (protos_of v.funcs)) (in_walk s walk.ending u e).1
+    (all_in_order s.sections walk.entries placed.0, all_stand (λ (n : ℕ). (unit.first ≤ n) × (n < unit.end)) s.sections walk.entries placed.1))

@@ -5,9 +5,7 @@ use Rattle.elf_sections.specs.declared.fault.Kind.TheVariants.{Abbrev as AbbrevS
 use Rattle.dwarf_abbrev.specs.Declarations.{Declaration}
 use Rattle.dwarf_abbrev.specs.Table.{table_at}
 use Rattle.dwarf_abbrev.specs.declared.fault.AbbrevFault.{AbbrevFault}
-use Rattle.dwarf_forms.specs.Meanings.{Sections}
-use Rattle.entry_tree.specs.Items.{Given, Coming}
-use Rattle.entry_tree.specs.Contexts.{within_of, sections_of}
+use Rattle.entry_tree.specs.Contexts.{within_of}
 use Rattle.entry_tree.specs.Roots.{root_of}
 use Rattle.entry_tree.specs.Walks.{entries_of}
 use Rattle.entry_tree.specs.declared.unit.Unit.{Unit}
@@ -18,16 +16,17 @@ use Rattle.c_types.specs.declared.fault.TypeFault.{TypeFault}
 use Rattle.c_types.specs.declared.fault.TypeFault.TheVariants.{Abbrev, Walk, Memory}
 use Rattle.c_types.specs.Faults.{least}
 use Rattle.c_types.specs.Parts.{some_tagged}
+use Rattle.c_types.specs.Scopes.{Scope, scope_of}
 use Rattle.c_types.specs.Types.{types_of, is_passed_over}
 use Rattle.func_entries.specs.declared.entries.UnitFuncs.{UnitFuncs}
 use Rattle.func_entries.specs.Functions.{functions_of, refusals_of}
 
--- of some entries: the functions, the places of the types, and whether one of these is an array
-abbrev pub places_of : Sections → List Given → List ℕ
-places_of c entries = map (λ (t : SourceType). t.at) (types_of c [] entries)
+-- of a unit's entries: the functions, the places of the types, and whether one of these is an array
+abbrev pub places_of : Scope → List ℕ
+places_of s = map (λ (t : SourceType). t.at) (types_of s [] s.entries)
 
-abbrev pub unit_funcs : Sections → List Given → UnitFuncs
-unit_funcs c entries = record { funcs = functions_of c entries; places = places_of c entries; has_array = some_tagged 0x01 entries }
+abbrev pub unit_funcs : Scope → UnitFuncs
+unit_funcs s = record { funcs = functions_of s.sections s.entries; places = places_of s; has_array = some_tagged 0x01 s.entries }
 
 -- where nothing is refused, else the first refusal by place, number and what is kept
 abbrev pub or_least : UnitFuncs → Option TypeFault → Result UnitFuncs TypeFault
@@ -39,8 +38,8 @@ or_walk None r = r
 or_walk (Some f) r = Err (Walk f)
 
 -- of a walk: its own fault comes before all refusals of functions
-abbrev pub functions_in : Sections → Coming → Result UnitFuncs TypeFault
-functions_in c walk = or_walk walk.ending (or_least (unit_funcs c walk.entries) (least (refusals_of c walk.entries)))
+abbrev pub functions_in : Scope → Option WalkFault → Result UnitFuncs TypeFault
+functions_in s ending = or_walk ending (or_least (unit_funcs s) (least (refusals_of s.sections s.entries)))
 
 abbrev pub no_funcs : UnitFuncs
 no_funcs = record { funcs = []; places = []; has_array = false }
@@ -48,7 +47,7 @@ no_funcs = record { funcs = []; places = []; has_array = false }
 -- the steps of a unit: its abbreviations, its root, and its entries
 abbrev pub after_root : List ℕ → Unit → List Declaration → Result RootInfo WalkFault → Result UnitFuncs TypeFault
 after_root file unit declarations (Err f) = Err (Walk f)
-after_root file unit declarations (Ok root) = if is_passed_over root.language then Ok no_funcs else functions_in (sections_of file unit root.str_base) (entries_of file unit declarations)
+after_root file unit declarations (Ok root) = if is_passed_over root.language then Ok no_funcs else functions_in (scope_of file unit declarations root.str_base) (entries_of file unit declarations).ending
 
 abbrev pub after_table : List ℕ → Unit → Result (List Declaration) AbbrevFault → Result UnitFuncs TypeFault
 after_table file unit (Err f) = Err (Abbrev f)

@@ -9,6 +9,7 @@ use Rattle.c_types.specs.Attributes.{name_asked, name_in_full, flag_asked, is_se
 use Rattle.c_types.specs.Children.{children_of}
 use Rattle.c_types.specs.Functions.{function_row}
 use Rattle.c_types.specs.Pointers.{is_type_tag}
+use Rattle.c_types.specs.Scopes.{Scope}
 use Rattle.func_entries.specs.declared.entries.FuncEntry.{FuncEntry}
 use Rattle.func_entries.specs.declared.walking.Head.{Head}
 use Rattle.func_entries.specs.Functions.{is_function, function_refused}
@@ -71,3 +72,7 @@ AreDeepening (k ∷ ks) = All (λ (j : ℕ). k < j) ks × AreDeepening ks
 
 abbrev pub AllAbove : ℕ → List ℕ → Type 0
 AllAbove depth ks = All (λ (k : ℕ). k < depth) ks
+
+-- the same unit with a header of another version, which decides nothing of functions
+abbrev pub of_version : ℕ → Scope → Scope
+of_version version s = record { sections = s.sections; version = version; entries = s.entries }

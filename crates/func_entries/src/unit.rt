@@ -8,6 +8,7 @@ ghost use Rattle.func_entries.specs.Units.{after_root, functions_of_unit_of, Giv
 
 use crate::entries::{FuncEntries, Places, UnitFuncs};
 use crate::walking::read_functions;
+use c_types::scope::UnitCtx;
 use c_types::unit::is_other;
 use c_types::{TypeFault, read_abbrevs};
 use dwarf_abbrev::Abbrevs;
@@ -37,8 +38,13 @@ fn read_unit<'a>(
             has_array: false,
         });
     }
-    let ctx = context(image, unit, root.str_base);
-    read_functions(alloc, &ctx, Walk::new(image, unit, abbrevs, &root))
+    let ctx = UnitCtx {
+        form: context(image, unit, root.str_base),
+        version: 5,
+        start: Walk::new(image, unit, abbrevs, &root),
+        extents: None,
+    };
+    read_functions(alloc, &ctx)
 }
 
 /// The functions of a unit of an image, as `functions_of_unit` gives them, by a table of abbreviations

@@ -1,17 +1,18 @@
 //! The functions of a unit by one walk: the parameters of each are gathered while they go by.
 ghost use Rattle.std.specs.Prelude.{◌≡◌, ◌++◌, ◌∷◌, ◌||◌, ◌==◌, ◌≤◌, ◌+◌, ℕ, List, Option, None, [], OnOk, IfOk, length, is_some, if◌then◌else◌};
 ghost use Rattle.dwarf_forms.specs.Values.{IsContext};
-ghost use Rattle.dwarf_forms.specs.Meanings.{Sections, sections};
+ghost use Rattle.dwarf_forms.specs.Meanings.{sections};
 ghost use Rattle.entry_tree.specs.Items.{Given};
 ghost use Rattle.entry_tree.specs.Walks.{given_entry};
 ghost use Rattle.c_types.specs.Faults.{noted};
 ghost use Rattle.c_types.specs.Parents.{Descends};
+ghost use Rattle.c_types.specs.Scopes.{Scope, scope};
 ghost use Rattle.c_types.specs.Walking.{filled, least_of, AreNested, ArePlaced, AreAbove, pointed_at};
 ghost use Rattle.c_types.specs.declared.fault.TypeFault.{TypeFault};
 ghost use Rattle.c_types.specs.declared.source.SourceType.{SourceType};
 ghost use Rattle.func_entries.specs.declared.entries.UnitFuncs.{UnitFuncs};
 ghost use Rattle.func_entries.specs.Units.{or_least, functions_in, Gives};
-ghost use Rattle.func_entries.specs.Walking.{head_at, head_refused, head_listed, prototypes_at, refused_at, paired};
+ghost use Rattle.func_entries.specs.Walking.{head_at, head_refused, head_listed, prototypes_at, refused_at, paired, of_version};
 
 use crate::entries::{FuncEntries, FuncEntry, Places, UnitFuncs};
 use crate::places::{Placing, place};
@@ -20,12 +21,13 @@ use c_types::fault::join;
 use c_types::functions::open_function;
 use c_types::labels::is_unnamed;
 use c_types::open::{Kept, Reading};
+use c_types::scope::UnitCtx;
 use c_types::walking::{begin, close, meet};
 use c_types::{SourceType, TypeFault};
 use dw_base::Name;
 use dwarf_abbrev::constants::{DW_AT_declaration, DW_AT_external, DW_TAG_subprogram};
 use dwarf_forms::FormCtx;
-use entry_tree::{Entry, Walk};
+use entry_tree::Entry;
 use std::alloc::{AllocError, Global};
 
 /// What a function's entry says of itself.
@@ -74,22 +76,22 @@ fn read_head<'a>(
 /// A function begins, where an entry is one.
 fn take_function<'a>(
     alloc: Global,
-    ctx: &FormCtx<'a>,
+    ctx: &UnitCtx<'_, 'a>,
     entry: &Entry<'_, 'a>,
     gathering: &mut Gathering<'a>,
 ) -> Result<(), AllocError>
-    requires context { IsContext ctx.now }
+    requires context { IsContext ctx.now.form }
     requires nested { AreNested gathering.old.reading.opens.items }
     requires above { AreAbove (given_entry entry.now).depth gathering.old.reading.opens.items }
     requires placed { ArePlaced (length gathering.old.reading.types.items) gathering.old.reading.opens.items }
-    ensures heads { OnOk result (gathering.new.heads.items ≡ gathering.old.heads.items ++ head_listed (head_at (sections ctx.now) (given_entry entry.now))) }
-    ensures types { OnOk result ((es : List Given) → filled (sections ctx.now) gathering.new.reading.opens.items es gathering.new.reading.types.items ≡ filled (sections ctx.now) gathering.old.reading.opens.items es gathering.old.reading.types.items ++ prototypes_at (sections ctx.now) (given_entry entry.now) es) }
-    ensures least { OnOk result ((es : List Given) (later : List TypeFault) → least_of (sections ctx.now) gathering.new.reading.opens.items es gathering.new.reading.current later ≡ least_of (sections ctx.now) gathering.old.reading.opens.items es gathering.old.reading.current (refused_at (sections ctx.now) (given_entry entry.now) es ++ later)) }
+    ensures heads { OnOk result (gathering.new.heads.items ≡ gathering.old.heads.items ++ head_listed (head_at (sections ctx.now.form) (given_entry entry.now))) }
+    ensures types { OnOk result ((es : List Given) → filled (scope ctx.now) gathering.new.reading.opens.items es gathering.new.reading.types.items ≡ filled (scope ctx.now) gathering.old.reading.opens.items es gathering.old.reading.types.items ++ prototypes_at (sections ctx.now.form) (given_entry entry.now) es) }
+    ensures least { OnOk result ((es : List Given) (later : List TypeFault) → least_of (scope ctx.now) gathering.new.reading.opens.items es gathering.new.reading.current later ≡ least_of (scope ctx.now) gathering.old.reading.opens.items es gathering.old.reading.current (refused_at (sections ctx.now.form) (given_entry entry.now) es ++ later)) }
     ensures nested { OnOk result (AreNested gathering.new.reading.opens.items) }
     ensures placed { OnOk result (ArePlaced (length gathering.new.reading.types.items) gathering.new.reading.opens.items) }
     ensures pointed { OnOk result ((d : ℕ) → pointed_at gathering.old.reading.opens.items d ≡ None → pointed_at gathering.new.reading.opens.items d ≡ None) }
 {
-    let Some(head) = read_head(ctx, entry, &mut gathering.reading.current) else {
+    let Some(head) = read_head(&ctx.form, entry, &mut gathering.reading.current) else {
         return Ok(());
     };
     let kept = Kept::Function(open_function(alloc, ctx, entry)?);
@@ -101,17 +103,18 @@ fn take_function<'a>(
 /// One entry more.
 fn take<'a>(
     alloc: Global,
-    ctx: &FormCtx<'a>,
+    ctx: &UnitCtx<'_, 'a>,
     entry: &Entry<'_, 'a>,
     gathering: &mut Gathering<'a>,
 ) -> Result<(), AllocError>
-    requires context { IsContext ctx.now }
+    requires context { IsContext ctx.now.form }
+    requires version { ctx.now.version ≡ 5 }
     requires nested { AreNested gathering.old.reading.opens.items }
     requires placed { ArePlaced (length gathering.old.reading.types.items) gathering.old.reading.opens.items }
     requires pointed { (d : ℕ) → d ≤ (given_entry entry.now).depth → pointed_at gathering.old.reading.opens.items d ≡ None }
-    ensures heads { OnOk result (gathering.new.heads.items ≡ gathering.old.heads.items ++ head_listed (head_at (sections ctx.now) (given_entry entry.now))) }
-    ensures types { OnOk result ((es : List Given) → filled (sections ctx.now) gathering.new.reading.opens.items es gathering.new.reading.types.items ≡ filled (sections ctx.now) gathering.old.reading.opens.items (given_entry entry.now ∷ es) gathering.old.reading.types.items ++ prototypes_at (sections ctx.now) (given_entry entry.now) es) }
-    ensures least { OnOk result ((es : List Given) (later : List TypeFault) → least_of (sections ctx.now) gathering.new.reading.opens.items es gathering.new.reading.current later ≡ least_of (sections ctx.now) gathering.old.reading.opens.items (given_entry entry.now ∷ es) gathering.old.reading.current (refused_at (sections ctx.now) (given_entry entry.now) es ++ later)) }
+    ensures heads { OnOk result (gathering.new.heads.items ≡ gathering.old.heads.items ++ head_listed (head_at (sections ctx.now.form) (given_entry entry.now))) }
+    ensures types { OnOk result ((es : List Given) → filled (scope ctx.now) gathering.new.reading.opens.items es gathering.new.reading.types.items ≡ filled (scope ctx.now) gathering.old.reading.opens.items (given_entry entry.now ∷ es) gathering.old.reading.types.items ++ prototypes_at (sections ctx.now.form) (given_entry entry.now) es) }
+    ensures least { OnOk result ((es : List Given) (later : List TypeFault) → least_of (scope ctx.now) gathering.new.reading.opens.items es gathering.new.reading.current later ≡ least_of (scope ctx.now) gathering.old.reading.opens.items (given_entry entry.now ∷ es) gathering.old.reading.current (refused_at (sections ctx.now.form) (given_entry entry.now) es ++ later)) }
     ensures nested { OnOk result (AreNested gathering.new.reading.opens.items) }
     ensures placed { OnOk result (ArePlaced (length gathering.new.reading.types.items) gathering.new.reading.opens.items) }
     ensures pointed { OnOk result ((d : ℕ) → d ≤ (given_entry entry.now).depth + 1 → pointed_at gathering.new.reading.opens.items d ≡ None) }
@@ -149,7 +152,7 @@ fn end<'a>(
 ) -> Result<UnitFuncs<'a>, TypeFault>
     requires nested { AreNested gathering.reading.opens.items }
     requires placed { ArePlaced (length gathering.reading.types.items) gathering.reading.opens.items }
-    ensures { (c : Sections) → Gives result (or_least (record { funcs = paired gathering.entry.heads.items (filled c gathering.entry.reading.opens.items [] gathering.entry.reading.types.items); places = placing.places.items; has_array = placing.has_array }) (least_of c gathering.entry.reading.opens.items [] gathering.entry.reading.current [])) }
+    ensures { (s : Scope) → Gives result (or_least (record { funcs = paired gathering.entry.heads.items (filled s gathering.entry.reading.opens.items [] gathering.entry.reading.types.items); places = placing.places.items; has_array = placing.has_array }) (least_of s gathering.entry.reading.opens.items [] gathering.entry.reading.current [])) }
 {
     let Gathering { heads, reading } = gathering;
     let mut reading = reading;
@@ -165,17 +168,18 @@ fn end<'a>(
     })
 }
 
-/// The functions of all entries of a walk.
-pub(crate) fn read_functions<'w, 'a>(
+/// The functions of all entries of a unit. They are read as in version 5, in which nothing is asked of
+/// other entries: the version decides the places of members alone.
+pub(crate) fn read_functions<'a>(
     alloc: Global,
-    ctx: &FormCtx<'a>,
-    walk: Walk<'w, 'a>,
+    ctx: &UnitCtx<'_, 'a>,
 ) -> Result<UnitFuncs<'a>, TypeFault>
-    requires context { IsContext ctx.now }
-    requires descending { Descends 0 walk.entries }
-    ensures { Gives result (functions_in (sections ctx.now) walk.entry) }
+    requires context { IsContext ctx.now.form }
+    requires version { ctx.now.version ≡ 5 }
+    requires descending { Descends 0 ctx.now.start.entries }
+    ensures { (version : ℕ) → Gives result (functions_in (of_version version (scope ctx.now)) ctx.now.start.ending) }
 {
-    let mut walk = walk;
+    let mut walk = ctx.start.copy();
     let mut placing = Placing {
         places: Vec::new(alloc),
         pointers: Vec::new(alloc),
@@ -196,7 +200,7 @@ pub(crate) fn read_functions<'w, 'a>(
             Ok(None) => return end(alloc, gathering, placing),
             Ok(Some(entry)) => {
                 take(alloc, ctx, &entry, &mut gathering)?;
-                place(ctx, &entry, &mut placing)?;
+                place(&ctx.form, &entry, &mut placing)?;
             }
         }
     }

@@ -2,16 +2,17 @@ use Rattle.std.proofs.Common.{◌≡◌, ◌≤◌, ◌+◌, ◌++◌, ◌∷◌
 use Rattle.dwarf_forms.specs.Meanings.{sections}
 use Rattle.entry_tree.specs.Walks.{given_entry}
 use Rattle.c_types.specs.declared.source.SourceType.{SourceType}
+use Rattle.c_types.specs.Scopes.{scope}
 use Rattle.func_entries.specs.Walking.{prototypes_at}
-use Rattle.func_entries.proofs.Reading.{low_pointed, shallow_first}
+use Rattle.func_entries.proofs.Reading.{low_pointed, shallow_first, never}
 use Rattle.func_entries.proofs.walking.take.Goals as goal
 
 pub returns-clause-types : goal.returns-clause-types
 returns-clause-types c = λ es.
-    let s = sections c.args.ctx.now in
+    let s = sections c.args.ctx.now.form in
     let e = given_entry c.args.entry.now in
     c.in_ok-take_function.ensures.types es
-    ∙ ap (λ (ts : List SourceType). ts ++ prototypes_at s e es) (c.in_ok-meet.ensures.types es c.close.new.reading.types.items ∙ c.in_ok-close.ensures.types s (e ∷ es) (shallow_first e es))
+    ∙ ap (λ (ts : List SourceType). ts ++ prototypes_at s e es) (c.in_ok-meet.ensures.types es c.close.new.reading.types.items ∙ c.in_ok-close.ensures.types (scope c.args.ctx.now) (e ∷ es) (shallow_first e es))
 
 pub returns-clause-pointed : goal.returns-clause-pointed
 returns-clause-pointed c = λ d le.
@@ -19,3 +20,6 @@ returns-clause-pointed c = λ d le.
     let k = c.args.entry.now.depth in
     c.in_ok-take_function.ensures.pointed d
     (c.in_ok-meet.ensures.pointed d ∙ low_pointed os k d (λ (j : ℕ) (low : j ≤ k). c.in_ok-close.ensures.pointed j low ∙ c.requires.pointed j low) c.in_ok-close.ensures.above le)
+
+pub meet-requires-clause-ready : goal.meet-requires-clause-ready
+meet-requires-clause-ready c = λ needed. never (scope c.args.ctx.now) (given_entry c.args.entry.now) c.requires.version needed

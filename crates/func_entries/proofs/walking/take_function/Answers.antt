@@ -5,6 +5,7 @@ use Rattle.c_types.specs.declared.fault.TypeFault.{TypeFault}
 use Rattle.c_types.specs.Attributes.{name_asked, flag_asked}
 use Rattle.c_types.specs.Children.{children_of}
 use Rattle.c_types.specs.Functions.{function_row}
+use Rattle.c_types.specs.Scopes.{scope}
 use Rattle.c_types.specs.Walking.{filled, least_of}
 use Rattle.c_types.proofs.Stack.{taken_least}
 use Rattle.func_entries.specs.Functions.{is_function}
@@ -14,21 +15,23 @@ use Rattle.func_entries.proofs.walking.take_function.Goals as goal
 
 pub returns-clause-types : goal.returns-clause-types
 returns-clause-types c = λ es.
-    let s = sections c.args.ctx.now in
+    let s = sections c.args.ctx.now.form in
+    let u = scope c.args.ctx.now in
     let e = given_entry c.args.entry.now in
     let made = (function_row s e (children_of c.args.entry.now.depth es)).made in
     let is = (head_known (is_function s e) _ c.in-Some.head (sym c.in-Some.ensures.head)).0 in
-    c.in_ok-begin.ensures.types s (function_row s e) es c.in_ok-open_function.ensures
-    ∙ ap (λ (b : Bool). filled s c.args.gathering.now.reading.opens.items es c.args.gathering.now.reading.types.items ++ (if b then made ∷ [] else [])) (sym is)
+    c.in_ok-begin.ensures.types u (function_row s e) es c.in_ok-open_function.ensures
+    ∙ ap (λ (b : Bool). filled u c.args.gathering.now.reading.opens.items es c.args.gathering.now.reading.types.items ++ (if b then made ∷ [] else [])) (sym is)
 
 pub returns-clause-least : goal.returns-clause-least
 returns-clause-least c = λ es later.
-    let s = sections c.args.ctx.now in
+    let s = sections c.args.ctx.now.form in
+    let u = scope c.args.ctx.now in
     let e = given_entry c.args.entry.now in
     let row = function_row s e (children_of c.args.entry.now.depth es) in
     let os = c.args.gathering.now.reading.opens.items in
     let current = c.args.gathering.now.reading.current in
     let is = (head_known (is_function s e) _ c.in-Some.head (sym c.in-Some.ensures.head)).0 in
-    c.in_ok-begin.ensures.least s (function_row s e) es later c.in_ok-open_function.ensures
-    ∙ taken_least s os es current c.read_head.new.least (head_refused s e) (row.refused ++ later) c.read_head.ensures.noted
-    ∙ ap (λ (fs : List TypeFault). least_of s os es current fs) (refusals_joined (is_function s e) (name_asked s e).refused (flag_asked 0x3c e).refused (flag_asked 0x3f e).refused row.refused later is)
+    c.in_ok-begin.ensures.least u (function_row s e) es later c.in_ok-open_function.ensures
+    ∙ taken_least u os es current c.read_head.new.least (head_refused s e) (row.refused ++ later) c.read_head.ensures.noted
+    ∙ ap (λ (fs : List TypeFault). least_of u os es current fs) (refusals_joined (is_function s e) (name_asked s e).refused (flag_asked 0x3c e).refused (flag_asked 0x3f e).refused row.refused later is)
