@@ -102,11 +102,7 @@ pub(crate) fn text<'a>(
 }
 
 /// The name of an entry; the empty one where it has none.
-pub fn name<'a>(
-    ctx: &FormCtx<'a>,
-    entry: &Entry<'_, 'a>,
-    least: &mut Option<TypeFault>,
-) -> Name<'a>
+pub fn name<'a>(ctx: &FormCtx<'a>, entry: &Entry<'_, 'a>, least: &mut Option<TypeFault>) -> Name<'a>
     requires { IsContext ctx.now }
     ensures said { result ≡ name_in_full (name_asked (sections ctx.now) (given_entry entry.now)) }
     ensures noted { least.new ≡ noted least.old (name_asked (sections ctx.now) (given_entry entry.now)).refused }
