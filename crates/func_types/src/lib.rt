@@ -10,6 +10,7 @@ pub mod linking;
 pub mod nodes;
 pub mod places;
 pub mod protos;
+pub mod prototypes;
 pub mod reading;
 mod shared;
 #[cfg(test)]
@@ -18,3 +19,4 @@ mod tests;
 pub use fault::FuncFault;
 pub use graph::{chosen, chosen_packed};
 pub use protos::{Func, Funcs, Protos};
+pub use prototypes::{FuncUnit, prototypes_packed};
