@@ -1,5 +1,6 @@
 pub mod Finding
 pub mod Formed
+pub mod Gathered
 pub mod Halves
 pub mod Keeping
 pub mod Linking

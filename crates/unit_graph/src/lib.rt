@@ -1,6 +1,7 @@
 //! The graph of the types of all units: its definition, and looking for the node at an offset of a file.
 #![tactic(auto)]
 
+pub mod gathering;
 pub mod laws;
 pub mod links;
 pub mod places;
@@ -11,6 +12,7 @@ pub mod tags;
 #[cfg(test)]
 mod tests;
 
+pub use gathering::places_of_units;
 pub use links::{Out, link_targets};
 pub use places::{Places, Row};
 pub use sources::UnitAt;
