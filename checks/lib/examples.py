@@ -46,12 +46,17 @@ def sizes(page, folder):
         yield found[0], None if had == int(found[2]) else f"it has {had}"
 
 
+def laid_out(text):
+    """A text without tabs, and without spaces at the ends of its lines, which a page does not keep."""
+    return "\n".join(line.expandtabs().rstrip() for line in text.splitlines()).rstrip()
+
+
 def run(command, folder):
     """What a command prints and complains, and whether it did what it is for: `diff` ends with 1 where it finds something, and so does a refusal."""
     words = ["bash", "-o", "pipefail", "-c", command]
     path = f"{folder}/bin:{os.environ['PATH']}"
     done = subprocess.run(words, cwd=folder, env={**os.environ, "PATH": path}, capture_output=True, text=True, timeout=120)
-    had = (done.stdout + done.stderr).expandtabs().rstrip()
+    had = laid_out(done.stdout + done.stderr)
     expected = 1 if command.startswith("diff ") or had.startswith("pahole: ") else 0
     return had, done.returncode == expected
 
@@ -65,7 +70,7 @@ def main():
         for command, wanted in examples(page):
             had, ended = run(command, folder)
             name = f"{os.path.basename(page)}: {command}"
-            if ended and had == wanted.expandtabs():
+            if ended and had == laid_out(wanted):
                 print(f"passed examples {name}")
             else:
                 print(f"failed examples {name}: it prints {had!r}")

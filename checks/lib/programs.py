@@ -13,12 +13,13 @@ from elf import sections, units
 # of 32 bits, for AArch64, and clang, which places bit fields as DWARF 5 has it with -glldb alone; -r links to a relocatable object
 ACCEPTED = {
     "cc": ["", "-static", "-static-pie", "-m32", "-m32 -static", "-gdwarf64", "-m32 -gdwarf64", "-g3", "-flto", "-O2", "-shared -fPIC",
-           "-fshort-enums -fpack-struct=2", "-r -nostdlib"],
-    "powerpc64-linux-gnu-gcc": ["", "-static", "-gdwarf64", "-g3", "-flto"],
-    "s390x-linux-gnu-gcc": ["", "-static"],
-    "mips-linux-gnu-gcc": ["", "-static", "-gdwarf64"],
-    "aarch64-linux-gnu-gcc": ["", "-r -nostdlib"],
-    "clang": ["-glldb", "-glldb -flto -fuse-ld=lld", "-glldb -m32", "-glldb -r -nostdlib"],
+           "-fshort-enums -fpack-struct=2", "-gdwarf-4", "-gdwarf-4 -m32", "-gdwarf-4 -gdwarf64", "-r -nostdlib",
+           "-gdwarf-4 -r -nostdlib"],
+    "powerpc64-linux-gnu-gcc": ["", "-static", "-gdwarf64", "-g3", "-flto", "-gdwarf-4"],
+    "s390x-linux-gnu-gcc": ["", "-static", "-gdwarf-4"],
+    "mips-linux-gnu-gcc": ["", "-static", "-gdwarf64", "-gdwarf-4"],
+    "aarch64-linux-gnu-gcc": ["", "-r -nostdlib", "-gdwarf-4 -r -nostdlib"],
+    "clang": ["-glldb", "-glldb -flto -fuse-ld=lld", "-glldb -m32", "-gdwarf-4", "-gdwarf-4 -m32", "-glldb -r -nostdlib"],
 }
 # how a file is built, and what a tool then makes of it that is still accepted
 TREATED = [
@@ -247,7 +248,7 @@ def objects(program, demo, compiler, flags):
     return "passed", f"{len(apart[2])} bytes of BTF"
 
 
-# C and Rust in one program
+# C and Rust in one program, of DWARF 5 and 4
 MIXED = {
     "main.c": "struct of_c { int only; } of_c;\nextern int rust(void);\nint main(void) { return rust() + of_c.only; }\n",
     "part.rs": "#![no_std]\npub struct OfRust { pub one: u32 }\n#[no_mangle]\npub extern \"C\" fn rust() -> i32 "
@@ -260,7 +261,7 @@ def with_rust(program):
     for name, text in MIXED.items():
         with open(name, "w") as file:
             file.write(text)
-    rust = ["rustc", "-g", "-Cdwarf-version=5", "-Cpanic=abort", "--crate-type=lib", "--emit=obj", "-o", "part.o", "part.rs"]
+    rust = ["rustc", "-g", "-Cpanic=abort", "--crate-type=lib", "--emit=obj", "-o", "part.o", "part.rs"]
     if not shutil.which("rustc") or run(rust).returncode != 0:
         return "skipped", "rustc is not installed, or can't build it"
     if not build("cc", [], "a", ["main.c", "part.o"]) or not build("cc", ["-c"], "b", ["main.c"]):
@@ -337,7 +338,7 @@ def main():
         say(f"cc {flags} {' '.join(words)}".replace("  ", " "), treated(program, demo, readers, flags.split(), words))
     for way, wanted in REFUSED:
         say(f"cc {way}", refused(program, demo, way.split(), wanted))
-    for compiler, way in (("cc", ""), ("clang", "-glldb"), ("aarch64-linux-gnu-gcc", "")):
+    for compiler, way in (("cc", ""), ("cc", "-gdwarf-4"), ("clang", "-glldb"), ("aarch64-linux-gnu-gcc", "")):
         if shutil.which(compiler):
             say(f"objects of {compiler} {way}".strip(), objects(program, demo, compiler, way.split()))
     say("with Rust", with_rust(program))
