@@ -17,7 +17,7 @@ LAYERS = {
     "Abbreviations": ["dwarf_abbrev"],
     "Forms": ["dwarf_forms"],
     "Entries": ["entry_tree"],
-    "Types": ["c_types"],
+    "Types": ["type_attributes", "c_types"],
     "Made input": ["dwarf_gen"],
     "Functions": ["func_entries", "func_types"],
     "Graph": ["c_model", "packed_graph", "unit_graph", "unit_encoder", "forward_rule"],

@@ -78,7 +78,7 @@ TOLD = [
     ("docs/AUDIT.md", r"that they are (\d+) GiB", lambda: shipped("file_bytes") >> 30),
     ("docs/AUDIT.md", r"that they are 1 GiB, (\d+) GiB", lambda: shipped("all_bytes") >> 30),
     ("docs/AUDIT.md", r"and ([\d,]+) types is shown", lambda: shipped("nodes")),
-    ("docs/REFUSALS.md", r"more than ([\d,]+) members", lambda: int(re.search(r"const MOST: u64 = ([\d_]+)", read("crates/c_types/src/labels.rt"))[1])),
+    ("docs/REFUSALS.md", r"more than ([\d,]+) members", lambda: int(re.search(r"const MOST: u64 = ([\d_]+)", read("crates/type_attributes/src/labels.rt"))[1])),
 ]
 
 

@@ -11,9 +11,9 @@ use Rattle.entry_tree.specs.Walks.{entries_of}
 use Rattle.entry_tree.specs.declared.unit.Unit.{Unit}
 use Rattle.entry_tree.specs.declared.roots.RootInfo.{RootInfo}
 use Rattle.entry_tree.specs.declared.fault.WalkFault.{WalkFault}
-use Rattle.c_types.specs.declared.source.UnitTypes.{UnitTypes}
-use Rattle.c_types.specs.declared.fault.TypeFault.{TypeFault}
-use Rattle.c_types.specs.Scopes.{scope_of}
+use Rattle.type_attributes.specs.declared.source.UnitTypes.{UnitTypes}
+use Rattle.type_attributes.specs.declared.fault.TypeFault.{TypeFault}
+use Rattle.type_attributes.specs.Scopes.{scope_of}
 use Rattle.c_types.specs.Types.{or_least, or_walk, is_passed_over, no_types, types_in, after_root, after_table, types_of_unit_of}
 
 same : (u t : UnitTypes) → ◌≡◌ {A = Result UnitTypes TypeFault} (Ok u) (Ok t) → u ≡ t

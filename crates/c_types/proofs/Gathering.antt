@@ -2,12 +2,12 @@
 use Rattle.std.proofs.Common.{◌≡◌, ℕ, ◌==◌, ◌||◌, ◌&&◌, Bool, true, false, List, [], ◌∷◌, ◌++◌, map, Option, if◌then◌else◌, refl, sym, ap, ◌∙◌, append_assoc}
 use Rattle.std.proofs.lemmas.List.{append-nil}
 use Rattle.entry_tree.specs.Items.{Given}
-use Rattle.c_types.specs.declared.fault.TypeFault.{TypeFault}
-use Rattle.c_types.specs.Faults.{noted}
-use Rattle.c_types.specs.Children.{tagged}
-use Rattle.c_types.specs.Parts.{refused_by, some_is}
+use Rattle.type_attributes.specs.declared.fault.TypeFault.{TypeFault}
+use Rattle.type_attributes.specs.Faults.{noted}
+use Rattle.type_attributes.specs.Children.{tagged}
+use Rattle.type_attributes.specs.Parts.{refused_by, some_is}
 use Rattle.c_types.specs.Taking.{made_if, refused_if}
-use Rattle.c_types.proofs.Noting.{noted_append}
+use Rattle.type_attributes.proofs.Noting.{noted_append}
 
 one : {X : Type 0} (make : Given → X) (e : Given) (es : List Given) (t : Bool) → map make (if t then e ∷ es else es) ≡ (if t then make e ∷ [] else []) ++ map make es
 one make e es true = refl

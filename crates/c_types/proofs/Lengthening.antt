@@ -4,7 +4,7 @@ use Rattle.std.proofs.lemmas.Bool.{cases_lt, le-ltb, ltb-true}
 use Rattle.std.proofs.lemmas.Nat.{mul-le}
 use Rattle.entry_tree.specs.Items.{Given}
 use Rattle.c_types.specs.declared.arrays.Lengths.{Lengths}
-use Rattle.c_types.specs.Children.{tagged}
+use Rattle.type_attributes.specs.Children.{tagged}
 use Rattle.c_types.specs.Taking.{made_if}
 use Rattle.c_types.specs.Arrays.{subrange_length, is_long, some_long, or_zero, product_of, lengths_of, is_refused, elements_in}
 use Rattle.c_types.specs.Lengths.{start, extended, is_too_long, elements_from}

@@ -4,15 +4,15 @@ use Rattle.dwarf_forms.specs.Meanings.{Sections}
 use Rattle.entry_tree.specs.Items.{Given}
 use Rattle.c_types.specs.declared.open.OpenArray.{OpenArray}
 use Rattle.c_types.specs.declared.open.Kept.TheVariants.{Array}
-use Rattle.c_types.specs.declared.fault.TypeFault.TheVariants.{MissingType, ArrayLength}
-use Rattle.c_types.specs.Scopes.{Scope}
-use Rattle.c_types.specs.Faults.{noted, refuse_if}
-use Rattle.c_types.specs.Attributes.{has, target_asked, target_of_type}
+use Rattle.type_attributes.specs.declared.fault.TypeFault.TheVariants.{MissingType, ArrayLength}
+use Rattle.type_attributes.specs.Scopes.{Scope}
+use Rattle.type_attributes.specs.Faults.{noted, refuse_if}
+use Rattle.type_attributes.specs.Attributes.{has, target_asked, target_of_type}
 use Rattle.c_types.specs.Taking.{made_if}
 use Rattle.c_types.specs.Arrays.{subrange_length, lengths_of, array_row}
 use Rattle.c_types.specs.Lengths.{start, extended, is_too_long}
 use Rattle.c_types.specs.Opened.{all_lengths, array_by, array_made, array_refused, ComesTo}
-use Rattle.c_types.proofs.Noting.{noted_append}
+use Rattle.type_attributes.proofs.Noting.{noted_append}
 use Rattle.c_types.proofs.Lengthening.{extends, refused_is, elements_are}
 
 pub made_is : (o : OpenArray) (kids : List Given) → array_made o kids ≡ array_by o (all_lengths o kids)

@@ -5,19 +5,19 @@ use Rattle.dwarf_forms.specs.Meanings.{Sections}
 use Rattle.entry_tree.specs.Items.{Given}
 use Rattle.c_types.specs.declared.open.OpenEnumeration.{OpenEnumeration}
 use Rattle.c_types.specs.declared.open.Kept.TheVariants.{Enumeration}
-use Rattle.c_types.specs.declared.source.SourceType.{SourceType}
-use Rattle.c_types.specs.declared.fault.TypeFault.{TypeFault}
-use Rattle.c_types.specs.Scopes.{Scope}
-use Rattle.c_types.specs.Faults.{noted}
-use Rattle.c_types.specs.Attributes.{name_asked, name_in_full, constant_asked, flag_asked, is_set}
-use Rattle.c_types.specs.Children.{tagged}
-use Rattle.c_types.specs.Labels.{Row, is_empty, size_in}
-use Rattle.c_types.specs.Parts.{refused_by, some_is, some_tagged}
+use Rattle.type_attributes.specs.declared.source.SourceType.{SourceType}
+use Rattle.type_attributes.specs.declared.fault.TypeFault.{TypeFault}
+use Rattle.type_attributes.specs.Scopes.{Scope}
+use Rattle.type_attributes.specs.Faults.{noted}
+use Rattle.type_attributes.specs.Attributes.{name_asked, name_in_full, constant_asked, flag_asked, is_set}
+use Rattle.type_attributes.specs.Children.{tagged}
+use Rattle.type_attributes.specs.Labels.{Row, is_empty, size_in}
+use Rattle.type_attributes.specs.Parts.{refused_by, some_is, some_tagged}
 use Rattle.c_types.specs.Taking.{refused_if}
 use Rattle.c_types.specs.Structures.{with_refused}
 use Rattle.c_types.specs.Enumerations.{is_negative, enumerator_part, enumerator_refused, enum_size_refused, enumeration_label, bare_row, enumerated_row, enumeration_row}
 use Rattle.c_types.specs.Opened.{all_some, all_negative, all_enumerators, ends_bare, enumeration_by, enumeration_made, own_sign, too_many, enumerated, enumeration_refused, GathersEnumerator, ComesTo}
-use Rattle.c_types.proofs.Noting.{noted_append}
+use Rattle.type_attributes.proofs.Noting.{noted_append}
 use Rattle.c_types.proofs.Gathering.{gathers, notes, tests, tag_tests}
 
 made_is : (c : Sections) (o : OpenEnumeration) (kids : List Given) → enumeration_made c o kids ≡ enumeration_by o (ends_bare o kids) (all_negative o kids) (all_enumerators c o kids)

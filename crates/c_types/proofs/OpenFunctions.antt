@@ -5,15 +5,15 @@ use Rattle.dwarf_forms.specs.Meanings.{Sections}
 use Rattle.entry_tree.specs.Items.{Given}
 use Rattle.c_types.specs.declared.open.OpenFunction.{OpenFunction}
 use Rattle.c_types.specs.declared.open.Kept.TheVariants.{Function}
-use Rattle.c_types.specs.declared.fault.TypeFault.{TypeFault}
-use Rattle.c_types.specs.Scopes.{Scope}
-use Rattle.c_types.specs.Faults.{noted}
-use Rattle.c_types.specs.Attributes.{target_asked, target_of_type}
-use Rattle.c_types.specs.Children.{tagged}
-use Rattle.c_types.specs.Parts.{refused_by}
+use Rattle.type_attributes.specs.declared.fault.TypeFault.{TypeFault}
+use Rattle.type_attributes.specs.Scopes.{Scope}
+use Rattle.type_attributes.specs.Faults.{noted}
+use Rattle.type_attributes.specs.Attributes.{target_asked, target_of_type}
+use Rattle.type_attributes.specs.Children.{tagged}
+use Rattle.type_attributes.specs.Parts.{refused_by}
 use Rattle.c_types.specs.Functions.{parameter_part, parameter_target, parameter_refused, rest_part, function_row}
 use Rattle.c_types.specs.Opened.{all_parameters, all_results, all_variadic, function_by, function_made, too_many, function_refused, GathersParameter, ComesTo}
-use Rattle.c_types.proofs.Noting.{noted_append}
+use Rattle.type_attributes.proofs.Noting.{noted_append}
 use Rattle.c_types.proofs.Gathering.{gathers, notes, tests}
 
 made_is : (c : Sections) (o : OpenFunction) (kids : List Given) → function_made c o kids ≡ function_by o.at (all_variadic o kids) (all_parameters c o kids) (all_results c o kids)

@@ -7,10 +7,10 @@ use Rattle.std.specs.Str.{bytes_eq}
 use Rattle.dwarf_forms.specs.Meanings.{Sections}
 use Rattle.entry_tree.specs.Items.{Given}
 use Rattle.c_types.specs.declared.open.OpenPointer.{OpenPointer}
-use Rattle.c_types.specs.declared.source.Target.{Target}
-use Rattle.c_types.specs.declared.source.Target.TheVariants.{Entry}
-use Rattle.c_types.specs.Scopes.{Scope}
-use Rattle.c_types.specs.Attributes.{name_asked, name_in_full}
+use Rattle.type_attributes.specs.declared.source.Target.{Target}
+use Rattle.type_attributes.specs.declared.source.Target.TheVariants.{Entry}
+use Rattle.type_attributes.specs.Scopes.{Scope}
+use Rattle.type_attributes.specs.Attributes.{name_asked, name_in_full}
 use Rattle.c_types.specs.Pointers.{is_type_tag, link_to, is_tag_entry, tag_asked, tag_in}
 use Rattle.c_types.specs.Opened.{pointer_by, pointer_made}
 use Rattle.c_types.specs.Types.{row_of}

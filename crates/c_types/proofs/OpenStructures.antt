@@ -5,18 +5,18 @@ use Rattle.std.proofs.lemmas.List.{append-nil, length-map}
 use Rattle.entry_tree.specs.Items.{Given}
 use Rattle.c_types.specs.declared.open.OpenStructure.{OpenStructure}
 use Rattle.c_types.specs.declared.open.Kept.TheVariants.{Structure}
-use Rattle.c_types.specs.declared.fault.TypeFault.{TypeFault}
-use Rattle.c_types.specs.Scopes.{Scope}
-use Rattle.c_types.specs.Faults.{noted}
-use Rattle.c_types.specs.Attributes.{has, flag_asked, is_set, name_asked, name_in_full, constant_asked}
-use Rattle.c_types.specs.Children.{tagged}
-use Rattle.c_types.specs.Labels.{size_in, size_refused}
-use Rattle.c_types.specs.Parts.{refused_by}
+use Rattle.type_attributes.specs.declared.fault.TypeFault.{TypeFault}
+use Rattle.type_attributes.specs.Scopes.{Scope}
+use Rattle.type_attributes.specs.Faults.{noted}
+use Rattle.type_attributes.specs.Attributes.{has, flag_asked, is_set, name_asked, name_in_full, constant_asked}
+use Rattle.type_attributes.specs.Children.{tagged}
+use Rattle.type_attributes.specs.Labels.{size_in, size_refused}
+use Rattle.type_attributes.specs.Parts.{refused_by}
 use Rattle.c_types.specs.Taking.{refused_if}
-use Rattle.c_types.specs.Positions.{position_of}
+use Rattle.type_attributes.specs.Positions.{position_of}
 use Rattle.c_types.specs.Structures.{or_zero, near, defined_row, structure_row, member_part, member_target, member_refused, has_fields}
 use Rattle.c_types.specs.Opened.{kept_of, part_from, all_members, all_targets, all_fields, structure_by, structure_made, own, too_many, structure_refused, GathersMember, ComesTo}
-use Rattle.c_types.proofs.Noting.{noted_append}
+use Rattle.type_attributes.proofs.Noting.{noted_append}
 use Rattle.c_types.proofs.Gathering.{gathers, notes, tag_tests}
 
 made_is : (c : Scope) (o : OpenStructure) (kids : List Given) → structure_made c o kids ≡ structure_by o (all_fields o kids) (all_members c o kids) (all_targets c o kids)

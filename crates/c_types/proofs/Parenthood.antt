@@ -8,7 +8,7 @@ use Rattle.dwarf_forms.specs.Values.{Within}
 use Rattle.entry_tree.specs.Items.{Given, Standing, Coming, item_at, after_item, coming, opened}
 use Rattle.entry_tree.specs.Items.Standing.{nothing, null, entry}
 use Rattle.entry_tree.specs.declared.fault.WalkFault.{WalkFault}
-use Rattle.c_types.specs.Children.{children_of}
+use Rattle.type_attributes.specs.Children.{children_of}
 use Rattle.c_types.specs.Parents.{parent_in, is_parent, those_of, Descends, ChildrenHaveParent, ComingDescends, onto, UnitChildrenHaveParent}
 use Rattle.entry_tree.specs.Contexts.{within_of}
 use Rattle.entry_tree.specs.Rising.{Rises}

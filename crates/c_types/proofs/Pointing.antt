@@ -13,16 +13,16 @@ use Rattle.c_types.specs.declared.open.Kept.{Kept}
 use Rattle.c_types.specs.declared.open.Kept.TheVariants.{Structure, Function, Enumeration, Array, Pointer}
 use Rattle.c_types.specs.declared.open.OpenPointer.{OpenPointer}
 use Rattle.c_types.specs.declared.open.LastPointer.{LastPointer}
-use Rattle.c_types.specs.declared.source.SourceType.{SourceType}
-use Rattle.c_types.specs.declared.source.Target.{Target}
-use Rattle.c_types.specs.declared.source.Target.TheVariants.{Entry}
-use Rattle.c_types.specs.declared.fault.TypeFault.{TypeFault}
-use Rattle.c_types.specs.Scopes.{Scope}
-use Rattle.c_types.specs.Faults.{joined}
-use Rattle.c_types.specs.Children.{children_of}
+use Rattle.type_attributes.specs.declared.source.SourceType.{SourceType}
+use Rattle.type_attributes.specs.declared.source.Target.{Target}
+use Rattle.type_attributes.specs.declared.source.Target.TheVariants.{Entry}
+use Rattle.type_attributes.specs.declared.fault.TypeFault.{TypeFault}
+use Rattle.type_attributes.specs.Scopes.{Scope}
+use Rattle.type_attributes.specs.Faults.{joined}
+use Rattle.type_attributes.specs.Children.{children_of}
 use Rattle.c_types.specs.Parents.{parent_in}
-use Rattle.c_types.specs.Attributes.{name_in_full}
-use Rattle.c_types.specs.Labels.{Row}
+use Rattle.type_attributes.specs.Attributes.{name_in_full}
+use Rattle.type_attributes.specs.Labels.{Row}
 use Rattle.c_types.specs.Pointers.{is_type_tag, own_target, link_to, pointer_row, own_of_pointer, pointed_in, tag_asked, tag_in, tag_type, tag_made}
 use Rattle.c_types.specs.Opened.{pointer_by, pointer_made, kept_made, kept_refused, ComesTo}
 use Rattle.c_types.specs.Types.{listed}

@@ -4,16 +4,16 @@ use Rattle.std.proofs.lemmas.List.{append-nil}
 use Rattle.entry_tree.specs.Items.{Given, Coming, with_first}
 use Rattle.entry_tree.specs.declared.fault.WalkFault.{WalkFault}
 use Rattle.c_types.specs.declared.open.Open.{Open}
-use Rattle.c_types.specs.declared.source.SourceType.{SourceType}
-use Rattle.c_types.specs.declared.source.Target.{Target}
-use Rattle.c_types.specs.declared.fault.TypeFault.{TypeFault}
-use Rattle.c_types.specs.declared.scope.UnitCtx.{UnitCtx}
-use Rattle.c_types.specs.declared.extents.Extents.{Extents}
+use Rattle.type_attributes.specs.declared.source.SourceType.{SourceType}
+use Rattle.type_attributes.specs.declared.source.Target.{Target}
+use Rattle.type_attributes.specs.declared.fault.TypeFault.{TypeFault}
+use Rattle.type_attributes.specs.declared.scope.UnitCtx.{UnitCtx}
+use Rattle.type_attributes.specs.declared.extents.Extents.{Extents}
 use Rattle.dwarf_forms.specs.Meanings.{sections}
-use Rattle.c_types.specs.Scopes.{Scope, scope}
-use Rattle.c_types.specs.Faults.{noted}
+use Rattle.type_attributes.specs.Scopes.{Scope, scope}
+use Rattle.type_attributes.specs.Faults.{noted}
 use Rattle.c_types.specs.Parents.{Descends}
-use Rattle.c_types.specs.Parts.{some_tagged}
+use Rattle.type_attributes.specs.Parts.{some_tagged}
 use Rattle.c_types.specs.Pointers.{own_of_pointer, pointed_in}
 use Rattle.c_types.specs.Types.{listed, made_of, refused_of, types_of, refusals_of, or_least, unit_types, types_in}
 use Rattle.c_types.specs.Walking.{filled, least_of, pointed_at}

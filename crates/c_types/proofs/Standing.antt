@@ -8,23 +8,23 @@ use Rattle.entry_tree.specs.Items.{Given}
 use Rattle.entry_tree.specs.Rising.{Rises, StandIn}
 use Rattle.entry_tree.specs.Walks.{entries_of}
 use Rattle.entry_tree.proofs.Rising.{entries_placed}
-use Rattle.c_types.specs.declared.source.SourceType.{SourceType}
-use Rattle.c_types.specs.declared.source.Target.{Target}
-use Rattle.c_types.specs.declared.source.UnitTypes.{UnitTypes}
-use Rattle.c_types.specs.Scopes.{Scope, scope_of}
-use Rattle.c_types.specs.Faults.{least}
-use Rattle.c_types.specs.Children.{children_of}
-use Rattle.c_types.specs.Labels.{Row}
-use Rattle.c_types.specs.Parts.{some_tagged}
-use Rattle.c_types.specs.BaseTypes.{base_row, unspecified_row}
-use Rattle.c_types.specs.References.{atomic_name, reference_row, typedef_row}
+use Rattle.type_attributes.specs.declared.source.SourceType.{SourceType}
+use Rattle.type_attributes.specs.declared.source.Target.{Target}
+use Rattle.type_attributes.specs.declared.source.UnitTypes.{UnitTypes}
+use Rattle.type_attributes.specs.Scopes.{Scope, scope_of}
+use Rattle.type_attributes.specs.Faults.{least}
+use Rattle.type_attributes.specs.Children.{children_of}
+use Rattle.type_attributes.specs.Labels.{Row}
+use Rattle.type_attributes.specs.Parts.{some_tagged}
+use Rattle.type_attributes.specs.BaseTypes.{base_row, unspecified_row}
+use Rattle.type_attributes.specs.References.{atomic_name, reference_row, typedef_row}
 use Rattle.c_types.specs.Pointers.{pointer_row, pointed_in, is_tag_entry, tag_made}
 use Rattle.c_types.specs.Arrays.{array_row}
 use Rattle.c_types.specs.Functions.{function_row}
 use Rattle.c_types.specs.Structures.{structure_row}
 use Rattle.c_types.specs.Enumerations.{enumeration_row}
 use Rattle.c_types.specs.Types.{plain_row_of, row_of, made_in, listed, made_of, types_of, refusals_of, or_least, unit_types, types_in}
-use Rattle.c_types.specs.Ordered.{AreInOrder, LieIn}
+use Rattle.type_attributes.specs.Ordered.{AreInOrder, LieIn}
 use Rattle.c_types.specs.Laws.{TypesRise}
 use Rattle.c_types.proofs.Accepted.{walked, accepted, in_unit}
 

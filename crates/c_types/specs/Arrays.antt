@@ -6,15 +6,15 @@ use Rattle.dwarf_forms.specs.Values.{Shown}
 use Rattle.dwarf_forms.specs.Meanings.{Sections, constant_in}
 use Rattle.entry_tree.specs.Items.{Given}
 use Rattle.entry_tree.specs.Reads.{value_with}
-use Rattle.c_types.specs.declared.source.Target.TheVariants.{Index}
-use Rattle.c_types.specs.declared.number.Number.{Number}
-use Rattle.c_types.specs.declared.number.Number.TheVariants.{Natural, Negative}
-use Rattle.c_types.specs.declared.fault.TypeFault.TheVariants.{MissingType, ArrayLength}
-use Rattle.c_types.specs.Faults.{refuse_if}
-use Rattle.c_types.specs.Numbers.{number_from}
-use Rattle.c_types.specs.Attributes.{has, target_asked, target_of_type}
-use Rattle.c_types.specs.Children.{tagged}
-use Rattle.c_types.specs.Labels.{Row, type_of}
+use Rattle.type_attributes.specs.declared.source.Target.TheVariants.{Index}
+use Rattle.type_attributes.specs.declared.number.Number.{Number}
+use Rattle.type_attributes.specs.declared.number.Number.TheVariants.{Natural, Negative}
+use Rattle.type_attributes.specs.declared.fault.TypeFault.TheVariants.{MissingType, ArrayLength}
+use Rattle.type_attributes.specs.Faults.{refuse_if}
+use Rattle.type_attributes.specs.Numbers.{number_from}
+use Rattle.type_attributes.specs.Attributes.{has, target_asked, target_of_type}
+use Rattle.type_attributes.specs.Children.{tagged}
+use Rattle.type_attributes.specs.Labels.{Row, type_of}
 
 -- a bound that is a constant
 abbrev pub bound_by : Result ℤ FormFault → Option Number

@@ -4,16 +4,16 @@ use Rattle.c_model.specs.declared.label.Label.{Label}
 use Rattle.c_model.specs.declared.label.Part.{Part}
 use Rattle.dwarf_forms.specs.Meanings.{Sections}
 use Rattle.entry_tree.specs.Items.{Given}
-use Rattle.c_types.specs.declared.number.Number.{Number}
-use Rattle.c_types.specs.declared.number.Number.TheVariants.{Natural, Negative}
-use Rattle.c_types.specs.declared.fault.TypeFault.{TypeFault}
-use Rattle.c_types.specs.declared.fault.TypeFault.TheVariants.{MissingName, MissingSize, UnnamedForward, EnumSize, EnumValue, TooMany}
-use Rattle.c_types.specs.Faults.{refuse_if}
-use Rattle.c_types.specs.Numbers.{number_from}
-use Rattle.c_types.specs.Attributes.{name_asked, name_in_full, constant_asked, number_said, flag_asked, is_set}
-use Rattle.c_types.specs.Children.{tagged}
-use Rattle.c_types.specs.Labels.{Row, type_of, is_empty, size_in}
-use Rattle.c_types.specs.Parts.{part_of, refused_by, some_is, some_tagged, most}
+use Rattle.type_attributes.specs.declared.number.Number.{Number}
+use Rattle.type_attributes.specs.declared.number.Number.TheVariants.{Natural, Negative}
+use Rattle.type_attributes.specs.declared.fault.TypeFault.{TypeFault}
+use Rattle.type_attributes.specs.declared.fault.TypeFault.TheVariants.{MissingName, MissingSize, UnnamedForward, EnumSize, EnumValue, TooMany}
+use Rattle.type_attributes.specs.Faults.{refuse_if}
+use Rattle.type_attributes.specs.Numbers.{number_from}
+use Rattle.type_attributes.specs.Attributes.{name_asked, name_in_full, constant_asked, number_said, flag_asked, is_set}
+use Rattle.type_attributes.specs.Children.{tagged}
+use Rattle.type_attributes.specs.Labels.{Row, type_of, is_empty, size_in}
+use Rattle.type_attributes.specs.Parts.{part_of, refused_by, some_is, some_tagged, most}
 use Rattle.c_types.specs.Structures.{with_refused}
 
 -- an enumerator's value (0x1c) is negative

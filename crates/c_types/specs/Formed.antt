@@ -5,7 +5,7 @@ use Rattle.c_model.specs.declared.label.Family.TheVariants.{Structure, Union, En
 use Rattle.c_model.specs.declared.graph.Ref.{Ref}
 use Rattle.c_model.specs.Kinds.{IsWellFormed}
 use Rattle.c_model.specs.Forwards.{Tag, declared_tag}
-use Rattle.c_types.specs.declared.source.SourceType.{SourceType}
+use Rattle.type_attributes.specs.declared.source.SourceType.{SourceType}
 use Rattle.c_types.specs.Structures.{forward_label}
 use Rattle.c_types.specs.Enumerations.{enumeration_label}
 

@@ -4,15 +4,15 @@ use Rattle.c_model.specs.declared.label.Label.{Label}
 use Rattle.c_model.specs.declared.label.Part.{Part}
 use Rattle.dwarf_forms.specs.Meanings.{Sections}
 use Rattle.entry_tree.specs.Items.{Given}
-use Rattle.c_types.specs.declared.source.Target.{Target}
-use Rattle.c_types.specs.declared.source.Target.TheVariants.{Void}
-use Rattle.c_types.specs.declared.fault.TypeFault.{TypeFault}
-use Rattle.c_types.specs.declared.fault.TypeFault.TheVariants.{MissingType, TooMany}
-use Rattle.c_types.specs.Faults.{refuse_if}
-use Rattle.c_types.specs.Attributes.{has, name_asked, name_in_full, target_asked, target_of_type}
-use Rattle.c_types.specs.Children.{tagged}
-use Rattle.c_types.specs.Labels.{Row, type_of}
-use Rattle.c_types.specs.Parts.{part_of, refused_by, some_tagged, most}
+use Rattle.type_attributes.specs.declared.source.Target.{Target}
+use Rattle.type_attributes.specs.declared.source.Target.TheVariants.{Void}
+use Rattle.type_attributes.specs.declared.fault.TypeFault.{TypeFault}
+use Rattle.type_attributes.specs.declared.fault.TypeFault.TheVariants.{MissingType, TooMany}
+use Rattle.type_attributes.specs.Faults.{refuse_if}
+use Rattle.type_attributes.specs.Attributes.{has, name_asked, name_in_full, target_asked, target_of_type}
+use Rattle.type_attributes.specs.Children.{tagged}
+use Rattle.type_attributes.specs.Labels.{Row, type_of}
+use Rattle.type_attributes.specs.Parts.{part_of, refused_by, some_tagged, most}
 
 abbrev pub parameter_part : Sections → Given → Part
 parameter_part c p = part_of (name_in_full (name_asked c p)) 0

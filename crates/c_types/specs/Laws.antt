@@ -1,12 +1,12 @@
 -- What the definitions say of every unit.
 use Rattle.std.specs.Prelude.{◌≡◌, ℕ, List, [], None, Some, Ok}
 use Rattle.entry_tree.specs.declared.unit.Unit.{Unit}
-use Rattle.c_types.specs.declared.source.UnitTypes.{UnitTypes}
-use Rattle.c_types.specs.declared.fault.TypeFault.{TypeFault}
-use Rattle.c_types.specs.Faults.{least, IsFirstAmong}
+use Rattle.type_attributes.specs.declared.source.UnitTypes.{UnitTypes}
+use Rattle.type_attributes.specs.declared.fault.TypeFault.{TypeFault}
+use Rattle.type_attributes.specs.Faults.{least, IsFirstAmong}
 use Rattle.c_types.specs.Types.{types_of_unit_of}
 use Rattle.c_types.specs.Formed.{AreFormed}
-use Rattle.c_types.specs.Ordered.{AreInOrder, LieIn}
+use Rattle.type_attributes.specs.Ordered.{AreInOrder, LieIn}
 
 -- the types of a unit of any file are formed
 abbrev pub TypesAreFormed : Type 0

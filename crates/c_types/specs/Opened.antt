@@ -12,18 +12,18 @@ use Rattle.c_types.specs.declared.open.OpenArray.{OpenArray}
 use Rattle.c_types.specs.declared.open.OpenPointer.{OpenPointer}
 use Rattle.c_types.specs.declared.open.Kept.{Kept}
 use Rattle.c_types.specs.declared.open.Kept.TheVariants.{Structure, Function, Enumeration, Array, Pointer}
-use Rattle.c_types.specs.declared.source.SourceType.{SourceType}
-use Rattle.c_types.specs.declared.source.Target.{Target}
-use Rattle.c_types.specs.declared.source.Target.TheVariants.{Index}
-use Rattle.c_types.specs.declared.fault.TypeFault.{TypeFault}
-use Rattle.c_types.specs.declared.fault.TypeFault.TheVariants.{TooMany, ArrayLength}
-use Rattle.c_types.specs.Scopes.{Scope}
-use Rattle.c_types.specs.Faults.{noted, refuse_if}
-use Rattle.c_types.specs.Attributes.{has, name_asked, name_in_full, constant_asked}
-use Rattle.c_types.specs.Children.{tagged}
-use Rattle.c_types.specs.Labels.{Row, plain_label, is_empty}
-use Rattle.c_types.specs.Parts.{part_of, refused_by, some_is, some_tagged, most}
-use Rattle.c_types.specs.Positions.{position_of}
+use Rattle.type_attributes.specs.declared.source.SourceType.{SourceType}
+use Rattle.type_attributes.specs.declared.source.Target.{Target}
+use Rattle.type_attributes.specs.declared.source.Target.TheVariants.{Index}
+use Rattle.type_attributes.specs.declared.fault.TypeFault.{TypeFault}
+use Rattle.type_attributes.specs.declared.fault.TypeFault.TheVariants.{TooMany, ArrayLength}
+use Rattle.type_attributes.specs.Scopes.{Scope}
+use Rattle.type_attributes.specs.Faults.{noted, refuse_if}
+use Rattle.type_attributes.specs.Attributes.{has, name_asked, name_in_full, constant_asked}
+use Rattle.type_attributes.specs.Children.{tagged}
+use Rattle.type_attributes.specs.Labels.{Row, plain_label, is_empty}
+use Rattle.type_attributes.specs.Parts.{part_of, refused_by, some_is, some_tagged, most}
+use Rattle.type_attributes.specs.Positions.{position_of}
 use Rattle.c_types.specs.Structures.{or_zero, bits_in, near, member_target, member_refused, has_fields, structure_label}
 use Rattle.c_types.specs.Functions.{parameter_part, parameter_target, parameter_refused, rest_part, rest_target, function_label}
 use Rattle.c_types.specs.Enumerations.{is_negative, enumerator_part, enumerator_refused, enumeration_label}

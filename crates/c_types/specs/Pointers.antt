@@ -5,15 +5,15 @@ use Rattle.std.specs.Prelude.{ℕ, ◌-◌, ◌==◌, ◌&&◌, Bool, List, [], 
 use Rattle.std.specs.Str.{bytes_eq}
 use Rattle.dwarf_forms.specs.Meanings.{Sections}
 use Rattle.entry_tree.specs.Items.{Given}
-use Rattle.c_types.specs.declared.source.SourceType.{SourceType}
-use Rattle.c_types.specs.declared.source.Target.{Target}
-use Rattle.c_types.specs.declared.source.Target.TheVariants.{Entry}
-use Rattle.c_types.specs.declared.fault.TypeFault.{TypeFault}
-use Rattle.c_types.specs.declared.fault.TypeFault.TheVariants.{MissingName}
-use Rattle.c_types.specs.Faults.{refuse_if}
-use Rattle.c_types.specs.Attributes.{Asked, text_asked, name_asked, name_in_full, target_asked, target_of_type}
-use Rattle.c_types.specs.Children.{children_of}
-use Rattle.c_types.specs.Labels.{Row, type_of, plain_label, is_empty}
+use Rattle.type_attributes.specs.declared.source.SourceType.{SourceType}
+use Rattle.type_attributes.specs.declared.source.Target.{Target}
+use Rattle.type_attributes.specs.declared.source.Target.TheVariants.{Entry}
+use Rattle.type_attributes.specs.declared.fault.TypeFault.{TypeFault}
+use Rattle.type_attributes.specs.declared.fault.TypeFault.TheVariants.{MissingName}
+use Rattle.type_attributes.specs.Faults.{refuse_if}
+use Rattle.type_attributes.specs.Attributes.{Asked, text_asked, name_asked, name_in_full, target_asked, target_of_type}
+use Rattle.type_attributes.specs.Children.{children_of}
+use Rattle.type_attributes.specs.Labels.{Row, type_of, plain_label, is_empty}
 use Rattle.c_types.specs.Parents.{parent_in}
 
 -- an annotation with the name of type tags

@@ -3,19 +3,19 @@ use Rattle.std.specs.Prelude.{ℕ, ℤ, ◌+◌, ◌*◌, ◌^◌, nat_lt, nat_l
 use Rattle.c_model.specs.declared.label.Label.{Label}
 use Rattle.c_model.specs.declared.label.Part.{Part}
 use Rattle.entry_tree.specs.Items.{Given}
-use Rattle.c_types.specs.declared.source.Target.{Target}
-use Rattle.c_types.specs.declared.number.Number.{Number}
-use Rattle.c_types.specs.declared.number.Number.TheVariants.{Natural, Negative}
-use Rattle.c_types.specs.declared.fault.TypeFault.{TypeFault}
-use Rattle.c_types.specs.declared.fault.TypeFault.TheVariants.{MissingType, UnnamedForward, BitSize, MemberFar, TooMany}
-use Rattle.c_types.specs.Scopes.{Scope}
-use Rattle.c_types.specs.Faults.{refuse_if}
-use Rattle.c_types.specs.Numbers.{number_from}
-use Rattle.c_types.specs.Positions.{position_of}
-use Rattle.c_types.specs.Attributes.{has, name_asked, name_in_full, constant_asked, flag_asked, is_set, target_asked, target_of_type}
-use Rattle.c_types.specs.Children.{tagged}
-use Rattle.c_types.specs.Labels.{Row, type_of, is_empty, size_in, size_refused}
-use Rattle.c_types.specs.Parts.{part_of, refused_by, some_is, most}
+use Rattle.type_attributes.specs.declared.source.Target.{Target}
+use Rattle.type_attributes.specs.declared.number.Number.{Number}
+use Rattle.type_attributes.specs.declared.number.Number.TheVariants.{Natural, Negative}
+use Rattle.type_attributes.specs.declared.fault.TypeFault.{TypeFault}
+use Rattle.type_attributes.specs.declared.fault.TypeFault.TheVariants.{MissingType, UnnamedForward, BitSize, MemberFar, TooMany}
+use Rattle.type_attributes.specs.Scopes.{Scope}
+use Rattle.type_attributes.specs.Faults.{refuse_if}
+use Rattle.type_attributes.specs.Numbers.{number_from}
+use Rattle.type_attributes.specs.Positions.{position_of}
+use Rattle.type_attributes.specs.Attributes.{has, name_asked, name_in_full, constant_asked, flag_asked, is_set, target_asked, target_of_type}
+use Rattle.type_attributes.specs.Children.{tagged}
+use Rattle.type_attributes.specs.Labels.{Row, type_of, is_empty, size_in, size_refused}
+use Rattle.type_attributes.specs.Parts.{part_of, refused_by, some_is, most}
 
 abbrev pub or_zero : Option ℕ → ℕ
 or_zero None = 0

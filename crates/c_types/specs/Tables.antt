@@ -5,8 +5,8 @@ use Rattle.elf_sections.specs.declared.fault.Kind.TheVariants.{Abbrev as AbbrevS
 use Rattle.dwarf_abbrev.specs.Declarations.{Declaration}
 use Rattle.dwarf_abbrev.specs.Table.{table_at}
 use Rattle.dwarf_abbrev.specs.declared.fault.AbbrevFault.{AbbrevFault}
-use Rattle.c_types.specs.declared.fault.TypeFault.{TypeFault}
-use Rattle.c_types.specs.declared.fault.TypeFault.TheVariants.{Abbrev, Memory}
+use Rattle.type_attributes.specs.declared.fault.TypeFault.{TypeFault}
+use Rattle.type_attributes.specs.declared.fault.TypeFault.TheVariants.{Abbrev, Memory}
 
 -- the table at a place of a file's `.debug_abbrev`, or its first refusal
 abbrev pub table_of : List ℕ → ℕ → Result (List Declaration) AbbrevFault

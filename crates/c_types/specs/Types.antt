@@ -15,18 +15,18 @@ use Rattle.entry_tree.specs.Walks.{entries_of}
 use Rattle.entry_tree.specs.declared.unit.Unit.{Unit}
 use Rattle.entry_tree.specs.declared.roots.RootInfo.{RootInfo}
 use Rattle.entry_tree.specs.declared.fault.WalkFault.{WalkFault}
-use Rattle.c_types.specs.declared.source.SourceType.{SourceType}
-use Rattle.c_types.specs.declared.source.Target.{Target}
-use Rattle.c_types.specs.declared.source.UnitTypes.{UnitTypes}
-use Rattle.c_types.specs.declared.fault.TypeFault.{TypeFault}
-use Rattle.c_types.specs.declared.fault.TypeFault.TheVariants.{Abbrev, Walk, Memory}
-use Rattle.c_types.specs.Scopes.{Scope, scope_of}
-use Rattle.c_types.specs.Faults.{least}
-use Rattle.c_types.specs.Children.{children_of}
-use Rattle.c_types.specs.Labels.{Row}
-use Rattle.c_types.specs.Parts.{some_tagged}
-use Rattle.c_types.specs.BaseTypes.{base_row, unspecified_row}
-use Rattle.c_types.specs.References.{atomic_name, reference_row, typedef_row}
+use Rattle.type_attributes.specs.declared.source.SourceType.{SourceType}
+use Rattle.type_attributes.specs.declared.source.Target.{Target}
+use Rattle.type_attributes.specs.declared.source.UnitTypes.{UnitTypes}
+use Rattle.type_attributes.specs.declared.fault.TypeFault.{TypeFault}
+use Rattle.type_attributes.specs.declared.fault.TypeFault.TheVariants.{Abbrev, Walk, Memory}
+use Rattle.type_attributes.specs.Scopes.{Scope, scope_of}
+use Rattle.type_attributes.specs.Faults.{least}
+use Rattle.type_attributes.specs.Children.{children_of}
+use Rattle.type_attributes.specs.Labels.{Row}
+use Rattle.type_attributes.specs.Parts.{some_tagged}
+use Rattle.type_attributes.specs.BaseTypes.{base_row, unspecified_row}
+use Rattle.type_attributes.specs.References.{atomic_name, reference_row, typedef_row}
 use Rattle.c_types.specs.Pointers.{pointer_row, pointed_in, is_tag_entry, tag_made, annotation_refused}
 use Rattle.c_types.specs.Arrays.{array_row}
 use Rattle.c_types.specs.Functions.{function_row}

@@ -3,30 +3,25 @@ ghost use Rattle.std.specs.Prelude.{◌≡◌, ◌*◌, ◌^◌, [], ◌∷◌, 
 ghost use Rattle.dwarf_forms.specs.Meanings.{sections};
 ghost use Rattle.entry_tree.specs.Reads.{value_with};
 ghost use Rattle.entry_tree.specs.Walks.{given_entry};
-ghost use Rattle.c_types.specs.Scopes.{scope};
+ghost use Rattle.type_attributes.specs.Scopes.{scope};
 ghost use Rattle.c_types.specs.Taking.{made_if};
 ghost use Rattle.c_types.specs.Arrays.{bound_in, length_of_count, length_of_bound, subrange_length, array_row};
 ghost use Rattle.c_types.specs.Lengths.{extended, is_too_long, elements_from};
 ghost use Rattle.c_types.specs.Opened.{array_made, array_refused, ComesTo};
 ghost use Rattle.c_types.specs.declared.open.Kept.TheVariants.{Array};
 
-use crate::attributes::{TYPE, attribute, is_given, type_target};
-use crate::fault::{TypeFault, note_if};
-use crate::number::{Number, by_sign};
 use crate::open::{Complete, OpenArray};
-use crate::scope::UnitCtx;
-use crate::source::{SourceType, Target, Targets};
 use c_model::{Label, Parts};
 use dw_base::Name;
+use dwarf_abbrev::constants::{DW_AT_count, DW_AT_type, DW_AT_upper_bound, DW_TAG_subrange_type};
 use dwarf_forms::constant_of;
 use entry_tree::Entry;
 use std::alloc::{AllocError, Global};
-
-const SUBRANGE: u64 = 0x21;
-
-const UPPER_BOUND: u64 = 0x2f;
-
-const COUNT: u64 = 0x37;
+use type_attributes::attributes::{attribute, is_given, type_target};
+use type_attributes::fault::{TypeFault, note_if};
+use type_attributes::number::{Number, by_sign};
+use type_attributes::scope::UnitCtx;
+use type_attributes::source::{SourceType, Target, Targets};
 
 /// The least length past 32 bits.
 const TOO_LONG: u64 = 4_294_967_296;
@@ -87,10 +82,10 @@ fn bound_length(bound: Option<Number>) -> Option<u64>
 fn length(entry: &Entry<'_, '_>) -> Option<u64>
     ensures { result ≡ subrange_length (given_entry entry.now) }
 {
-    if is_given(entry, COUNT) {
-        count_length(bound(entry, COUNT))
+    if is_given(entry, DW_AT_count) {
+        count_length(bound(entry, DW_AT_count))
     } else {
-        bound_length(bound(entry, UPPER_BOUND))
+        bound_length(bound(entry, DW_AT_upper_bound))
     }
 }
 
@@ -128,7 +123,7 @@ fn with_length(lengths: Lengths, length: Option<u64>) -> Lengths
 fn with_child(lengths: Lengths, child: &Entry<'_, '_>) -> Lengths
     ensures { result ≡ extended lengths (made_if 0x21 subrange_length (given_entry child.now)) }
 {
-    if child.tag == SUBRANGE {
+    if child.tag == DW_TAG_subrange_type {
         with_length(lengths, length(child))
     } else {
         lengths
@@ -205,7 +200,7 @@ pub(crate) fn complete_array<'a>(
 }
 
 /// An array begins.
-#[tactic(auto, using(crate::proofs::Noting::noted_append))]
+#[tactic(auto, using(type_attributes::proofs::Noting::noted_append))]
 pub(crate) fn open_array(ctx: &UnitCtx<'_, '_>, entry: &Entry<'_, '_>) -> OpenArray
     ensures { ComesTo (scope ctx.now) (Array result) (array_row (sections ctx.now.form) (given_entry entry.now)) }
 {
@@ -213,7 +208,7 @@ pub(crate) fn open_array(ctx: &UnitCtx<'_, '_>, entry: &Entry<'_, '_>) -> OpenAr
     let target = type_target(&ctx.form, entry, &mut found);
     note_if(
         &mut found,
-        !is_given(entry, TYPE),
+        !is_given(entry, DW_AT_type),
         TypeFault::MissingType(entry.at),
     );
     OpenArray {

@@ -3,31 +3,27 @@ ghost use Rattle.std.specs.Prelude.{◌≡◌, ◌++◌, [], ◌∷◌, ◌||◌
 ghost use Rattle.dwarf_forms.specs.Values.{IsContext};
 ghost use Rattle.dwarf_forms.specs.Meanings.{Sections, sections, Fits64};
 ghost use Rattle.entry_tree.specs.Walks.{given_entry};
-ghost use Rattle.c_types.specs.Scopes.{scope};
-ghost use Rattle.c_types.specs.Faults.{noted};
-ghost use Rattle.c_types.specs.Labels.{is_empty};
-ghost use Rattle.c_types.specs.Attributes.{name_asked, name_in_full, flag_asked, is_set};
+ghost use Rattle.type_attributes.specs.Scopes.{scope};
+ghost use Rattle.type_attributes.specs.Faults.{noted};
+ghost use Rattle.type_attributes.specs.Labels.{is_empty};
+ghost use Rattle.type_attributes.specs.Attributes.{name_asked, name_in_full, flag_asked, is_set};
 ghost use Rattle.c_types.specs.Enumerations.{negative, is_negative, top, is_in_range, value_refused, power, residue, residue_in, enumerator_part, enumerator_refused, is_size, fits_size, enum_size_refused, enumeration_label, bare_row, enumeration_row};
 ghost use Rattle.c_types.specs.Opened.{enumeration_made, enumeration_refused, ComesTo, GathersEnumerator};
 ghost use Rattle.c_types.specs.declared.open.Kept.TheVariants.{Enumeration};
 
-use crate::attributes::{constant, name, signed_constant};
-use crate::base::BYTE_SIZE;
-use crate::fault::{TypeFault, join, note, note_if};
-use crate::labels::{MOST, given_size, is_unnamed, no_targets};
-use crate::number::{Number, by_sign};
 use crate::open::{Complete, OpenEnumeration};
-use crate::scope::UnitCtx;
-use crate::source::SourceType;
 use c_model::{Label, Part, Parts};
 use dw_base::Name;
+use dwarf_abbrev::constants::{DW_AT_byte_size, DW_AT_const_value, DW_TAG_enumerator};
 use dwarf_forms::FormCtx;
 use entry_tree::Entry;
 use std::alloc::{AllocError, Global};
-
-const CONST_VALUE: u64 = 0x1c;
-
-const ENUMERATOR: u64 = 0x28;
+use type_attributes::attributes::{constant, name, signed_constant};
+use type_attributes::fault::{TypeFault, join, note, note_if};
+use type_attributes::labels::{MOST, given_size, is_unnamed, no_targets};
+use type_attributes::number::{Number, by_sign};
+use type_attributes::scope::UnitCtx;
+use type_attributes::source::SourceType;
 
 fn is_below_zero(value: Option<Number>) -> bool
     ensures { result ≡ negative value }
@@ -110,7 +106,7 @@ fn given_residue(wide: bool, value: Option<Number>) -> u64
 }
 
 /// An enumerator of an open enumeration.
-#[tactic(auto, using(crate::proofs::Noting::noted_append, crate::proofs::Joining::joined_noted))]
+#[tactic(auto, using(type_attributes::proofs::Noting::noted_append, crate::proofs::Joining::joined_noted))]
 fn meet_enumerator<'a>(
     ctx: &FormCtx<'a>,
     enumerator: &Entry<'_, 'a>,
@@ -135,7 +131,7 @@ fn meet_enumerator<'a>(
         is_unnamed(&name),
         TypeFault::MissingName(enumerator.at),
     );
-    let value = signed_constant(enumerator, CONST_VALUE, &mut found);
+    let value = signed_constant(enumerator, DW_AT_const_value, &mut found);
     let wide = parent.wide;
     parent.unsigned = join(parent.unsigned, found);
     note_value(&mut parent.unsigned, enumerator.at, wide, false, value);
@@ -159,7 +155,7 @@ pub(crate) fn meet_enumeration<'a>(
     requires { IsContext ctx.now }
     ensures { OnOk result (GathersEnumerator (sections ctx.now) (given_entry child.now) parent.old parent.new) }
 {
-    if child.tag == ENUMERATOR {
+    if child.tag == DW_TAG_enumerator {
         return meet_enumerator(ctx, child, parent);
     }
     Ok(())
@@ -259,7 +255,7 @@ pub(crate) fn complete_enumeration<'a>(alloc: Global, whole: OpenEnumeration<'a>
 }
 
 /// An enumeration begins that isn't declared alone; whether it is, was asked before.
-#[tactic(auto, using(crate::proofs::Noting::noted_append))]
+#[tactic(auto, using(type_attributes::proofs::Noting::noted_append))]
 pub(crate) fn open_enumeration<'a>(
     alloc: Global,
     ctx: &UnitCtx<'_, 'a>,
@@ -274,7 +270,7 @@ pub(crate) fn open_enumeration<'a>(
     let mut bare = declared;
     let name = name(&ctx.form, entry, &mut bare);
     let mut found = bare;
-    let size = constant(entry, BYTE_SIZE, &mut found);
+    let size = constant(entry, DW_AT_byte_size, &mut found);
     note_enum_size(&mut found, entry.at, size);
     let size = given_size(size);
     OpenEnumeration {
@@ -292,7 +288,7 @@ pub(crate) fn open_enumeration<'a>(
 }
 
 /// The type of an enumeration that is declared alone.
-#[tactic(auto, using(crate::proofs::Noting::noted_append))]
+#[tactic(auto, using(type_attributes::proofs::Noting::noted_append))]
 pub(crate) fn declared_enumeration<'a>(
     alloc: Global,
     ctx: &FormCtx<'a>,

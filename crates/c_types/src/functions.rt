@@ -3,30 +3,27 @@ ghost use Rattle.std.specs.Prelude.{◌≡◌, ◌++◌, [], ◌∷◌, ◌||◌
 ghost use Rattle.dwarf_forms.specs.Values.{IsContext};
 ghost use Rattle.dwarf_forms.specs.Meanings.{Sections, sections};
 ghost use Rattle.entry_tree.specs.Walks.{given_entry};
-ghost use Rattle.c_types.specs.Scopes.{scope};
-ghost use Rattle.c_types.specs.Faults.{noted};
+ghost use Rattle.type_attributes.specs.Scopes.{scope};
+ghost use Rattle.type_attributes.specs.Faults.{noted};
 ghost use Rattle.c_types.specs.Functions.{parameter_part, parameter_target, parameter_refused, rest_part, rest_target, function_row};
 ghost use Rattle.c_types.specs.Opened.{function_made, function_refused, ComesTo, GathersParameter};
 ghost use Rattle.c_types.specs.declared.open.Kept.TheVariants.{Function};
 
-use crate::attributes::{TYPE, is_given, name, type_target};
-use crate::fault::{TypeFault, note_if};
-use crate::labels::MOST;
 use crate::open::{Complete, OpenFunction};
-use crate::scope::UnitCtx;
-use crate::source::{SourceType, Target, Targets};
 use c_model::{Label, Part, Parts};
 use dw_base::Name;
+use dwarf_abbrev::constants::{DW_AT_type, DW_TAG_formal_parameter, DW_TAG_unspecified_parameters};
 use dwarf_forms::FormCtx;
 use entry_tree::Entry;
 use std::alloc::{AllocError, Global};
-
-const PARAMETER: u64 = 0x05;
-
-const UNSPECIFIED_PARAMETERS: u64 = 0x18;
+use type_attributes::attributes::{is_given, name, type_target};
+use type_attributes::fault::{TypeFault, note_if};
+use type_attributes::labels::MOST;
+use type_attributes::scope::UnitCtx;
+use type_attributes::source::{SourceType, Target, Targets};
 
 /// A parameter of an open subroutine type.
-#[tactic(auto, using(crate::proofs::Noting::noted_append))]
+#[tactic(auto, using(type_attributes::proofs::Noting::noted_append))]
 fn meet_parameter<'a>(
     ctx: &FormCtx<'a>,
     child: &Entry<'_, 'a>,
@@ -43,7 +40,7 @@ fn meet_parameter<'a>(
     let target = type_target(ctx, child, &mut parent.least);
     note_if(
         &mut parent.least,
-        !is_given(child, TYPE),
+        !is_given(child, DW_AT_type),
         TypeFault::MissingType(child.at),
     );
     parent.parts.push(Part { name, value: 0 })?;
@@ -60,10 +57,10 @@ pub(crate) fn meet_function<'a>(
     requires { IsContext ctx.now }
     ensures { OnOk result (GathersParameter (sections ctx.now) (given_entry child.now) parent.old parent.new) }
 {
-    if child.tag == PARAMETER {
+    if child.tag == DW_TAG_formal_parameter {
         return meet_parameter(ctx, child, parent);
     }
-    if child.tag == UNSPECIFIED_PARAMETERS {
+    if child.tag == DW_TAG_unspecified_parameters {
         parent.variadic = true;
     }
     Ok(())

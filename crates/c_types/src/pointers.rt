@@ -4,23 +4,23 @@ ghost use Rattle.std.specs.Str.{bytes_eq};
 ghost use Rattle.dwarf_forms.specs.Values.{IsContext};
 ghost use Rattle.dwarf_forms.specs.Meanings.{Sections, sections};
 ghost use Rattle.entry_tree.specs.Walks.{given_entry};
-ghost use Rattle.c_types.specs.Faults.{noted};
-ghost use Rattle.c_types.specs.Attributes.{name_asked, name_in_full};
+ghost use Rattle.type_attributes.specs.Faults.{noted};
+ghost use Rattle.type_attributes.specs.Attributes.{name_asked, name_in_full};
 ghost use Rattle.c_types.specs.Pointers.{is_type_tag, tag_asked, tag_refused, annotation_refused, tag_in};
 ghost use Rattle.c_types.specs.Opened.{pointer_by, pointer_made};
 ghost use Rattle.c_types.specs.Walking.{AreNested, AreAbove, pointer_in, pointed_at};
 
-use crate::attributes::{name, text};
-use crate::fault::{TypeFault, note_if};
-use crate::labels::{is_unnamed, make_label, one_target};
 use crate::open::{Complete, Kept, Open, OpenPointer};
-use crate::source::{SourceType, Target};
-use crate::tags::DW_TAG_GNU_annotation;
 use dw_base::Name;
 use dwarf_abbrev::constants::DW_AT_const_value;
 use dwarf_forms::FormCtx;
 use entry_tree::Entry;
 use std::alloc::{AllocError, Global};
+use type_attributes::attributes::{name, text};
+use type_attributes::fault::{TypeFault, note_if};
+use type_attributes::labels::{is_unnamed, make_label, one_target};
+use type_attributes::source::{SourceType, Target};
+use type_attributes::tags::DW_TAG_GNU_annotation;
 
 /// The kinds of BTF that pointers and their tags are.
 pub(crate) const BTF_KIND_PTR: u8 = 2;
@@ -92,7 +92,7 @@ fn stands_in_pointer(opens: &[Open<'_>], depth: u32) -> bool
 }
 
 /// The tag of an annotation under a pointer, where its name is that of type tags.
-#[tactic(auto, using(crate::proofs::Noting::noted_append))]
+#[tactic(auto, using(type_attributes::proofs::Noting::noted_append))]
 fn read_tag<'a>(
     ctx: &FormCtx<'a>,
     entry: &Entry<'_, 'a>,

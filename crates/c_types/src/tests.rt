@@ -6,8 +6,6 @@ mod refusals;
 mod type_tags;
 mod worked;
 
-use crate::fault::TypeFault;
-use crate::source::{SourceType, Target, UnitTypes};
 use crate::unit::types_of_unit;
 use dwarf_forms::FormFault;
 use elf_sections::Image;
@@ -15,6 +13,8 @@ use entry_tree::units;
 use std::alloc::{AllocError, Global};
 use std::process::Abort;
 use std::test::Fail;
+use type_attributes::fault::TypeFault;
+use type_attributes::source::{SourceType, Target, UnitTypes};
 
 /// The abbreviations of all cases: the code, the tag, children or none, attributes and forms.
 const ABBREVIATIONS: &[u8] = &[

@@ -6,14 +6,14 @@ use Rattle.dwarf_abbrev.specs.Declarations.{Declaration}
 use Rattle.dwarf_forms.specs.Meanings.{Sections}
 use Rattle.entry_tree.specs.Items.{Given, Coming}
 use Rattle.entry_tree.specs.Walks.{entries_of}
-use Rattle.c_types.specs.declared.fault.TypeFault.{TypeFault}
-use Rattle.c_types.specs.declared.source.SourceType.{SourceType}
-use Rattle.c_types.specs.Attributes.{Asked, name_asked, name_in_full, flag_asked, is_set}
-use Rattle.c_types.specs.Children.{children_of}
+use Rattle.type_attributes.specs.declared.fault.TypeFault.{TypeFault}
+use Rattle.type_attributes.specs.declared.source.SourceType.{SourceType}
+use Rattle.type_attributes.specs.Attributes.{Asked, name_asked, name_in_full, flag_asked, is_set}
+use Rattle.type_attributes.specs.Children.{children_of}
 use Rattle.c_types.specs.Formed.{IsFormed, AreFormed}
 use Rattle.c_types.specs.Functions.{function_row}
-use Rattle.c_types.specs.Labels.{is_empty}
-use Rattle.c_types.specs.Scopes.{scope_of}
+use Rattle.type_attributes.specs.Labels.{is_empty}
+use Rattle.type_attributes.specs.Scopes.{scope_of}
 use Rattle.c_types.proofs.Formed.Children.{children_all}
 use Rattle.c_types.proofs.Formed.Functions.{function_row_formed}
 use Rattle.c_types.proofs.Formed.Names.{IsNamedCleanly, name_clean}

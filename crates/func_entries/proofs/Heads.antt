@@ -3,15 +3,15 @@ use Rattle.std.proofs.Common.{◌≡◌, ℕ, ◌==◌, ◌&&◌, ◌||◌, not,
 use Rattle.std.proofs.lemmas.Option.{none-some, same_Some}
 use Rattle.dwarf_forms.specs.Meanings.{Sections}
 use Rattle.entry_tree.specs.Items.{Given}
-use Rattle.c_types.specs.declared.fault.TypeFault.{TypeFault}
-use Rattle.c_types.specs.Faults.{first_of, noted, joined}
-use Rattle.c_types.specs.declared.source.SourceType.{SourceType}
-use Rattle.c_types.specs.Attributes.{Asked, name_asked, name_in_full, flag_asked, is_set}
-use Rattle.c_types.specs.Children.{children_of}
+use Rattle.type_attributes.specs.declared.fault.TypeFault.{TypeFault}
+use Rattle.type_attributes.specs.Faults.{first_of, noted, joined}
+use Rattle.type_attributes.specs.declared.source.SourceType.{SourceType}
+use Rattle.type_attributes.specs.Attributes.{Asked, name_asked, name_in_full, flag_asked, is_set}
+use Rattle.type_attributes.specs.Children.{children_of}
 use Rattle.c_types.specs.Functions.{function_row}
-use Rattle.c_types.specs.Labels.{is_empty}
+use Rattle.type_attributes.specs.Labels.{is_empty}
 use Rattle.c_types.proofs.Joining.{joined_noted}
-use Rattle.c_types.proofs.Noting.{noted_append}
+use Rattle.type_attributes.proofs.Noting.{noted_append}
 use Rattle.func_entries.specs.declared.entries.FuncEntry.{FuncEntry}
 use Rattle.func_entries.specs.declared.walking.Head.{Head}
 use Rattle.func_entries.specs.Functions.{some_refused, has_name, is_function, function_refused, functions_of, refusals_of}

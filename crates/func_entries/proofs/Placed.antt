@@ -3,17 +3,17 @@ use Rattle.std.proofs.Common.{◌≡◌, ◌≢◌, ℕ, ◌-◌, ◌==◌, ◌|
 use Rattle.std.proofs.lemmas.Bool.{ne_eqb}
 use Rattle.dwarf_forms.specs.Meanings.{Sections}
 use Rattle.entry_tree.specs.Items.{Given}
-use Rattle.c_types.specs.declared.source.SourceType.{SourceType}
-use Rattle.c_types.specs.declared.source.Target.{Target}
-use Rattle.c_types.specs.BaseTypes.{base_row, unspecified_row}
-use Rattle.c_types.specs.References.{atomic_name, reference_row, typedef_row}
-use Rattle.c_types.specs.Children.{children_of}
-use Rattle.c_types.specs.Labels.{Row}
+use Rattle.type_attributes.specs.declared.source.SourceType.{SourceType}
+use Rattle.type_attributes.specs.declared.source.Target.{Target}
+use Rattle.type_attributes.specs.BaseTypes.{base_row, unspecified_row}
+use Rattle.type_attributes.specs.References.{atomic_name, reference_row, typedef_row}
+use Rattle.type_attributes.specs.Children.{children_of}
+use Rattle.type_attributes.specs.Labels.{Row}
 use Rattle.c_types.specs.Arrays.{array_row}
 use Rattle.c_types.specs.Enumerations.{enumeration_row}
 use Rattle.c_types.specs.Functions.{function_row}
 use Rattle.c_types.specs.Pointers.{pointer_row, is_type_tag, tag_type}
-use Rattle.c_types.specs.Scopes.{Scope}
+use Rattle.type_attributes.specs.Scopes.{Scope}
 use Rattle.c_types.specs.Structures.{structure_row}
 use Rattle.c_types.specs.Types.{plain_row_of, row_of, made_in, listed, made_of}
 use Rattle.c_types.proofs.Standing.{TypeStandsAt, made_stands}

@@ -6,16 +6,16 @@ use Rattle.dwarf_forms.specs.Meanings.{Sections}
 use Rattle.entry_tree.specs.Items.{Given, Coming, with_first}
 use Rattle.entry_tree.specs.declared.fault.WalkFault.{WalkFault}
 use Rattle.c_types.specs.declared.open.Open.{Open}
-use Rattle.c_types.specs.declared.source.SourceType.{SourceType}
-use Rattle.c_types.specs.declared.source.Target.{Target}
-use Rattle.c_types.specs.declared.fault.TypeFault.{TypeFault}
-use Rattle.c_types.specs.declared.fault.TypeFault.TheVariants.{Memory}
-use Rattle.c_types.specs.Faults.{noted}
-use Rattle.c_types.specs.Attributes.{has}
+use Rattle.type_attributes.specs.declared.source.SourceType.{SourceType}
+use Rattle.type_attributes.specs.declared.source.Target.{Target}
+use Rattle.type_attributes.specs.declared.fault.TypeFault.{TypeFault}
+use Rattle.type_attributes.specs.declared.fault.TypeFault.TheVariants.{Memory}
+use Rattle.type_attributes.specs.Faults.{noted}
+use Rattle.type_attributes.specs.Attributes.{has}
 use Rattle.c_types.specs.Parents.{Descends}
-use Rattle.c_types.specs.Positions.{is_little, needs_extents}
-use Rattle.c_types.specs.Parts.{some_tagged}
-use Rattle.c_types.specs.Scopes.{Scope}
+use Rattle.type_attributes.specs.Positions.{is_little, needs_extents}
+use Rattle.type_attributes.specs.Parts.{some_tagged}
+use Rattle.type_attributes.specs.Scopes.{Scope}
 use Rattle.c_types.specs.Pointers.{own_of_pointer, own_target, pointed_in}
 use Rattle.c_types.specs.Types.{listed, made_of, types_of}
 use Rattle.c_types.specs.Walking.{filled, least_of, pointed_at, AreAbove, IsShallow}

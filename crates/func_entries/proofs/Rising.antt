@@ -8,9 +8,9 @@ use Rattle.entry_tree.specs.Items.{Given, Coming}
 use Rattle.entry_tree.specs.Rising.{Rises, StandIn}
 use Rattle.entry_tree.specs.Walks.{entries_of}
 use Rattle.entry_tree.proofs.Rising.{entries_placed}
-use Rattle.c_types.specs.declared.source.SourceType.{SourceType}
-use Rattle.c_types.specs.Scopes.{scope_of}
-use Rattle.c_types.specs.Ordered.{AreInOrder, LieIn}
+use Rattle.type_attributes.specs.declared.source.SourceType.{SourceType}
+use Rattle.type_attributes.specs.Scopes.{scope_of}
+use Rattle.type_attributes.specs.Ordered.{AreInOrder, LieIn}
 use Rattle.func_entries.specs.declared.entries.FuncEntry.{FuncEntry}
 use Rattle.func_entries.specs.declared.entries.UnitFuncs.{UnitFuncs}
 use Rattle.func_entries.specs.Functions.{is_function, function_at, functions_of}

@@ -2,11 +2,11 @@
 use Rattle.std.specs.Prelude.{◌==◌, ◌&&◌, ◌||◌, not, Bool, true, false, ℕ, List, [], ◌∷◌, ◌++◌, if◌then◌else◌}
 use Rattle.dwarf_forms.specs.Meanings.{Sections}
 use Rattle.entry_tree.specs.Items.{Given}
-use Rattle.c_types.specs.declared.fault.TypeFault.{TypeFault}
-use Rattle.c_types.specs.Attributes.{Asked, name_asked, name_in_full, flag_asked, is_set}
-use Rattle.c_types.specs.Children.{children_of}
+use Rattle.type_attributes.specs.declared.fault.TypeFault.{TypeFault}
+use Rattle.type_attributes.specs.Attributes.{Asked, name_asked, name_in_full, flag_asked, is_set}
+use Rattle.type_attributes.specs.Children.{children_of}
 use Rattle.c_types.specs.Functions.{function_row}
-use Rattle.c_types.specs.Labels.{is_empty}
+use Rattle.type_attributes.specs.Labels.{is_empty}
 use Rattle.func_entries.specs.declared.entries.FuncEntry.{FuncEntry}
 
 abbrev pub some_refused : List TypeFault → Bool

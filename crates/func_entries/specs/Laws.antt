@@ -2,10 +2,10 @@
 use Rattle.std.specs.Prelude.{◌≡◌, ◌<◌, ℕ, List, length, map, All, Ok}
 use Rattle.c_model.specs.Kinds.{HasNoNul}
 use Rattle.entry_tree.specs.declared.unit.Unit.{Unit}
-use Rattle.c_types.specs.declared.source.SourceType.{SourceType}
-use Rattle.c_types.specs.declared.source.UnitTypes.{UnitTypes}
+use Rattle.type_attributes.specs.declared.source.SourceType.{SourceType}
+use Rattle.type_attributes.specs.declared.source.UnitTypes.{UnitTypes}
 use Rattle.c_types.specs.Formed.{AreFormed}
-use Rattle.c_types.specs.Ordered.{AreInOrder, LieIn}
+use Rattle.type_attributes.specs.Ordered.{AreInOrder, LieIn}
 use Rattle.c_types.specs.Types.{types_of_unit_of}
 use Rattle.func_entries.specs.declared.entries.FuncEntry.{FuncEntry}
 use Rattle.func_entries.specs.declared.entries.UnitFuncs.{UnitFuncs}

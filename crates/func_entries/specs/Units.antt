@@ -11,12 +11,12 @@ use Rattle.entry_tree.specs.Walks.{entries_of}
 use Rattle.entry_tree.specs.declared.unit.Unit.{Unit}
 use Rattle.entry_tree.specs.declared.roots.RootInfo.{RootInfo}
 use Rattle.entry_tree.specs.declared.fault.WalkFault.{WalkFault}
-use Rattle.c_types.specs.declared.source.SourceType.{SourceType}
-use Rattle.c_types.specs.declared.fault.TypeFault.{TypeFault}
-use Rattle.c_types.specs.declared.fault.TypeFault.TheVariants.{Abbrev, Walk, Memory}
-use Rattle.c_types.specs.Faults.{least}
-use Rattle.c_types.specs.Parts.{some_tagged}
-use Rattle.c_types.specs.Scopes.{Scope, scope_of}
+use Rattle.type_attributes.specs.declared.source.SourceType.{SourceType}
+use Rattle.type_attributes.specs.declared.fault.TypeFault.{TypeFault}
+use Rattle.type_attributes.specs.declared.fault.TypeFault.TheVariants.{Abbrev, Walk, Memory}
+use Rattle.type_attributes.specs.Faults.{least}
+use Rattle.type_attributes.specs.Parts.{some_tagged}
+use Rattle.type_attributes.specs.Scopes.{Scope, scope_of}
 use Rattle.c_types.specs.Types.{types_of, is_passed_over}
 use Rattle.func_entries.specs.declared.entries.UnitFuncs.{UnitFuncs}
 use Rattle.func_entries.specs.Functions.{functions_of, refusals_of}

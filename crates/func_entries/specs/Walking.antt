@@ -3,13 +3,13 @@ use Rattle.std.specs.Prelude.{ℕ, ◌+◌, ◌<◌, ◌==◌, ◌&&◌, ◌||�
 use Rattle.std.specs.List.{zip}
 use Rattle.dwarf_forms.specs.Meanings.{Sections}
 use Rattle.entry_tree.specs.Items.{Given}
-use Rattle.c_types.specs.declared.fault.TypeFault.{TypeFault}
-use Rattle.c_types.specs.declared.source.SourceType.{SourceType}
-use Rattle.c_types.specs.Attributes.{name_asked, name_in_full, flag_asked, is_set}
-use Rattle.c_types.specs.Children.{children_of}
+use Rattle.type_attributes.specs.declared.fault.TypeFault.{TypeFault}
+use Rattle.type_attributes.specs.declared.source.SourceType.{SourceType}
+use Rattle.type_attributes.specs.Attributes.{name_asked, name_in_full, flag_asked, is_set}
+use Rattle.type_attributes.specs.Children.{children_of}
 use Rattle.c_types.specs.Functions.{function_row}
 use Rattle.c_types.specs.Pointers.{is_type_tag}
-use Rattle.c_types.specs.Scopes.{Scope}
+use Rattle.type_attributes.specs.Scopes.{Scope}
 use Rattle.func_entries.specs.declared.entries.FuncEntry.{FuncEntry}
 use Rattle.func_entries.specs.declared.walking.Head.{Head}
 use Rattle.func_entries.specs.Functions.{is_function, function_refused}

@@ -8,7 +8,7 @@ ghost use Rattle.func_entries.specs.Units.{after_root, functions_of_unit_of, Giv
 
 use crate::entries::{FuncEntries, Places, UnitFuncs};
 use crate::walking::read_functions;
-use c_types::scope::UnitCtx;
+use type_attributes::scope::UnitCtx;
 use c_types::unit::is_other;
 use c_types::{TypeFault, read_abbrevs};
 use dwarf_abbrev::Abbrevs;

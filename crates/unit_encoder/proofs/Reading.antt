@@ -1,8 +1,8 @@
 -- Units read one after the other, and by workers.
 use Rattle.std.proofs.Common.{◌≡◌, ◌+◌, ◌<◌, ◌≤◌, ◌++◌, ◌∷◌, [], ℕ, Bool, List, Result, Ok, Err, length, take, drop, get_or, refl, sym, ap, subst, ◌∙◌, arith, append_assoc, append-nil, length-append}
 use Rattle.std.proofs.lemmas.List.{take_more, take_all, drop_more, length-take-le}
-use Rattle.c_types.specs.declared.source.UnitTypes.{UnitTypes}
-use Rattle.c_types.specs.declared.fault.TypeFault.{TypeFault}
+use Rattle.type_attributes.specs.declared.source.UnitTypes.{UnitTypes}
+use Rattle.type_attributes.specs.declared.fault.TypeFault.{TypeFault}
 use Rattle.c_types.specs.Types.{types_of_unit_of}
 use Rattle.unit_encoder.specs.declared.fault.EncodeFault.{EncodeFault}
 use Rattle.unit_encoder.specs.declared.fault.EncodeFault.TheVariants.{Unit as UnitFault, NodesTooMany, TypeRefOut, Memory}

@@ -9,7 +9,7 @@ ghost use Rattle.unit_graph.specs.Sources.{Source, index_label, source_of, made_
 ghost use Rattle.unit_graph.specs.Links.{number_of, ref_of, refs_from};
 ghost use Rattle.unit_graph.specs.Numbers.{PlacesRise};
 ghost use Rattle.unit_encoder.specs.Held.{Stands, Finds, Holds};
-ghost use Rattle.c_types.specs.declared.source.SourceType.{SourceType};
+ghost use Rattle.type_attributes.specs.declared.source.SourceType.{SourceType};
 
 use c_model::{Label, Parts, Ref};
 use c_types::{SourceType, Target, Targets, UnitTypes};

@@ -12,9 +12,9 @@ use Rattle.c_model.specs.Graph.{Shape}
 use Rattle.c_model.specs.Kinds.{IsWellFormed}
 use Rattle.c_model.specs.Partition.{label_at, targets_at}
 use Rattle.c_model.specs.Forwards.{Tag, declared_tag, declaration_at, forward_at, HasFittingForwards}
-use Rattle.c_types.specs.declared.source.UnitTypes.{UnitTypes}
-use Rattle.c_types.specs.declared.source.Target.{Target}
-use Rattle.c_types.specs.declared.fault.TypeFault.{TypeFault}
+use Rattle.type_attributes.specs.declared.source.UnitTypes.{UnitTypes}
+use Rattle.type_attributes.specs.declared.source.Target.{Target}
+use Rattle.type_attributes.specs.declared.fault.TypeFault.{TypeFault}
 use Rattle.c_types.specs.Types.{types_of_unit_of}
 use Rattle.c_types.specs.Formed.{declaration_label, IsFormed, AreFormed}
 use Rattle.c_types.proofs.Formed.Kinds.{int_formed}

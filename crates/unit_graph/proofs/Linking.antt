@@ -3,7 +3,7 @@ use Rattle.std.proofs.Common.{◌≡◌, ℕ, ◌+◌, ◌<◌, ◌≤◌, List,
 use Rattle.std.proofs.lemmas.List.{drop_more, drop_all}
 use Rattle.c_model.specs.declared.graph.CType.{CType}
 use Rattle.c_model.specs.declared.graph.Ref.{Ref}
-use Rattle.c_types.specs.declared.source.Target.{Target}
+use Rattle.type_attributes.specs.declared.source.Target.{Target}
 use Rattle.unit_graph.specs.declared.links.Out.{Out}
 use Rattle.unit_graph.specs.Links.{ref_of, with_ref, refs_from, with_refs, nodes_from}
 use Rattle.unit_graph.specs.Sources.{Source}

@@ -4,12 +4,12 @@ use Rattle.std.specs.List.{slice_get}
 use Rattle.std.specs.Option.{option_map}
 use Rattle.std.proofs.lemmas.Bool.{cases_lt}
 use Rattle.std.proofs.lemmas.Option.{slice_get_within, slice_get-map, get_or_from_slice_get, none-some, same_Some}
-use Rattle.c_types.specs.declared.source.SourceType.{SourceType}
-use Rattle.c_types.specs.declared.source.UnitTypes.{UnitTypes}
-use Rattle.c_types.specs.declared.fault.TypeFault.{TypeFault}
+use Rattle.type_attributes.specs.declared.source.SourceType.{SourceType}
+use Rattle.type_attributes.specs.declared.source.UnitTypes.{UnitTypes}
+use Rattle.type_attributes.specs.declared.fault.TypeFault.{TypeFault}
 use Rattle.c_types.specs.Types.{types_of_unit_of}
 use Rattle.c_types.specs.Laws.{TypesRise}
-use Rattle.c_types.specs.Ordered.{AreInOrder, LieIn}
+use Rattle.type_attributes.specs.Ordered.{AreInOrder, LieIn}
 use Rattle.unit_graph.specs.Sources.{FileUnit, Source, UnitRefusal, source_of, made_sources, index_sources, sources_of, gathered}
 use Rattle.unit_graph.specs.Pieces.{Read, behind, read_before, reads, glued, glue, sources_from}
 use Rattle.unit_graph.specs.Apart.{AreApart}

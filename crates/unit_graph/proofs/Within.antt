@@ -8,8 +8,8 @@ use Rattle.c_model.specs.Graph.{IsBelow, RefersWithin}
 use Rattle.c_model.specs.declared.graph.CType.{CType}
 use Rattle.c_model.specs.declared.graph.Ref.{Ref}
 use Rattle.c_model.specs.declared.graph.Ref.TheVariants.{Void, Node}
-use Rattle.c_types.specs.declared.source.Target.{Target}
-use Rattle.c_types.specs.declared.source.Target.TheVariants as targets
+use Rattle.type_attributes.specs.declared.source.Target.{Target}
+use Rattle.type_attributes.specs.declared.source.Target.TheVariants as targets
 use Rattle.unit_graph.specs.declared.links.Out.{Out}
 use Rattle.unit_graph.specs.Links.{is_at, or_here, number_from, number_of, linked_to, ref_of, with_ref, refs_from, with_refs, nodes_from}
 use Rattle.unit_graph.specs.Sources.{Source}

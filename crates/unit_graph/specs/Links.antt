@@ -4,8 +4,8 @@ use Rattle.std.specs.Global.{Global}
 use Rattle.c_model.specs.declared.graph.CType.{CType}
 use Rattle.c_model.specs.declared.graph.Ref.{Ref}
 use Rattle.c_model.specs.declared.graph.Ref.TheVariants.{Void, Node}
-use Rattle.c_types.specs.declared.source.Target.{Target}
-use Rattle.c_types.specs.declared.source.Target.TheVariants as targets
+use Rattle.type_attributes.specs.declared.source.Target.{Target}
+use Rattle.type_attributes.specs.declared.source.Target.TheVariants as targets
 use Rattle.unit_graph.specs.declared.links.Out.{Out}
 use Rattle.unit_graph.specs.Sources.{Source, FileUnit, gathered}
 

@@ -1,7 +1,7 @@
 -- What reading some units one after the other gives, before their nodes are put behind one another: the types of each, or the fault of the first that is refused.
 use Rattle.std.specs.Prelude.{ℕ, ◌+◌, List, [], ◌∷◌, ◌++◌, length, Result, Ok, Err}
-use Rattle.c_types.specs.declared.source.UnitTypes.{UnitTypes}
-use Rattle.c_types.specs.declared.fault.TypeFault.{TypeFault}
+use Rattle.type_attributes.specs.declared.source.UnitTypes.{UnitTypes}
+use Rattle.type_attributes.specs.declared.fault.TypeFault.{TypeFault}
 use Rattle.c_types.specs.Types.{types_of_unit_of}
 use Rattle.unit_graph.specs.Sources.{FileUnit, Source, UnitRefusal, sources_of}
 

@@ -1,10 +1,10 @@
 -- The nodes of all units in order, before they are linked: the types of each unit that is read, and behind them the type of the indices of its arrays.
 use Rattle.std.specs.Prelude.{ℕ, ◌+◌, ◌<◌, ◌^◌, Bool, false, List, [], ◌∷◌, ◌++◌, length, map, Option, None, Some, Result, Ok, Err, if◌then◌else◌}
 use Rattle.c_model.specs.declared.label.Label.{Label}
-use Rattle.c_types.specs.declared.source.SourceType.{SourceType}
-use Rattle.c_types.specs.declared.source.Target.{Target}
-use Rattle.c_types.specs.declared.source.UnitTypes.{UnitTypes}
-use Rattle.c_types.specs.declared.fault.TypeFault.{TypeFault}
+use Rattle.type_attributes.specs.declared.source.SourceType.{SourceType}
+use Rattle.type_attributes.specs.declared.source.Target.{Target}
+use Rattle.type_attributes.specs.declared.source.UnitTypes.{UnitTypes}
+use Rattle.type_attributes.specs.declared.fault.TypeFault.{TypeFault}
 use Rattle.c_types.specs.Types.{types_of_unit_of}
 use Rattle.entry_tree.specs.Contexts.{IsUnitOf}
 use Rattle.entry_tree.specs.declared.unit.Unit.{Unit}

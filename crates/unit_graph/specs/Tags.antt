@@ -8,8 +8,8 @@ use Rattle.dwarf_abbrev.specs.declared.fault.AbbrevFault.{AbbrevFault}
 use Rattle.entry_tree.specs.Items.{Given}
 use Rattle.entry_tree.specs.Walks.{entries_of}
 use Rattle.c_types.specs.Types.{types_of_unit_of}
-use Rattle.c_types.specs.declared.source.UnitTypes.{UnitTypes}
-use Rattle.c_types.specs.declared.fault.TypeFault.{TypeFault}
+use Rattle.type_attributes.specs.declared.source.UnitTypes.{UnitTypes}
+use Rattle.type_attributes.specs.declared.fault.TypeFault.{TypeFault}
 use Rattle.unit_graph.specs.Sources.{FileUnit}
 
 -- the tag of the entry at a place: of a unit of the file that is read, and 0 where none begins there

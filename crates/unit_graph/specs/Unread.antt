@@ -3,8 +3,8 @@ use Rattle.std.specs.Prelude.{ℕ, ◌&&◌, nat_le, nat_lt, Bool, false, Option
 use Rattle.entry_tree.specs.declared.unit.Unit.{Unit}
 use Rattle.dwarf_abbrev.specs.declared.fault.AbbrevFault.{AbbrevFault}
 use Rattle.dwarf_abbrev.specs.declared.fault.AbbrevFault.TheVariants.{Memory as AbbrevMemory}
-use Rattle.c_types.specs.declared.fault.TypeFault.{TypeFault}
-use Rattle.c_types.specs.declared.fault.TypeFault.TheVariants.{Memory as TypeMemory}
+use Rattle.type_attributes.specs.declared.fault.TypeFault.{TypeFault}
+use Rattle.type_attributes.specs.declared.fault.TypeFault.TheVariants.{Memory as TypeMemory}
 use Rattle.std.specs.declared.alloc.AllocError.{AllocError}
 
 abbrev pub unread_by : TypeFault → Result Bool AllocError

@@ -3,8 +3,8 @@ use Rattle.std.proofs.Common.{◌≡◌, ℕ, ◌-◌, ◌<◌, ◌==◌, ◌||�
 use Rattle.std.specs.Prelude.{All}
 use Rattle.std.proofs.lemmas.List.Elements.{All-nil, All-cons, All-head, All-tail}
 use Rattle.entry_tree.specs.Items.{Given}
-use Rattle.c_types.specs.Children.{children_of, tagged}
-use Rattle.c_types.specs.Parts.{some_tagged}
+use Rattle.type_attributes.specs.Children.{children_of, tagged}
+use Rattle.type_attributes.specs.Parts.{some_tagged}
 
 child : (P : Given → Type 0) (e : Given) (rest : List Given) (stop one : Bool) → P e → All P rest → All P (if stop then [] else (if one then e ∷ rest else rest))
 child P e rest true one p h = All-nil P

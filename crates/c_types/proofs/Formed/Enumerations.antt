@@ -6,12 +6,12 @@ use Rattle.std.proofs.lemmas.List.{length-map}
 use Rattle.c_model.specs.Kinds.{PartRow, HasNoNul}
 use Rattle.dwarf_forms.specs.Meanings.{Sections}
 use Rattle.entry_tree.specs.Items.{Given}
-use Rattle.c_types.specs.declared.number.Number.{Number}
-use Rattle.c_types.specs.declared.number.Number.TheVariants.{Natural, Negative}
-use Rattle.c_types.specs.Attributes.{name_asked, name_in_full, constant_asked, number_said, flag_asked, is_set}
-use Rattle.c_types.specs.Children.{tagged}
-use Rattle.c_types.specs.Labels.{is_empty, size_in}
-use Rattle.c_types.specs.Parts.{refused_by, some_is, some_tagged}
+use Rattle.type_attributes.specs.declared.number.Number.{Number}
+use Rattle.type_attributes.specs.declared.number.Number.TheVariants.{Natural, Negative}
+use Rattle.type_attributes.specs.Attributes.{name_asked, name_in_full, constant_asked, number_said, flag_asked, is_set}
+use Rattle.type_attributes.specs.Children.{tagged}
+use Rattle.type_attributes.specs.Labels.{is_empty, size_in}
+use Rattle.type_attributes.specs.Parts.{refused_by, some_is, some_tagged}
 use Rattle.c_types.specs.Enumerations.{is_negative, residue, residue_in, enumerator_part, enumerator_refused, enum_size_refused, enumerated_row, bare_row, is_bare, enumeration_row}
 use Rattle.c_types.proofs.Formed.Refused.{second_empty}
 use Rattle.c_types.proofs.Formed.Names.{IsNamedCleanly, name_clean}

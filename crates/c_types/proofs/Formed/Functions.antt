@@ -8,11 +8,11 @@ use Rattle.c_model.specs.declared.label.Part.{Part}
 use Rattle.c_model.specs.Kinds.{PartRow, HasNoNul, FitsPart, FitsParts, parameters}
 use Rattle.dwarf_forms.specs.Meanings.{Sections}
 use Rattle.entry_tree.specs.Items.{Given}
-use Rattle.c_types.specs.declared.fault.TypeFault.TheVariants.{TooMany}
-use Rattle.c_types.specs.Faults.{refuse_if}
-use Rattle.c_types.specs.Attributes.{name_asked, name_in_full, target_asked}
-use Rattle.c_types.specs.Children.{tagged}
-use Rattle.c_types.specs.Parts.{part_of, refused_by, some_tagged, most}
+use Rattle.type_attributes.specs.declared.fault.TypeFault.TheVariants.{TooMany}
+use Rattle.type_attributes.specs.Faults.{refuse_if}
+use Rattle.type_attributes.specs.Attributes.{name_asked, name_in_full, target_asked}
+use Rattle.type_attributes.specs.Children.{tagged}
+use Rattle.type_attributes.specs.Parts.{part_of, refused_by, some_tagged, most}
 use Rattle.c_types.specs.Functions.{parameter_part, parameter_target, parameter_refused, rest_part, rest_target, function_parts, function_targets, function_row}
 use Rattle.c_types.proofs.Formed.Refused.{second_empty, not_refused}
 use Rattle.c_types.proofs.Formed.Names.{IsNamedCleanly, name_clean}

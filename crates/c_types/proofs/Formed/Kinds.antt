@@ -8,7 +8,7 @@ use Rattle.c_model.specs.declared.label.Family.TheVariants.{Structure, Union, En
 use Rattle.c_model.specs.declared.graph.Ref.{Ref}
 use Rattle.c_model.specs.Kinds.{Row, row_of, plain_row, linked_row, sized_row, members, parameters, enumerators, word, HasNoNul, FitsParts, part_targets}
 use Rattle.c_model.specs.Forwards.{Tag, declared_tag}
-use Rattle.c_types.specs.Labels.{plain_label}
+use Rattle.type_attributes.specs.Labels.{plain_label}
 use Rattle.c_types.specs.Arrays.{array_label}
 use Rattle.c_types.specs.Functions.{function_label}
 use Rattle.c_types.specs.Structures.{forward_label, structure_label}

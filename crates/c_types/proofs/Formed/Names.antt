@@ -14,7 +14,7 @@ use Rattle.dwarf_forms.specs.Values.Plain.{number, text}
 use Rattle.dwarf_forms.specs.Meanings.{Sections, or_out, string_at, through, number_name, plain_name, name_in}
 use Rattle.entry_tree.specs.Items.{Given}
 use Rattle.entry_tree.specs.Reads.{value_with}
-use Rattle.c_types.specs.Attributes.{asked, text_asked, name_asked, name_in_full}
+use Rattle.type_attributes.specs.Attributes.{asked, text_asked, name_asked, name_in_full}
 
 -- a text that is an entry's own value has no NUL
 abbrev pub IsNamedCleanly : Given → Type 0

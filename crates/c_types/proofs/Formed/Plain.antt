@@ -7,13 +7,13 @@ use Rattle.c_model.specs.Kinds.{row_of, linked_row, HasNoNul}
 use Rattle.c_model.specs.Forwards.{Tag, declared_tag}
 use Rattle.dwarf_forms.specs.Meanings.{Sections}
 use Rattle.entry_tree.specs.Items.{Given}
-use Rattle.c_types.specs.declared.number.Number.{Number}
-use Rattle.c_types.specs.declared.base.Base.{Base}
-use Rattle.c_types.specs.declared.base.Base.TheVariants.{Int, Float, Opaque}
-use Rattle.c_types.specs.Attributes.{name_asked, name_in_full, constant_asked, number_said}
-use Rattle.c_types.specs.Labels.{Row, plain_label, word_of, size_in}
-use Rattle.c_types.specs.BaseTypes.{int_word, is_integer, is_float, base_of, code_in, is_whole, base_with, base_label, base_row, unspecified_row}
-use Rattle.c_types.specs.References.{atomic_name, reference_row, typedef_row}
+use Rattle.type_attributes.specs.declared.number.Number.{Number}
+use Rattle.type_attributes.specs.declared.base.Base.{Base}
+use Rattle.type_attributes.specs.declared.base.Base.TheVariants.{Int, Float, Opaque}
+use Rattle.type_attributes.specs.Attributes.{name_asked, name_in_full, constant_asked, number_said}
+use Rattle.type_attributes.specs.Labels.{Row, plain_label, word_of, size_in}
+use Rattle.type_attributes.specs.BaseTypes.{int_word, is_integer, is_float, base_of, code_in, is_whole, base_with, base_label, base_row, unspecified_row}
+use Rattle.type_attributes.specs.References.{atomic_name, reference_row, typedef_row}
 use Rattle.c_types.specs.Pointers.{pointer_row, tag_asked}
 use Rattle.c_types.specs.Types.{plain_row_of}
 use Rattle.c_types.specs.Arrays.{elements_of, elements_in, some_long, lengths_of, array_row}

@@ -1,7 +1,7 @@
 -- Where there is no first refusal, nothing is refused.
 use Rattle.std.proofs.Common.{◌≡◌, Bool, true, false, List, [], ◌∷◌, ◌++◌, None, Some, refl}
-use Rattle.c_types.specs.declared.fault.TypeFault.{TypeFault}
-use Rattle.c_types.specs.Faults.{first_of, noted, least, refuse_if}
+use Rattle.type_attributes.specs.declared.fault.TypeFault.{TypeFault}
+use Rattle.type_attributes.specs.Faults.{first_of, noted, least, refuse_if}
 
 once_noted : (f : TypeFault) (fs : List TypeFault) → noted (Some f) fs ≡ None → ⊥
 once_noted f [] e = cc

@@ -5,16 +5,16 @@ use Rattle.std.proofs.lemmas.Bool.{ltb-true, leb-true}
 use Rattle.std.proofs.lemmas.List.{length-map}
 use Rattle.c_model.specs.Kinds.{PartRow}
 use Rattle.entry_tree.specs.Items.{Given}
-use Rattle.c_types.specs.declared.number.Number.{Number}
-use Rattle.c_types.specs.declared.number.Number.TheVariants.{Natural, Negative}
-use Rattle.c_types.specs.declared.fault.TypeFault.{TypeFault}
-use Rattle.c_types.specs.Scopes.{Scope}
-use Rattle.c_types.specs.Numbers.{number_from}
-use Rattle.c_types.specs.Attributes.{name_asked, name_in_full, constant_asked, flag_asked, is_set}
-use Rattle.c_types.specs.Children.{tagged}
-use Rattle.c_types.specs.Labels.{Row, size_in, size_refused}
-use Rattle.c_types.specs.Parts.{refused_by}
-use Rattle.c_types.specs.Positions.{position_of}
+use Rattle.type_attributes.specs.declared.number.Number.{Number}
+use Rattle.type_attributes.specs.declared.number.Number.TheVariants.{Natural, Negative}
+use Rattle.type_attributes.specs.declared.fault.TypeFault.{TypeFault}
+use Rattle.type_attributes.specs.Scopes.{Scope}
+use Rattle.type_attributes.specs.Numbers.{number_from}
+use Rattle.type_attributes.specs.Attributes.{name_asked, name_in_full, constant_asked, flag_asked, is_set}
+use Rattle.type_attributes.specs.Children.{tagged}
+use Rattle.type_attributes.specs.Labels.{Row, size_in, size_refused}
+use Rattle.type_attributes.specs.Parts.{refused_by}
+use Rattle.type_attributes.specs.Positions.{position_of}
 use Rattle.c_types.specs.Structures.{or_zero, bits_of, bits_in, near, word_of, member_word, member_part, member_target, member_refused, has_fields, forward_row, defined_row, with_refused, structure_row}
 use Rattle.c_types.proofs.Formed.Refused.{second_empty}
 use Rattle.c_types.proofs.Formed.Names.{IsNamedCleanly, name_clean}

@@ -6,9 +6,9 @@ use Rattle.dwarf_abbrev.specs.Declarations.{Declaration}
 use Rattle.entry_tree.specs.Contexts.{within_of}
 use Rattle.entry_tree.specs.Walks.{entries_of}
 use Rattle.entry_tree.specs.declared.unit.Unit.{Unit}
-use Rattle.c_types.specs.declared.source.SourceType.{SourceType}
-use Rattle.c_types.specs.declared.source.UnitTypes.{UnitTypes}
-use Rattle.c_types.specs.Scopes.{scope_of}
+use Rattle.type_attributes.specs.declared.source.SourceType.{SourceType}
+use Rattle.type_attributes.specs.declared.source.UnitTypes.{UnitTypes}
+use Rattle.type_attributes.specs.Scopes.{scope_of}
 use Rattle.c_types.specs.Formed.{IsFormed, AreFormed}
 use Rattle.c_types.specs.Laws.{TypesAreFormed}
 use Rattle.c_types.proofs.Accepted.{in_unit}

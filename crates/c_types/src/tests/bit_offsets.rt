@@ -1,11 +1,11 @@
 //! Bit fields of units of version 4, which stand in a storage.
 use super::types_in;
-use crate::fault::TypeFault;
 use dw_base::Order;
 use dwarf_forms::FormFault;
 use std::alloc::{AllocError, Global};
 use std::process::Abort;
 use std::test::Fail;
+use type_attributes::fault::TypeFault;
 
 /// The abbreviations of all cases: the code, the tag, children or none, attributes and forms.
 const ABBREVIATIONS: &[u8] = &[

@@ -1,9 +1,9 @@
 //! Units with many parts and with deep nests. Each would take hours, were every structure to read all that stands
 //! deeper than its members.
 use super::{ABBREVIATIONS, file_of, info_of, types_in};
-use crate::fault::TypeFault;
 use std::alloc::{AllocError, Global};
 use std::test::Fail;
+use type_attributes::fault::TypeFault;
 
 /// Puts bytes behind others, so many times.
 fn put_times(entries: &mut Vec<u8>, bytes: &[u8], times: u32) -> Result<(), AllocError> {

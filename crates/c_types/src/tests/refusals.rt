@@ -1,12 +1,12 @@
 //! Refusals: the least entries that have each, which of two comes first, and the last values that are accepted.
 use super::{compare, file_of, info_of, lines, lines_in};
-use crate::fault::TypeFault;
 use dwarf_abbrev::AbbrevFault;
 use dwarf_forms::FormFault;
 use entry_tree::WalkFault;
 use std::alloc::Global;
 use std::process::Abort;
 use std::test::Fail;
+use type_attributes::fault::TypeFault;
 
 /// Entries behind the root, and their first refusal.
 type Refused<'x> = (&'x [u8], TypeFault);

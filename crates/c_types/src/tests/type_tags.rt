@@ -1,9 +1,9 @@
 //! Tag entries under pointers, and annotations that are none.
 use super::{compare, lines};
-use crate::fault::TypeFault;
 use dwarf_forms::FormFault;
 use std::alloc::{AllocError, Global};
 use std::test::Fail;
+use type_attributes::fault::TypeFault;
 
 /// The name of type tags, as a value of form string.
 const TAG: &[u8] = b"btf_type_tag\0";

@@ -1,11 +1,11 @@
 //! Units that were written out by hand, entry by entry, and the types that the rules give them. The types were
 //! written down from the entries, before the bytes were read.
 use super::{file_with, line, types_in};
-use crate::fault::TypeFault;
-use crate::source::UnitTypes;
 use std::alloc::Global;
 use std::process::Abort;
 use std::test::Fail;
+use type_attributes::fault::TypeFault;
+use type_attributes::source::UnitTypes;
 
 const LISTS: &[u8] = &[
     0x33, 0x00, 0x00, 0x00, 0x05, 0x00, 0x01, 0x08, 0x00, 0x00, 0x00, 0x00, 0x01, 0x1d, 0x02, 0x6c,

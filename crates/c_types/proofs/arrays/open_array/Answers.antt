@@ -1,7 +1,7 @@
 use Rattle.std.proofs.Common.{◌∙◌, refl}
 use Rattle.entry_tree.specs.Walks.{given_entry}
-use Rattle.c_types.specs.Scopes.{scope}
-use Rattle.c_types.proofs.Noting.{noted_append}
+use Rattle.type_attributes.specs.Scopes.{scope}
+use Rattle.type_attributes.proofs.Noting.{noted_append}
 use Rattle.c_types.proofs.OpenArrays.{array_comes}
 use Rattle.c_types.proofs.arrays.open_array.Goals as goal
 

@@ -1,8 +1,8 @@
 use Rattle.std.proofs.Common.{◌≡◌, ◌∙◌, ℤ, Option, refl, ap}
 use Rattle.entry_tree.specs.Walks.{given_entry}
-use Rattle.c_types.specs.Scopes.{scope}
-use Rattle.c_types.specs.Labels.{size_in}
-use Rattle.c_types.specs.Attributes.{constant_asked}
+use Rattle.type_attributes.specs.Scopes.{scope}
+use Rattle.type_attributes.specs.Labels.{size_in}
+use Rattle.type_attributes.specs.Attributes.{constant_asked}
 use Rattle.c_types.proofs.OpenEnumerations.{enumeration_comes}
 use Rattle.c_types.proofs.enumerations.open_enumeration.Goals as goal
 

@@ -1,7 +1,7 @@
 use Rattle.std.proofs.Common.{◌∷◌, ◌++◌, [], ◌∙◌, List, refl, ap}
 use Rattle.entry_tree.specs.Walks.{given_entry}
-use Rattle.c_types.specs.Scopes.{scope}
-use Rattle.c_types.specs.declared.source.Target.{Target}
+use Rattle.type_attributes.specs.Scopes.{scope}
+use Rattle.type_attributes.specs.declared.source.Target.{Target}
 use Rattle.c_types.proofs.OpenFunctions.{function_comes}
 use Rattle.c_types.proofs.functions.open_function.Goals as goal
 

@@ -3,13 +3,13 @@ use Rattle.std.specs.Prelude.{ℕ, codes}
 use Rattle.std.specs.Str.{bytes_eq}
 use Rattle.dwarf_forms.specs.Meanings.{sections}
 use Rattle.entry_tree.specs.Walks.{given_entry}
-use Rattle.c_types.specs.declared.fault.TypeFault.{TypeFault}
-use Rattle.c_types.specs.declared.fault.TypeFault.TheVariants.{MissingName}
-use Rattle.c_types.specs.Faults.{noted, refuse_if}
-use Rattle.c_types.specs.Attributes.{name_asked, name_in_full}
-use Rattle.c_types.specs.Labels.{is_empty}
+use Rattle.type_attributes.specs.declared.fault.TypeFault.{TypeFault}
+use Rattle.type_attributes.specs.declared.fault.TypeFault.TheVariants.{MissingName}
+use Rattle.type_attributes.specs.Faults.{noted, refuse_if}
+use Rattle.type_attributes.specs.Attributes.{name_asked, name_in_full}
+use Rattle.type_attributes.specs.Labels.{is_empty}
 use Rattle.c_types.specs.Pointers.{is_type_tag, tag_asked}
-use Rattle.c_types.proofs.Noting.{noted_append}
+use Rattle.type_attributes.proofs.Noting.{noted_append}
 use Rattle.c_types.proofs.OpenPointers.{tag_by}
 use Rattle.c_types.proofs.pointers.read_tag.Goals as goal
 

@@ -1,7 +1,7 @@
 use Rattle.std.proofs.Common.{◌∙◌, ℤ, Option, refl, ap}
 use Rattle.entry_tree.specs.Walks.{given_entry}
-use Rattle.c_types.specs.Scopes.{scope}
-use Rattle.c_types.specs.Labels.{size_in}
+use Rattle.type_attributes.specs.Scopes.{scope}
+use Rattle.type_attributes.specs.Labels.{size_in}
 use Rattle.c_types.proofs.OpenStructures.{structure_comes}
 use Rattle.c_types.proofs.structures.open_structure.Goals as goal
 

@@ -1,7 +1,7 @@
 use Rattle.std.proofs.Common.{◌≡◌, ◌∷◌, ◌∙◌, false, ap, sym, subst}
 use Rattle.dwarf_forms.specs.Meanings.{sections}
 use Rattle.entry_tree.specs.Walks.{given_entry}
-use Rattle.c_types.specs.Scopes.{scope}
+use Rattle.type_attributes.specs.Scopes.{scope}
 use Rattle.c_types.specs.declared.open.Kept.{Kept}
 use Rattle.c_types.specs.Opened.{kept_made, kept_refused}
 use Rattle.c_types.proofs.OpenStructures.{structure_met, structure_met_refused}

@@ -1,6 +1,6 @@
 use Rattle.dwarf_forms.specs.Meanings.{sections}
 use Rattle.entry_tree.specs.Walks.{given_entry}
-use Rattle.c_types.specs.Scopes.{scope}
+use Rattle.type_attributes.specs.Scopes.{scope}
 use Rattle.c_types.specs.Arrays.{array_row}
 use Rattle.c_types.proofs.walking.take_array.Goals as goal
 

@@ -3,12 +3,12 @@ use Rattle.std.proofs.lemmas.List.{append-nil}
 use Rattle.std.proofs.lemmas.Bool.{ne_eqb}
 use Rattle.dwarf_forms.specs.Meanings.{sections}
 use Rattle.entry_tree.specs.Walks.{given_entry}
-use Rattle.c_types.specs.Scopes.{scope}
+use Rattle.type_attributes.specs.Scopes.{scope}
 use Rattle.c_types.specs.declared.open.Open.{Open}
-use Rattle.c_types.specs.declared.source.SourceType.{SourceType}
-use Rattle.c_types.specs.declared.fault.TypeFault.{TypeFault}
-use Rattle.c_types.specs.Faults.{noted}
-use Rattle.c_types.specs.Labels.{Row}
+use Rattle.type_attributes.specs.declared.source.SourceType.{SourceType}
+use Rattle.type_attributes.specs.declared.fault.TypeFault.{TypeFault}
+use Rattle.type_attributes.specs.Faults.{noted}
+use Rattle.type_attributes.specs.Labels.{Row}
 use Rattle.c_types.specs.Pointers.{own_target, is_tag_entry, tag_in, annotation_refused}
 use Rattle.c_types.specs.Types.{row_of, made_in, listed, refused_in, made_of, refused_of}
 use Rattle.c_types.specs.Walking.{filled, least_of, pointed_at}

@@ -1,12 +1,12 @@
 use Rattle.std.proofs.Common.{◌≡◌, ◌++◌, ◌∷◌, [], ◌∙◌, true, List, Option, sym, ap, append_assoc}
 use Rattle.dwarf_forms.specs.Meanings.{sections}
 use Rattle.entry_tree.specs.Walks.{given_entry}
-use Rattle.c_types.specs.Scopes.{scope}
-use Rattle.c_types.specs.declared.source.SourceType.{SourceType}
-use Rattle.c_types.specs.declared.fault.TypeFault.{TypeFault}
-use Rattle.c_types.specs.Attributes.{is_set, flag_asked, name_asked, name_in_full}
-use Rattle.c_types.specs.Children.{children_of}
-use Rattle.c_types.specs.Faults.{noted}
+use Rattle.type_attributes.specs.Scopes.{scope}
+use Rattle.type_attributes.specs.declared.source.SourceType.{SourceType}
+use Rattle.type_attributes.specs.declared.fault.TypeFault.{TypeFault}
+use Rattle.type_attributes.specs.Attributes.{is_set, flag_asked, name_asked, name_in_full}
+use Rattle.type_attributes.specs.Children.{children_of}
+use Rattle.type_attributes.specs.Faults.{noted}
 use Rattle.c_types.specs.Enumerations.{bare_row, enumeration_row}
 use Rattle.c_types.proofs.Stack.{row_declared, taken_filled, taken_least, joined_two}
 use Rattle.c_types.proofs.Pointing.{pointed_unopened}

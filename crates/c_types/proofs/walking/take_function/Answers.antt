@@ -1,6 +1,6 @@
 use Rattle.dwarf_forms.specs.Meanings.{sections}
 use Rattle.entry_tree.specs.Walks.{given_entry}
-use Rattle.c_types.specs.Scopes.{scope}
+use Rattle.type_attributes.specs.Scopes.{scope}
 use Rattle.c_types.specs.Functions.{function_row}
 use Rattle.c_types.proofs.walking.take_function.Goals as goal
 

@@ -1,8 +1,8 @@
 use Rattle.std.proofs.Common.{◌++◌, ◌∙◌, Option, ap}
 use Rattle.dwarf_forms.specs.Meanings.{sections}
 use Rattle.entry_tree.specs.Walks.{given_entry}
-use Rattle.c_types.specs.Scopes.{scope}
-use Rattle.c_types.specs.declared.source.SourceType.{SourceType}
+use Rattle.type_attributes.specs.Scopes.{scope}
+use Rattle.type_attributes.specs.declared.source.SourceType.{SourceType}
 use Rattle.c_types.specs.Types.{plain_row_of, made_in, listed, refused_in}
 use Rattle.c_types.proofs.Stack.{taken_filled, taken_least}
 use Rattle.c_types.proofs.Pointing.{pointed_unopened}

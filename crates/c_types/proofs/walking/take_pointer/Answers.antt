@@ -1,10 +1,10 @@
 use Rattle.std.proofs.Common.{◌≡◌, ◌+◌, ◌==◌, ◌∙◌, ℕ, List, length, Some, if◌then◌else◌, refl, sym, ap, rules}
 use Rattle.entry_tree.specs.Walks.{given_entry}
-use Rattle.c_types.specs.Scopes.{scope}
+use Rattle.type_attributes.specs.Scopes.{scope}
 use Rattle.c_types.specs.declared.open.LastPointer.{LastPointer}
-use Rattle.c_types.specs.declared.source.Target.{Target}
-use Rattle.c_types.specs.Attributes.{target_asked}
-use Rattle.c_types.specs.Children.{children_of}
+use Rattle.type_attributes.specs.declared.source.Target.{Target}
+use Rattle.type_attributes.specs.Attributes.{target_asked}
+use Rattle.type_attributes.specs.Children.{children_of}
 use Rattle.c_types.specs.Opened.{pointer_by}
 use Rattle.c_types.specs.Pointers.{pointer_row}
 use Rattle.c_types.specs.Walking.{opened_pointer, pointed_at}

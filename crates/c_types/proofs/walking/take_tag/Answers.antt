@@ -3,7 +3,7 @@ use Rattle.std.specs.Prelude.{slice_set}
 use Rattle.std.proofs.lemmas.List.Elements.{All-pop}
 use Rattle.entry_tree.specs.Walks.{given_entry}
 use Rattle.c_types.specs.declared.open.Open.{Open}
-use Rattle.c_types.specs.declared.source.Target.TheVariants.{Entry}
+use Rattle.type_attributes.specs.declared.source.Target.TheVariants.{Entry}
 use Rattle.c_types.specs.Opened.{pointer_by}
 use Rattle.c_types.specs.Pointers.{tag_in, tag_made}
 use Rattle.c_types.specs.Types.{listed}

@@ -1,7 +1,7 @@
 use Rattle.std.proofs.Common.{◌≡◌, ◌∙◌, [], None, List, Option, refl, sym, ap}
 use Rattle.c_types.specs.declared.open.Open.{Open}
-use Rattle.c_types.specs.declared.fault.TypeFault.{TypeFault}
-use Rattle.c_types.specs.declared.source.SourceType.{SourceType}
+use Rattle.type_attributes.specs.declared.fault.TypeFault.{TypeFault}
+use Rattle.type_attributes.specs.declared.source.SourceType.{SourceType}
 use Rattle.c_types.specs.Walking.{filled, least_of}
 use Rattle.c_types.proofs.Stack.{none_above}
 use Rattle.func_entries.specs.declared.entries.UnitFuncs.{UnitFuncs}

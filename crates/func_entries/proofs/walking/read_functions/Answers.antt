@@ -1,7 +1,7 @@
 use Rattle.std.proofs.Common.{◌≡◌, ◌<◌, ℕ, None, false, length, sym, subst}
 use Rattle.std.proofs.lemmas.List.Elements.{All-nil}
 use Rattle.c_types.specs.declared.open.Open.{Open}
-use Rattle.c_types.specs.Scopes.{scope}
+use Rattle.type_attributes.specs.Scopes.{scope}
 use Rattle.entry_tree.specs.Items.{Coming, with_first}
 use Rattle.entry_tree.specs.Walks.{given_entry}
 use Rattle.c_types.specs.Walking.{AreNested, ArePlaced}

@@ -1,6 +1,6 @@
 use Rattle.std.proofs.Common.{length}
 use Rattle.std.specs.Prelude.{ℕ}
-use Rattle.c_types.specs.Scopes.{scope}
+use Rattle.type_attributes.specs.Scopes.{scope}
 use Rattle.c_types.specs.Walking.{AreNested, ArePlaced}
 use Rattle.func_entries.specs.Walking.{AreDeepening, of_version}
 use Rattle.func_entries.proofs.Reading.{IsReading, IsPlacing}

@@ -2,9 +2,9 @@ use Rattle.std.proofs.Common.{◌≡◌, ◌==◌, ◌++◌, ◌∙◌, ℕ, [],
 use Rattle.std.proofs.lemmas.Bool.{eq-eqb}
 use Rattle.dwarf_forms.specs.Meanings.{sections}
 use Rattle.entry_tree.specs.Walks.{given_entry}
-use Rattle.c_types.specs.Attributes.{name_asked, flag_asked, is_set}
-use Rattle.c_types.specs.Faults.{noted}
-use Rattle.c_types.specs.Labels.{is_empty}
+use Rattle.type_attributes.specs.Attributes.{name_asked, flag_asked, is_set}
+use Rattle.type_attributes.specs.Faults.{noted}
+use Rattle.type_attributes.specs.Labels.{is_empty}
 use Rattle.func_entries.specs.Functions.{has_name, is_function}
 use Rattle.func_entries.proofs.Heads.{function_by, named_by_refusal, named_by_name, values_noted}
 use Rattle.func_entries.proofs.walking.read_head.Goals as goal

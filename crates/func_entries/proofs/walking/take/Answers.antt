@@ -1,8 +1,8 @@
 use Rattle.std.proofs.Common.{◌≡◌, ◌≤◌, ◌+◌, ◌++◌, ◌∷◌, ◌∙◌, ℕ, List, None, sym, ap}
 use Rattle.dwarf_forms.specs.Meanings.{sections}
 use Rattle.entry_tree.specs.Walks.{given_entry}
-use Rattle.c_types.specs.declared.source.SourceType.{SourceType}
-use Rattle.c_types.specs.Scopes.{scope}
+use Rattle.type_attributes.specs.declared.source.SourceType.{SourceType}
+use Rattle.type_attributes.specs.Scopes.{scope}
 use Rattle.func_entries.specs.Walking.{prototypes_at}
 use Rattle.func_entries.proofs.Reading.{low_pointed, shallow_first, never}
 use Rattle.func_entries.proofs.walking.take.Goals as goal

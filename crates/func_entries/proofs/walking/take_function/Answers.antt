@@ -1,11 +1,11 @@
 use Rattle.std.proofs.Common.{◌≡◌, ◌++◌, ◌∷◌, [], ◌∙◌, Bool, true, List, Option, if◌then◌else◌, refl, sym, ap}
 use Rattle.dwarf_forms.specs.Meanings.{sections}
 use Rattle.entry_tree.specs.Walks.{given_entry}
-use Rattle.c_types.specs.declared.fault.TypeFault.{TypeFault}
-use Rattle.c_types.specs.Attributes.{name_asked, flag_asked}
-use Rattle.c_types.specs.Children.{children_of}
+use Rattle.type_attributes.specs.declared.fault.TypeFault.{TypeFault}
+use Rattle.type_attributes.specs.Attributes.{name_asked, flag_asked}
+use Rattle.type_attributes.specs.Children.{children_of}
 use Rattle.c_types.specs.Functions.{function_row}
-use Rattle.c_types.specs.Scopes.{scope}
+use Rattle.type_attributes.specs.Scopes.{scope}
 use Rattle.c_types.specs.Walking.{filled, least_of}
 use Rattle.c_types.proofs.Stack.{taken_least}
 use Rattle.func_entries.specs.Functions.{is_function}

@@ -1,5 +1,5 @@
 use Rattle.std.proofs.Common.{◌≡◌, take, map}
-use Rattle.c_types.specs.declared.source.SourceType.{SourceType}
+use Rattle.type_attributes.specs.declared.source.SourceType.{SourceType}
 use Rattle.unit_encoder.proofs.piece.offsets_of.Given as goal
 
 abbrev pub invariant-loop-one : goal.invariant-loop-one

@@ -1,0 +1,84 @@
+-- Which of the refusals of a unit's types is the first: by the place of the entry, then the number, then what is kept.
+use Rattle.std.specs.Prelude.{ℕ, Bool, ◌≡◌, ◌<◌, ◌≤◌, ◌⊎◌, nat_lt, ◌==◌, List, [], ◌∷◌, All, Option, None, Some, if◌then◌else◌}
+use Rattle.std.specs.List.{Contains}
+use Rattle.dwarf_forms.specs.declared.fault.FormFault.{FormFault}
+use Rattle.dwarf_forms.specs.declared.fault.FormFault.TheVariants.{LebWide, FormUnknown, ValueTruncated, StringOut, StrxOut, AltForm, WrongClass}
+use Rattle.type_attributes.specs.declared.fault.TypeFault.{TypeFault}
+use Rattle.type_attributes.specs.declared.fault.TypeFault.TheVariants.{Form, MissingName, MissingSize, MissingType, UnnamedForward, MemberPlace, BitSize, MemberFar, TooMany, ArrayLength, EnumSize, EnumValue, SizeLarge}
+use Rattle.type_attributes.specs.declared.fault.Rank.{Rank}
+
+-- a place, a number and what is kept
+abbrev pub ranked : ℕ → ℕ → ℕ → ℕ → Rank
+ranked at number kept more = record { at = at; kept = kept; more = more; number = number }
+
+abbrev pub form_rank : ℕ → FormFault → Rank
+form_rank at (LebWide o) = ranked at 33 0 0
+form_rank at (FormUnknown f) = ranked at 40 0 0
+form_rank at (ValueTruncated a) = ranked at 41 0 0
+form_rank at (StringOut o) = ranked at 42 o 0
+form_rank at (StrxOut i) = ranked at 43 i 0
+form_rank at (AltForm f) = ranked at 44 f 0
+form_rank at (WrongClass a f) = ranked at 46 a f
+
+-- the refusals of values alone come twice at one entry with one number, so what the others keep decides nothing
+abbrev pub rank_of : TypeFault → Rank
+rank_of (Form at f) = form_rank at f
+rank_of (MissingName at) = ranked at 60 0 0
+rank_of (MissingSize at) = ranked at 61 0 0
+rank_of (MissingType at) = ranked at 62 0 0
+rank_of (UnnamedForward at) = ranked at 63 0 0
+rank_of (MemberPlace at) = ranked at 64 0 0
+rank_of (BitSize at z) = ranked at 65 0 0
+rank_of (MemberFar at p) = ranked at 66 0 0
+rank_of (TooMany at n) = ranked at 67 0 0
+rank_of (ArrayLength at) = ranked at 68 0 0
+rank_of (EnumSize at z) = ranked at 69 0 0
+rank_of (EnumValue at) = ranked at 70 0 0
+rank_of (SizeLarge at z) = ranked at 71 0 0
+rank_of other = ranked 0 0 0 0
+
+abbrev pub is_before : Rank → Rank → Bool
+is_before a b =
+    if a.at == b.at
+    then (if a.number == b.number
+    then (if a.kept == b.kept then nat_lt a.more b.more else nat_lt a.kept b.kept)
+    else nat_lt a.number b.number)
+    else nat_lt a.at b.at
+
+-- the first of two
+abbrev pub first_of : TypeFault → TypeFault → TypeFault
+first_of a b = if is_before (rank_of b) (rank_of a) then b else a
+
+abbrev pub lesser : Option TypeFault → TypeFault → Option TypeFault
+lesser None f = Some f
+lesser (Some g) f = Some (first_of g f)
+
+-- the first of two that may be there, the left one where neither comes first
+abbrev pub joined : Option TypeFault → Option TypeFault → Option TypeFault
+joined o None = o
+joined o (Some f) = lesser o f
+
+-- the first of one and those of a list
+abbrev pub noted : Option TypeFault → List TypeFault → Option TypeFault
+noted o [] = o
+noted o (f ∷ fs) = noted (lesser o f) fs
+
+-- the first of a list
+abbrev pub least : List TypeFault → Option TypeFault
+least fs = noted None fs
+
+-- a refusal on a condition
+abbrev pub refuse_if : Bool → TypeFault → List TypeFault
+refuse_if refused f = if refused then f ∷ [] else []
+
+-- one number is below another, or they are equal and the rest decides
+abbrev pub ThenBy : ℕ → ℕ → Type 0 → Type 0
+ThenBy a b rest = (a < b) ⊎ ((a ≡ b) × rest)
+
+-- by place, number and what is kept the first comes before the second, or they are equal
+abbrev pub IsNotAfter : Rank → Rank → Type 0
+IsNotAfter a b = ThenBy a.at b.at (ThenBy a.number b.number (ThenBy a.kept b.kept (a.more ≤ b.more)))
+
+-- one of some refusals, after none of which it comes
+abbrev pub IsFirstAmong : List TypeFault → TypeFault → Type 0
+IsFirstAmong fs f = Contains fs f × All (λ (g : TypeFault). IsNotAfter (rank_of f) (rank_of g)) fs

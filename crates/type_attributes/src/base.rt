@@ -1,0 +1,151 @@
+//! Base types and unspecified types.
+ghost use Rattle.std.specs.Prelude.{◌≡◌, ◌≤◌, IsTrue};
+ghost use Rattle.dwarf_forms.specs.Values.{IsContext};
+ghost use Rattle.dwarf_forms.specs.Meanings.{sections};
+ghost use Rattle.entry_tree.specs.Walks.{given_entry};
+ghost use Rattle.type_attributes.specs.Faults.{noted};
+ghost use Rattle.type_attributes.specs.BaseTypes.{is_integer, is_float, base_of, code_in, is_whole, base_with, base_label, base_row, unspecified_row};
+
+use crate::attributes::{constant, name, signed_constant};
+use crate::fault::{TypeFault, note_if};
+use crate::labels::{given_size, is_unnamed, make_label, no_targets, note_size};
+use crate::number::Number;
+use crate::source::SourceType;
+use c_model::{Label, Parts};
+use dw_base::Name;
+use dwarf_abbrev::constants::{DW_AT_bit_size, DW_AT_byte_size, DW_AT_encoding};
+use dwarf_forms::FormCtx;
+use entry_tree::Entry;
+use std::alloc::Global;
+
+/// What a base type is to BTF.
+#[derive(Clone, Copy, Debug, PartialEq, Eq)]
+enum Base {
+    /// An INT, with its word of encoding, offset and bits.
+    Int(u32),
+    /// A FLOAT.
+    Float,
+    /// Neither of them.
+    Opaque,
+}
+
+fn is_integer_size(size: u32) -> bool
+    ensures test { result ≡ is_integer size }
+    ensures small { IsTrue result → size ≤ 16 }
+{
+    size == 1 || size == 2 || size == 4 || size == 8 || size == 16
+}
+
+fn is_float_size(size: u32) -> bool
+    ensures { result ≡ is_float size }
+{
+    size == 2 || size == 4 || size == 8 || size == 12 || size == 16
+}
+
+/// What a size and an encoding make.
+fn make_base(size: u32, encoding: u64) -> Base
+    ensures { result ≡ base_of size encoding }
+{
+    if encoding == 2 && is_integer_size(size) {
+        Base::Int(4 * 16_777_216 + 8 * size)
+    } else if encoding == 4 && is_float_size(size) {
+        Base::Float
+    } else if (encoding == 5 || encoding == 6) && is_integer_size(size) {
+        Base::Int(16_777_216 + 8 * size)
+    } else if (encoding == 7 || encoding == 8 || encoding == 16) && is_integer_size(size) {
+        Base::Int(8 * size)
+    } else {
+        Base::Opaque
+    }
+}
+
+fn code(encoding: Option<Number>) -> u64
+    ensures { result ≡ code_in encoding }
+{
+    match encoding {
+        Some(Number::Natural(n)) => n,
+        _ => 0,
+    }
+}
+
+fn has_all_bits(size: u32, bits: Option<Number>) -> bool
+    ensures { result ≡ is_whole size bits }
+{
+    match bits {
+        None => true,
+        Some(Number::Natural(n)) => n == 8 * u64::from(size),
+        Some(Number::Negative(_)) => false,
+    }
+}
+
+fn base_from(size: u32, encoding: Option<Number>, bits: Option<Number>) -> Base
+    ensures { result ≡ base_with size encoding bits }
+{
+    if has_all_bits(size, bits) {
+        make_base(size, code(encoding))
+    } else {
+        Base::Opaque
+    }
+}
+
+fn base_type_label<'a>(alloc: Global, name: Name<'a>, size: u32, base: Base) -> Label<'a>
+    ensures { result ≡ base_label name.entry size base }
+{
+    match base {
+        Base::Int(extra) => Label {
+            kind: 1,
+            name,
+            flag: false,
+            size,
+            extra,
+            parts: Parts::new(Vec::new(alloc)),
+        },
+        Base::Float => make_label(alloc, 16, name, size),
+        Base::Opaque => make_label(alloc, 4, name, size),
+    }
+}
+
+/// The type of a base type.
+#[tactic(auto, using(crate::proofs::Noting::noted_append))]
+pub fn base_type<'a>(
+    alloc: Global,
+    ctx: &FormCtx<'a>,
+    entry: &Entry<'_, 'a>,
+    least: &mut Option<TypeFault>,
+) -> SourceType<'a>
+    requires { IsContext ctx.now }
+    ensures made { result ≡ (base_row (sections ctx.now) (given_entry entry.now)).made }
+    ensures noted { least.new ≡ noted least.old (base_row (sections ctx.now) (given_entry entry.now)).refused }
+{
+    let name = name(ctx, entry, least);
+    note_if(least, is_unnamed(&name), TypeFault::MissingName(entry.at));
+    let size = constant(entry, DW_AT_byte_size, least);
+    note_size(least, entry.at, size);
+    let encoding = signed_constant(entry, DW_AT_encoding, least);
+    let bits = signed_constant(entry, DW_AT_bit_size, least);
+    let size = given_size(size);
+    SourceType {
+        at: entry.at,
+        label: base_type_label(alloc, name, size, base_from(size, encoding, bits)),
+        targets: no_targets(alloc),
+    }
+}
+
+/// The type of an unspecified type.
+pub fn unspecified_type<'a>(
+    alloc: Global,
+    ctx: &FormCtx<'a>,
+    entry: &Entry<'_, 'a>,
+    least: &mut Option<TypeFault>,
+) -> SourceType<'a>
+    requires { IsContext ctx.now }
+    ensures made { result ≡ (unspecified_row (sections ctx.now) (given_entry entry.now)).made }
+    ensures noted { least.new ≡ noted least.old (unspecified_row (sections ctx.now) (given_entry entry.now)).refused }
+{
+    let name = name(ctx, entry, least);
+    SourceType {
+        at: entry.at,
+        label: make_label(alloc, 4, name, 0),
+        targets: no_targets(alloc),
+    }
+}

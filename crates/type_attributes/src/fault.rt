@@ -1,0 +1,204 @@
+//! Why the types of a unit are refused, and which of two refusals comes first.
+ghost use Rattle.std.specs.Prelude.{◌≡◌, [], ◌∷◌};
+ghost use Rattle.type_attributes.specs.Faults.{ranked, rank_of, form_rank, is_before, noted, refuse_if, joined};
+
+use dwarf_abbrev::AbbrevFault;
+use dwarf_forms::FormFault;
+use entry_tree::WalkFault;
+use std::alloc::{AllocError, AllocFailed};
+use thiserror::Error;
+
+/// Why the types of a unit are refused. The first number is the offset in `.debug_info` of the entry.
+#[derive(Clone, Copy, Debug, PartialEq, Eq, Error)]
+pub enum TypeFault {
+    /// The unit's abbreviations can't be read.
+    #[error("{0}")]
+    Abbrev(AbbrevFault),
+    /// The unit's entries can't be read.
+    #[error("{0}")]
+    Walk(WalkFault),
+    /// A value isn't what the attribute needs.
+    #[error("the entry at {0}: {1}")]
+    Form(u64, FormFault),
+    /// A base type, a typedef or an enumerator has no name, or a type tag no value or an empty one.
+    #[error("the entry at {0} has no name")]
+    MissingName(u64),
+    /// A base type, a structure, a union or an enumeration has no byte_size.
+    #[error("the entry at {0} has no size")]
+    MissingSize(u64),
+    /// An array, a member or a parameter has no type.
+    #[error("the entry at {0} has no type")]
+    MissingType(u64),
+    /// A declared structure, union or enumeration has no name.
+    #[error("the declaration at {0} has no name")]
+    UnnamedForward(u64),
+    /// The place of a member is negative or computed at run time; or it counts back from the end of a storage (DWARF 4,
+    /// section 5.5.6) whose size neither the member says nor its type, behind at most 64 types that stand for another.
+    #[error("the place of the member at {0} is not fixed")]
+    MemberPlace(u64),
+    /// The bit_size of a member is this one, and not 1 to 255.
+    #[error("the member at {0} has {1} bits")]
+    BitSize(u64, i128),
+    /// The member lies at this bit, which its offset word can't hold.
+    #[error("the member at {0} lies at the bit {1}")]
+    MemberFar(u64, u128),
+    /// So many members, enumerators or parameters are more than 65,535.
+    #[error("the entry at {0} has {1} parts")]
+    TooMany(u64, u64),
+    /// A length or the number of elements is negative or passes 2^32 - 1.
+    #[error("the length of the array at {0} is out of range")]
+    ArrayLength(u64),
+    /// The size of an enumeration is this one, and not 1, 2, 4 or 8.
+    #[error("the enumeration at {0} has the size {1}")]
+    EnumSize(u64, i128),
+    /// An enumerator has no value, or one that its enumeration can't hold.
+    #[error("the value of the enumerator at {0} is missing or out of range")]
+    EnumValue(u64),
+    /// A size is this one, and not 0 to 2^32 - 1.
+    #[error("the entry at {0} has the size {1}")]
+    SizeLarge(u64, i128),
+    /// Memory can't be found.
+    #[error("out of memory")]
+    Memory,
+}
+
+impl From<AllocError> for TypeFault {
+    ghost use Rattle.std.specs.Prelude.{◌≡◌};
+    ghost use Rattle.type_attributes.specs.declared.fault.TypeFault.TheVariants.{Memory};
+
+    ghost from_gives = { λ _ e. e ≡ Memory };
+
+    fn from(_e: AllocError) -> TypeFault {
+        TypeFault::Memory
+    }
+}
+
+impl<T: Drop> From<AllocFailed<T>> for TypeFault {
+    ghost use Rattle.std.specs.Prelude.{◌≡◌};
+    ghost use Rattle.type_attributes.specs.declared.fault.TypeFault.TheVariants.{Memory};
+
+    ghost from_gives = { λ _ e. e ≡ Memory };
+
+    fn from(_e: AllocFailed<T>) -> TypeFault {
+        TypeFault::Memory
+    }
+}
+
+/// Where a refusal stands among others: by its entry, then its number, then what it keeps.
+#[derive(Clone, Copy)]
+struct Rank {
+    at: u64,
+    kept: u64,
+    more: u64,
+    number: u8,
+}
+
+/// The rank of a refusal that keeps these values beside its place.
+fn rank_keeping(at: u64, number: u8, kept: u64, more: u64) -> Rank
+    ensures { result ≡ ranked at number kept more }
+{
+    Rank {
+        at,
+        kept,
+        more,
+        number,
+    }
+}
+
+/// The rank of a refusal that needs nothing but its place.
+fn rank_at(at: u64, number: u8) -> Rank
+    ensures { result ≡ ranked at number 0 0 }
+{
+    rank_keeping(at, number, 0, 0)
+}
+
+/// The rank of a value's refusal.
+fn rank_form(at: u64, fault: FormFault) -> Rank
+    ensures { result ≡ form_rank at fault }
+{
+    match fault {
+        FormFault::LebWide(_) => rank_at(at, 33),
+        FormFault::FormUnknown(_) => rank_at(at, 40),
+        FormFault::ValueTruncated(_) => rank_at(at, 41),
+        FormFault::StringOut(offset) => rank_keeping(at, 42, offset, 0),
+        FormFault::StrxOut(index) => rank_keeping(at, 43, index, 0),
+        FormFault::AltForm(form) => rank_keeping(at, 44, form, 0),
+        FormFault::WrongClass(attribute, form) => rank_keeping(at, 46, attribute, form),
+    }
+}
+
+/// The rank of a refusal of one entry. Only refusals of values come twice at one entry with one
+/// number, so only these need what they keep.
+fn rank_fault(fault: TypeFault) -> Rank
+    ensures { result ≡ rank_of fault }
+{
+    match fault {
+        TypeFault::Form(at, form) => rank_form(at, form),
+        TypeFault::MissingName(at) => rank_at(at, 60),
+        TypeFault::MissingSize(at) => rank_at(at, 61),
+        TypeFault::MissingType(at) => rank_at(at, 62),
+        TypeFault::UnnamedForward(at) => rank_at(at, 63),
+        TypeFault::MemberPlace(at) => rank_at(at, 64),
+        TypeFault::BitSize(at, _) => rank_at(at, 65),
+        TypeFault::MemberFar(at, _) => rank_at(at, 66),
+        TypeFault::TooMany(at, _) => rank_at(at, 67),
+        TypeFault::ArrayLength(at) => rank_at(at, 68),
+        TypeFault::EnumSize(at, _) => rank_at(at, 69),
+        TypeFault::EnumValue(at) => rank_at(at, 70),
+        TypeFault::SizeLarge(at, _) => rank_at(at, 71),
+        TypeFault::Abbrev(_) | TypeFault::Walk(_) | TypeFault::Memory => rank_at(0, 0),
+    }
+}
+
+/// Whether the first of two ranks comes first.
+fn comes_before(a: Rank, b: Rank) -> bool
+    ensures { result ≡ is_before a b }
+{
+    if a.at != b.at {
+        return a.at < b.at;
+    }
+    if a.number != b.number {
+        return a.number < b.number;
+    }
+    if a.kept != b.kept {
+        return a.kept < b.kept;
+    }
+    a.more < b.more
+}
+
+/// Keeps the first of the refusals so far and this one.
+pub fn note(least: &mut Option<TypeFault>, fault: TypeFault)
+    ensures { least.new ≡ noted least.old (fault ∷ []) }
+{
+    match *least {
+        None => *least = Some(fault),
+        Some(first) => {
+            if comes_before(rank_fault(fault), rank_fault(first)) {
+                *least = Some(fault);
+            }
+        }
+    }
+}
+
+/// The same where there is a refusal.
+pub fn note_if(least: &mut Option<TypeFault>, refused: bool, fault: TypeFault)
+    ensures { least.new ≡ noted least.old (refuse_if refused fault) }
+{
+    if refused {
+        note(least, fault);
+    }
+}
+
+/// The first of two refusals, the left one where neither comes first.
+pub fn join(a: Option<TypeFault>, b: Option<TypeFault>) -> Option<TypeFault>
+    ensures { result ≡ joined a b }
+{
+    match b {
+        None => a,
+        Some(fault) => {
+            let mut least = a;
+            note(&mut least, fault);
+            least
+        }
+    }
+}

@@ -1,0 +1,278 @@
+//! The places of members.
+ghost use Rattle.std.specs.Prelude.{◌≡◌, ◌≤◌, ◌<ℤ◌, ◌≤ℤ◌, ◌+ℤ◌, neg_ℤ, pos, ◌^◌, ◌++◌, OnOk, IfSome, false, true};
+ghost use Rattle.dwarf_forms.specs.Meanings.{Fits64};
+ghost use Rattle.entry_tree.specs.Rising.{Rises};
+ghost use Rattle.entry_tree.specs.Walks.{given_entry};
+ghost use Rattle.type_attributes.specs.Scopes.{scope};
+ghost use Rattle.type_attributes.specs.Faults.{noted};
+ghost use Rattle.type_attributes.specs.Attributes.{has, constant_asked, offset_asked};
+ghost use Rattle.type_attributes.specs.Positions.{placed, placed_by_bits, placed_by_bytes, is_stored, location_in, offset_number, storage_in, bytes_of_type, eightfold, first_bit_big, first_bit_little, first_bit, counted, storage_refused, position_of, is_little, needs_extents};
+ghost use Rattle.type_attributes.specs.Rows.{SayExtents, AreKnown, IsReady};
+
+use crate::attributes::{constant, is_given, offset, signed_constant, target_said};
+use crate::extents::{find_bytes, read_extents};
+use crate::fault::{TypeFault, note};
+use crate::number::{Number, by_sign, to_integer};
+use crate::scope::UnitCtx;
+use dw_base::Order;
+use dwarf_abbrev::constants::{
+    DW_AT_bit_offset, DW_AT_bit_size, DW_AT_byte_size, DW_AT_data_bit_offset,
+    DW_AT_data_member_location, DW_TAG_member,
+};
+use entry_tree::Entry;
+use std::alloc::{AllocError, Global};
+
+/// A place in units of so many bits.
+fn place(at: u64, scale: u32, number: Number, least: &mut Option<TypeFault>) -> Option<u128>
+    requires { scale ≤ 8 }
+    ensures said { result ≡ (placed at scale number).said }
+    ensures noted { least.new ≡ noted least.old (placed at scale number).refused }
+{
+    match number {
+        Number::Natural(n) => Some(u128::from(scale) * u128::from(n)),
+        Number::Negative(_) => {
+            note(least, TypeFault::MemberPlace(at));
+            None
+        }
+    }
+}
+
+/// A place that is given in bits.
+fn place_by_bits(at: u64, bits: Option<Number>, least: &mut Option<TypeFault>) -> Option<u128>
+    ensures said { result ≡ (placed_by_bits at bits).said }
+    ensures noted { least.new ≡ noted least.old (placed_by_bits at bits).refused }
+{
+    match bits {
+        None => None,
+        Some(number) => place(at, 1, number, least),
+    }
+}
+
+/// A place that is given in bytes.
+fn place_by_bytes(
+    at: u64,
+    given: bool,
+    bytes: Option<Option<i128>>,
+    least: &mut Option<TypeFault>,
+) -> Option<u128>
+    requires { IfSome bytes (λ o. IfSome o Fits64) }
+    ensures said { result ≡ (placed_by_bytes at given bytes).said }
+    ensures noted { least.new ≡ noted least.old (placed_by_bytes at given bytes).refused }
+{
+    match bytes {
+        None => { if given { None } else { Some(0) } }
+        Some(None) => {
+            note(least, TypeFault::MemberPlace(at));
+            None
+        }
+        Some(Some(z)) => place(at, 8, by_sign(z), least),
+    }
+}
+
+/// Whether a member stands in a storage from which its bits are counted.
+fn stands_in_storage(ctx: &UnitCtx<'_, '_>, member: &Entry<'_, '_>) -> bool
+    ensures { result ≡ is_stored (scope ctx.now) (given_entry member.now) }
+{
+    ctx.version == 4 && is_given(member, DW_AT_bit_offset) && is_given(member, DW_AT_bit_size)
+}
+
+/// A number of bytes, where an offset is a constant.
+fn constant_offset(bytes: Option<Option<i128>>) -> Option<Number>
+    requires { IfSome bytes (λ o. IfSome o Fits64) }
+    ensures { result ≡ offset_number bytes }
+{
+    match bytes {
+        Some(Some(z)) => Some(by_sign(z)),
+        _ => None,
+    }
+}
+
+/// The bytes before the storage of a member; none where they are computed at run time.
+fn location(member: &Entry<'_, '_>, least: &mut Option<TypeFault>) -> Option<Number>
+    ensures said { result ≡ location_in (given_entry member.now) }
+    ensures noted { least.new ≡ noted least.old (offset_asked 0x38 (given_entry member.now)).refused }
+{
+    let bytes = offset(member, DW_AT_data_member_location, least);
+    if is_given(member, DW_AT_data_member_location) {
+        constant_offset(bytes)
+    } else {
+        Some(Number::Natural(0))
+    }
+}
+
+/// The bytes that the objects of a type of the unit have.
+fn type_bytes(ctx: &UnitCtx<'_, '_>, to: Option<u128>) -> Option<Number>
+    requires { AreKnown (scope ctx.now) ctx.now.extents }
+    ensures { result ≡ bytes_of_type (scope ctx.now) to }
+{
+    match to {
+        None => None,
+        Some(at) => match &ctx.extents {
+            None => None,
+            Some(extents) => find_bytes(extents.rows.as_slice(), at),
+        },
+    }
+}
+
+/// The bytes of the storage of a member, in a little-endian file.
+fn storage(
+    ctx: &UnitCtx<'_, '_>,
+    member: &Entry<'_, '_>,
+    least: &mut Option<TypeFault>,
+) -> Option<Number>
+    requires { has 0x0b (given_entry member.now) ≡ false → AreKnown (scope ctx.now) ctx.now.extents }
+    ensures said { result ≡ storage_in (scope ctx.now) (given_entry member.now) }
+    ensures noted { least.new ≡ noted least.old (constant_asked 0x0b (given_entry member.now)).refused }
+{
+    if is_given(member, DW_AT_byte_size) {
+        return signed_constant(member, DW_AT_byte_size, least);
+    }
+    type_bytes(ctx, target_said(&ctx.form, member))
+}
+
+/// The first bit of a bit field in a big-endian file: the bits count from the first bit of the storage.
+fn first_in_big(location: Option<Number>, offset: Option<Number>) -> Option<i128>
+    ensures { result ≡ first_bit_big location offset }
+{
+    match (location, offset) {
+        (Some(location), Some(offset)) => Some(8 * to_integer(location) + to_integer(offset)),
+        _ => None,
+    }
+}
+
+/// The bit behind a storage.
+fn storage_end(location: Number, storage: Number) -> i128
+    ensures value { result ≡ eightfold location +ℤ eightfold storage }
+    ensures low { neg_ℤ (pos (2 ^ 68)) ≤ℤ result }
+    ensures high { result <ℤ pos (2 ^ 68) }
+{
+    8 * to_integer(location) + 8 * to_integer(storage)
+}
+
+/// The first bit of a bit field in a little-endian file: the bits count back from the last bit of the storage.
+fn first_in_little(
+    location: Option<Number>,
+    storage: Option<Number>,
+    offset: Option<Number>,
+    size: Option<Number>,
+) -> Option<i128>
+    ensures { result ≡ first_bit_little location storage offset size }
+{
+    match (location, storage, offset, size) {
+        (Some(location), Some(storage), Some(offset), Some(size)) => {
+            Some(storage_end(location, storage) - to_integer(offset) - to_integer(size))
+        }
+        _ => None,
+    }
+}
+
+/// A place that is known and doesn't lie before the structure.
+fn count(at: u64, bits: Option<i128>, least: &mut Option<TypeFault>) -> Option<u128>
+    ensures said { result ≡ (counted at bits).said }
+    ensures noted { least.new ≡ noted least.old (counted at bits).refused }
+{
+    match bits {
+        Some(z) if z >= 0 => Some(z as u128),
+        _ => {
+            note(least, TypeFault::MemberPlace(at));
+            None
+        }
+    }
+}
+
+/// The first bit of a bit field in its storage.
+#[tactic(auto, using(crate::proofs::Noting::noted_append))]
+fn first_in_storage(
+    ctx: &UnitCtx<'_, '_>,
+    member: &Entry<'_, '_>,
+    least: &mut Option<TypeFault>,
+) -> Option<i128>
+    requires { is_little ctx.now.form.order ≡ true → has 0x0b (given_entry member.now) ≡ false → AreKnown (scope ctx.now) ctx.now.extents }
+    ensures said { result ≡ first_bit ctx.now.form.order (scope ctx.now) (given_entry member.now) }
+    ensures noted { least.new ≡ noted least.old ((offset_asked 0x38 (given_entry member.now)).refused ++ ((constant_asked 0x0c (given_entry member.now)).refused ++ storage_refused ctx.now.form.order (given_entry member.now))) }
+{
+    let location = location(member, least);
+    let offset = signed_constant(member, DW_AT_bit_offset, least);
+    match ctx.form.order {
+        Order::Big => first_in_big(location, offset),
+        Order::Little => {
+            let storage = storage(ctx, member, least);
+            // the bit size is refused for itself
+            let mut ignored = None;
+            let size = signed_constant(member, DW_AT_bit_size, &mut ignored);
+            first_in_little(location, storage, offset, size)
+        }
+    }
+}
+
+/// The bit position of a member.
+#[tactic(auto, using(crate::proofs::Noting::noted_append))]
+pub fn position(
+    ctx: &UnitCtx<'_, '_>,
+    member: &Entry<'_, '_>,
+    least: &mut Option<TypeFault>,
+) -> Option<u128>
+    requires member { (given_entry member.now).tag ≡ 0x0d }
+    requires ready { IsReady ctx.now (given_entry member.now) }
+    ensures said { result ≡ (position_of (scope ctx.now) (given_entry member.now)).said }
+    ensures noted { least.new ≡ noted least.old (position_of (scope ctx.now) (given_entry member.now)).refused }
+{
+    if is_given(member, DW_AT_data_bit_offset) {
+        let bits = signed_constant(member, DW_AT_data_bit_offset, least);
+        return place_by_bits(member.at, bits, least);
+    }
+    if stands_in_storage(ctx, member) {
+        let bits = first_in_storage(ctx, member, least);
+        return count(member.at, bits, least);
+    }
+    let bytes = offset(member, DW_AT_data_member_location, least);
+    place_by_bytes(
+        member.at,
+        is_given(member, DW_AT_data_member_location),
+        bytes,
+        least,
+    )
+}
+
+/// Whether a file is little-endian.
+fn counts_back(order: Order) -> bool
+    ensures { result ≡ is_little order }
+{
+    match order {
+        Order::Little => true,
+        Order::Big => false,
+    }
+}
+
+/// Whether the place of a member is found by what other entries say of their extents.
+fn needs_others(ctx: &UnitCtx<'_, '_>, member: &Entry<'_, '_>) -> bool
+    ensures { result ≡ needs_extents (scope ctx.now) (given_entry member.now) }
+{
+    member.tag == DW_TAG_member
+        && stands_in_storage(ctx, member)
+        && !is_given(member, DW_AT_data_bit_offset)
+        && !is_given(member, DW_AT_byte_size)
+        && counts_back(ctx.form.order)
+}
+
+/// The extents of the unit's entries are read, where an entry is the first whose place is found by them.
+pub fn prepare(
+    alloc: Global,
+    ctx: &mut UnitCtx<'_, '_>,
+    entry: &Entry<'_, '_>,
+) -> Result<(), AllocError>
+    requires known { IfSome ctx.old.extents (λ x. SayExtents (scope ctx.old) x.rows.items) }
+    requires rising { Rises ctx.old.start.entries }
+    ensures form { OnOk result (ctx.new.form ≡ ctx.old.form) }
+    ensures version { OnOk result (ctx.new.version ≡ ctx.old.version) }
+    ensures start { OnOk result (ctx.new.start ≡ ctx.old.start) }
+    ensures known { OnOk result (IfSome ctx.new.extents (λ x. SayExtents (scope ctx.new) x.rows.items)) }
+    ensures ready { OnOk result (IsReady ctx.new (given_entry entry.now)) }
+{
+    if ctx.extents.is_some() || !needs_others(ctx, entry) {
+        return Ok(());
+    }
+    let extents = read_extents(alloc, &ctx.form, ctx.start.copy())?;
+    ctx.extents = Some(extents);
+    Ok(())
+}

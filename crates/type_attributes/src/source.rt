@@ -1,0 +1,116 @@
+//! The types of a unit, as they are given back.
+ghost use Rattle.std.specs.Prelude.{◌≡◌};
+
+use c_model::Label;
+use std::marker::Model;
+
+/// What a type refers to, before entries have numbers.
+#[derive(Clone, Copy, Debug, PartialEq, Eq)]
+pub enum Target {
+    /// The type `void`.
+    Void,
+    /// The type of the indices of arrays, of which each unit with an array has one.
+    Index,
+    /// The entry at the offset `to` of `.debug_info`, which the entry at `from` refers to.
+    Entry { from: u64, to: u128 },
+}
+
+/// A list of targets. Contracts see it as the list.
+#[derive(Debug, Drop)]
+pub struct Targets {
+    items: Vec<Target>,
+}
+
+impl Model for Targets {
+    ghost use Rattle.std.specs.Prelude.{List};
+    ghost use Rattle.type_attributes.specs.declared.source.Target.{Target};
+
+    ghost Value = { List Target };
+
+    ghost view = { λ s. s.items.items };
+}
+
+impl Targets {
+    /// The list of these targets.
+    pub fn new(items: Vec<Target>) -> Targets
+        ensures { result ≡ items.items }
+    {
+        Targets { items }
+    }
+
+    /// The targets as a slice.
+    #[inline(always)]
+    pub fn items(&self) -> &[Target]
+        ensures { result.now ≡ self.now }
+    {
+        self.items.as_slice()
+    }
+
+    /// Gives the targets back, without a copy.
+    pub fn into_items(self) -> Vec<Target>
+        ensures { result.items ≡ self }
+    {
+        self.items
+    }
+}
+
+/// The type that an entry is.
+#[derive(Debug, Drop)]
+pub struct SourceType<'a> {
+    /// The offset of the entry in `.debug_info`.
+    pub at: u64,
+    /// What the type is.
+    pub label: Label<'a>,
+    /// What it refers to, in order.
+    pub targets: Targets,
+}
+
+/// A list of types. Contracts see it as the list.
+#[derive(Debug, Drop)]
+pub struct SourceTypes<'a> {
+    items: Vec<SourceType<'a>>,
+}
+
+impl<'a> Model for SourceTypes<'a> {
+    ghost use Rattle.std.specs.Prelude.{List};
+    ghost use Rattle.type_attributes.specs.declared.source.SourceType.{SourceType};
+
+    ghost Value = { List SourceType };
+
+    ghost view = { λ s. s.items.items };
+}
+
+impl<'a> SourceTypes<'a> {
+    /// The list of these types.
+    pub fn new(items: Vec<SourceType<'a>>) -> SourceTypes<'a>
+        ensures { result ≡ items.entry.items }
+    {
+        SourceTypes { items }
+    }
+
+    /// The types as a slice.
+    #[inline(always)]
+    pub fn items(&self) -> &[SourceType<'a>]
+        ensures { result.now ≡ self.now }
+    {
+        self.items.as_slice()
+    }
+
+    /// Gives the types back, without a copy.
+    pub fn into_items(self) -> Vec<SourceType<'a>>
+        ensures { result.items ≡ self.entry }
+    {
+        self.items
+    }
+}
+
+/// The types of a unit.
+#[derive(Debug, Drop)]
+pub struct UnitTypes<'a> {
+    /// Whether the unit is read: not, where its language is one whose units are passed over.
+    pub read: bool,
+    /// Whether one of the types is an array.
+    pub has_array: bool,
+    /// The types in the order of their entries.
+    pub types: SourceTypes<'a>,
+}
