@@ -20,7 +20,7 @@ use std::alloc::Global;
 
 /// What a base type is to BTF.
 #[derive(Clone, Copy, Debug, PartialEq, Eq)]
-enum Base {
+pub enum Base {
     /// An INT, with its word of encoding, offset and bits.
     Int(u32),
     /// A FLOAT.

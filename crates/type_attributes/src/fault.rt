@@ -86,7 +86,7 @@ impl<T: Drop> From<AllocFailed<T>> for TypeFault {
 
 /// Where a refusal stands among others: by its entry, then its number, then what it keeps.
 #[derive(Clone, Copy)]
-struct Rank {
+pub struct Rank {
     at: u64,
     kept: u64,
     more: u64,
