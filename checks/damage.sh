@@ -32,4 +32,4 @@ build clang elf.8 -glldb -c "$scratch/tags.c"
 if (cd "$scratch" && "$program" --btf_encode_detached=btf.base elf.6 && "$program" --btf_encode_detached=btf.split --btf_base=btf.base elf.1); then :; else
   echo "failed damage: the base or the table over it can't be made"
 fi
-python3 -B "$root/checks/lib/damage.py" "$program" "$scratch" "${RUNS:-1000}"
+python3 -B "$root/checks/lib/damage.py" "$program" "$scratch" ${RUNS:+"$RUNS"}

@@ -1,5 +1,5 @@
-"""damage.py PROGRAM FOLDER RUNS: runs PROGRAM so often on damaged copies of FOLDER's files elf.*, btf.base and btf.split, in turn, with options
-that change from run to run."""
+"""damage.py PROGRAM FOLDER [RUNS]: runs PROGRAM so often (by default RUNS of this file) on damaged copies of FOLDER's files elf.*, btf.base and btf.split, in turn, with
+options that change from run to run."""
 import collections
 import glob
 import os
@@ -10,6 +10,7 @@ import sys
 
 from elf import sections
 
+RUNS = 1000
 SECONDS = 10
 LINE = re.compile(
     rb"pahole: (a|B|-): (image|\.debug_info|\.debug_abbrev|btf|table) \d+: error \d+( -?\d+){0,2}\n"
@@ -100,7 +101,8 @@ def run(program, folder, words):
 
 
 def main():
-    program, folder, runs = os.path.abspath(sys.argv[1]), sys.argv[2], int(sys.argv[3])
+    program, folder = os.path.abspath(sys.argv[1]), sys.argv[2]
+    runs = int(sys.argv[3]) if len(sys.argv) > 3 else RUNS
     dice = random.Random(20261127)
     ends, bad, told = collections.Counter(), 0, list(plans(folder))
     for number in range(runs):
