@@ -23,9 +23,9 @@ test:
 measure:
 	bash tools/measure.sh $(VMLINUX)
 
-# whether Debian's tool pahole writes the same types for FILES='a b', compared by what they are
+# whether Debian's tool pahole writes the same types for FILES='a b', compared by what they are; FUNCS=1 looks at functions, too
 agree:
-	python3 -B tools/agree.py $(PROGRAM) $(FILES)
+	python3 -B tools/agree.py $(PROGRAM) $(if $(FUNCS),--funcs) $(FILES)
 
 # CRATES='a b' plants in these alone, WRITE=1 writes docs/AUDIT.md's rows
 plants:

@@ -1,8 +1,9 @@
 #!/usr/bin/env bash
-# Damages real programs a thousand times, always the same way: 1 to 8 bytes are changed, half of them in the sections of debugging
-# information, or the file is cut off. Each time the built program ends within seconds with a status from 0 to 5, by no signal, stores
-# nothing unless it ends with 0, and complains one line of its form, or nothing on 0. The programs are that of demo/ for this machine, and
-# for 32 bits and big-endian machines where compilers for them are installed.
+# Damages real files RUNS times (by default 1,000), always the same way: 1 to 8 bytes are changed, half of them in the sections of debugging
+# information, or the file is cut off. Each time the built program, with options that change from run to run, ends within seconds with a status
+# from 0 to 5, by no signal, stores or prints nothing unless it ends with 0, and complains one line of its form, or nothing on 0. The files are the
+# program of demo/ for this machine and, where compilers for them are installed, for 32 bits and big-endian machines, of DWARF 4, as a
+# relocatable object, and with type tags of clang; BTF files, and split tables over a base, of which one or the other is damaged.
 set -u
 export LC_ALL=C
 . "$(dirname "$0")/lib/program.sh"
@@ -10,9 +11,25 @@ export LC_ALL=C
 need damage cc python3
 scratch=$(mktemp -d) || exit 2
 trap 'rm -rf "$scratch"' EXIT
-build() { "$1" -g -gdwarf-5 ${3:+"$3"} -o "$scratch/whole.$2" "$root/demo/registry.c" "$root/demo/main.c" 2>/dev/null; }
-build cc 1 || exit 2
-build cc 2 -m32 || echo "skipped damage cc -m32: it can't be built"
-build powerpc64-linux-gnu-gcc 3 || echo "skipped damage powerpc64-linux-gnu-gcc: it can't be built"
-build mips-linux-gnu-gcc 4 || echo "skipped damage mips-linux-gnu-gcc: it can't be built"
-python3 -B "$root/checks/lib/damage.py" "$program" "$scratch"
+sources=("$root/demo/registry.c" "$root/demo/main.c")
+# a compiler, the file's name, and flags: a file that can't be built is skipped by name
+build() {
+  local compiler=$1 name=$2
+  shift 2
+  "$compiler" -w -g -o "$scratch/$name" "$@" 2>/dev/null || echo "skipped damage $name: $compiler can't build it"
+}
+build cc elf.1 -gdwarf-5 "${sources[@]}"
+build cc elf.2 -gdwarf-5 -m32 "${sources[@]}"
+build powerpc64-linux-gnu-gcc elf.3 -gdwarf-5 "${sources[@]}"
+build mips-linux-gnu-gcc elf.4 -gdwarf-5 "${sources[@]}"
+build cc elf.5 -gdwarf-4 "${sources[@]}"
+build cc elf.6 -gdwarf-5 -c "${sources[0]}"
+build aarch64-linux-gnu-gcc elf.7 -gdwarf-4 -c "${sources[1]}"
+printf '%s\n' 'int __attribute__((btf_type_tag("user"))) *where; struct at { int __attribute__((btf_type_tag("rcu"))) *to; } at;' >"$scratch/tags.c"
+build clang elf.8 -glldb -c "$scratch/tags.c"
+[ -f "$scratch/elf.1" ] || exit 2
+# BTF files: a table, and a split one over it
+if (cd "$scratch" && "$program" --btf_encode_detached=btf.base elf.6 && "$program" --btf_encode_detached=btf.split --btf_base=btf.base elf.1); then :; else
+  echo "failed damage: the base or the table over it can't be made"
+fi
+python3 -B "$root/checks/lib/damage.py" "$program" "$scratch" ${RUNS:+"$RUNS"}

@@ -13,8 +13,8 @@ from made import elf
 
 MOST, ENOUGH, LARGER, LIMIT = 3, 0.5, 5, 120
 # tags, attributes and forms of DWARF 5, tables 7.3, 7.5 and 7.6 in its section 7.5
-ARRAY, ENUMERATION, PARAMETER, BLOCK, MEMBER, POINTER, UNIT, STRUCTURE, SUBROUTINE, TYPEDEF, SUBRANGE, BASE, ENUMERATOR = (
-    0x01, 0x04, 0x05, 0x0B, 0x0D, 0x0F, 0x11, 0x13, 0x15, 0x16, 0x21, 0x24, 0x28)
+ARRAY, ENUMERATION, PARAMETER, BLOCK, MEMBER, POINTER, UNIT, STRUCTURE, SUBROUTINE, TYPEDEF, SUBRANGE, BASE, ENUMERATOR, FUNCTION = (
+    0x01, 0x04, 0x05, 0x0B, 0x0D, 0x0F, 0x11, 0x13, 0x15, 0x16, 0x21, 0x24, 0x28, 0x2E)
 NAME, SIZE, LANGUAGE, VALUE, COUNT, PLACE, DECLARATION, ENCODING, TYPE = 0x03, 0x0B, 0x13, 0x1C, 0x37, 0x38, 0x3C, 0x3E, 0x49
 DATA2, DATA4, STRING, DATA1, STRP, REF4, FLAG = 0x05, 0x06, 0x08, 0x0B, 0x0E, 0x13, 0x19
 C11 = 0x1D
@@ -98,6 +98,29 @@ def types_in_each_other(n):
     return file(table, unit(b"\2\4\3" * n + b"\0" * 2 * n))
 
 
+FUNCTIONS = ROOT + INT + abbreviation(3, FUNCTION, 1, (NAME, STRING)) + abbreviation(4, PARAMETER, 0, (NAME, STRING), (TYPE, REF4))
+ONE_INT = struct.pack("<I", FIRST)
+
+
+def functions_in_each_other(n):
+    return file(FUNCTIONS, unit(b"\3f\0" * n + b"\0" * n))
+
+
+def functions_of_one_name(n):
+    """Functions whose prototypes differ in the name of a parameter."""
+    return file(FUNCTIONS, unit(INT_ENTRY + b"".join(b"\3f\0\4%d\0" % i + ONE_INT + b"\0" for i in range(n))))
+
+
+def functions_with_parameters(n):
+    """Functions of different names with the same eight parameters."""
+    parameters = b"".join(b"\4%c\0" % (97 + i) + ONE_INT for i in range(8))
+    return file(FUNCTIONS, unit(INT_ENTRY + b"".join(b"\3f%d\0" % i + parameters + b"\0" for i in range(n))))
+
+
+def parameters(n):
+    return file(FUNCTIONS, unit(INT_ENTRY + b"\3f\0" + (b"\4a\0" + ONE_INT) * n + b"\0"))
+
+
 def entries_that_are_no_members(n):
     table = ROOT + abbreviation(2, STRUCTURE, 1, (SIZE, DATA1)) + abbreviation(3, BLOCK, 0)
     return file(table, unit(b"\2\4" + b"\3" * n + b"\0"))
@@ -178,6 +201,10 @@ def encoding(n):
     return ["--btf_encode_detached=o", "a"]
 
 
+def encoding_functions(n):
+    return ["--btf_encode_detached=o", "--funcs", "a"]
+
+
 def showing(n):
     return ["-F", "btf", "-s", "a"]
 
@@ -203,6 +230,10 @@ KINDS = [
     ("codes of abbreviations far apart", codes_far_apart, 12_500, True, encoding),
     ("names that are ends of one text", ends_of_one_text, 5_000, True, encoding),
     ("members of one structure", members, 16_383, False, encoding),
+    ("functions in each other", functions_in_each_other, 12_500, True, encoding_functions),
+    ("functions of one name that differ", functions_of_one_name, 12_500, True, encoding_functions),
+    ("functions of many names", functions_with_parameters, 12_500, True, encoding_functions),
+    ("parameters of one function", parameters, 16_383, False, encoding_functions),
     ("typedefs of a BTF file", typedefs_of_btf, 12_500, True, showing),
     ("arrays of a BTF file", arrays_of_btf, 12_500, True, showing),
     ("names of `-C`", structures_of_btf, 5_000, False, showing_names),
