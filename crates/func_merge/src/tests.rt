@@ -19,25 +19,19 @@ use std::thread::Threads;
 /// The strings of each BTF file here: `int` at 1, `foo` at 5.
 const NAMES: &[u8] = b"\0int\0foo\0";
 
-/// `int`, as the words of a type in a BTF file.
-const INT: [u32; 4] = [1, 0x0100_0000, 4, 0x0100_0020];
-
-/// A structure `foo` of so many bytes, without members.
-fn structure(size: u32) -> [u32; 3] {
-    [5, 0x0400_0000, size]
-}
-
-/// The declaration of a structure `foo`.
-const FORWARD: [u32; 3] = [5, 0x0700_0000, 0];
-
-/// A pointer to the type of an id.
-fn pointer(to: u32) -> [u32; 3] {
-    [0, 0x0200_0000, to]
-}
-
-/// A prototype without parameters that returns the type of an id; 0 is void.
-fn proto(returns: u32) -> [u32; 3] {
-    [0, 0x0d00_0000, returns]
+/// A type of a BTF file. Ids count from 1; 0 is void.
+#[derive(Clone, Copy)]
+enum Type {
+    /// `int`.
+    Int,
+    /// A structure `foo` of so many bytes, without members.
+    Foo(u32),
+    /// The declaration of a structure `foo`.
+    Forward,
+    /// A pointer to the type of an id.
+    Pointer(u32),
+    /// A prototype without parameters that returns the type of an id.
+    Proto(u32),
 }
 
 /// A function entry, or a chosen function with the entry's prototype: its name, whether other units can call it, and
@@ -65,23 +59,12 @@ fn local(name: &'static [u8], proto: u32) -> Row {
     }
 }
 
-/// What is chosen, or how many nodes are too many.
+/// The types of files with the prototypes behind the first `plain`, and the entries.
 #[derive(Clone, Copy)]
-enum Wanted<'c> {
-    Chosen(&'c [Row]),
-    TooMany(u64),
-}
-
-/// A choice: the base's types, if there are some; the types of files with the prototypes behind the first `plain`; the
-/// entries; the most nodes; and what comes of it.
-#[derive(Clone, Copy)]
-struct Case<'c> {
-    base: &'c [&'c [u32]],
-    types: &'c [&'c [u32]],
+struct Files<'c> {
+    types: &'c [Type],
     plain: u32,
     rows: &'c [Row],
-    most: u32,
-    wanted: Wanted<'c>,
 }
 
 fn push_word(bytes: &mut Vec<u8>, word: u32) -> Result<(), AllocError> {
@@ -89,16 +72,34 @@ fn push_word(bytes: &mut Vec<u8>, word: u32) -> Result<(), AllocError> {
     Ok(())
 }
 
-/// A BTF file of these types.
-fn btf(alloc: Global, types: &[&[u32]]) -> Result<Vec<u8>, AllocError> {
-    let mut list = Vec::new(alloc);
-    for words in types {
-        for word in *words {
-            push_word(&mut list, *word)?;
-        }
+/// Appends the words of a type.
+fn push_type(bytes: &mut Vec<u8>, t: Type) -> Result<(), AllocError> {
+    let (name, info, size) = match t {
+        Type::Int => (1, 0x0100_0000, 4),
+        Type::Foo(size) => (5, 0x0400_0000, size),
+        Type::Forward => (5, 0x0700_0000, 0),
+        Type::Pointer(to) => (0, 0x0200_0000, to),
+        Type::Proto(returns) => (0, 0x0d00_0000, returns),
+    };
+    push_word(bytes, name)?;
+    push_word(bytes, info)?;
+    push_word(bytes, size)?;
+    if let Type::Int = t {
+        push_word(bytes, 0x0100_0020)?;
     }
+    Ok(())
+}
+
+/// A BTF file of these types.
+fn btf(alloc: Global, types: &[Type]) -> Result<Vec<u8>, AllocError> {
+    let mut list = Vec::new(alloc);
+    for t in types {
+        push_type(&mut list, *t)?;
+    }
+    let Ok(len) = u32::try_from(list.len()) else {
+        return Err(AllocError);
+    };
     let mut bytes = Vec::new(alloc);
-    let len = list.len() as u32;
     for word in [0x0001_eb9f, 24, 0, len, len, NAMES.len() as u32] {
         push_word(&mut bytes, word)?;
     }
@@ -149,18 +150,19 @@ fn choose<'a, R: Threads + Sync>(
     rt: &R,
     alloc: Global,
     base: Option<&Table<'a>>,
+    most: u32,
     graph: &Graph<'a>,
-    case: &Case<'_>,
+    files: &Files<'_>,
 ) -> Result<Result<PackedGraph<'a>, TableFault>, Fail>
     requires base { IfSome base (λ b. CanBeBase b.now) }
     requires alone { graph.now.base ≡ 0 }
     requires well { All IsWellFormed graph.now.nodes }
 {
-    let funcs = entries(alloc, case.rows)?;
-    if graph.len() > 100 || funcs.len() > 100 || case.plain > graph.len() {
+    let funcs = entries(alloc, files.rows)?;
+    if graph.len() > 100 || funcs.len() > 100 || files.plain > graph.len() {
         return Err(Fail::from("too many nodes or entries"));
     }
-    if !refer_below(case.plain, graph.nodes()) || !is_fitting(graph) {
+    if !refer_below(files.plain, graph.nodes()) || !is_fitting(graph) {
         return Err(Fail::from("no graph of prototypes"));
     }
     if !have_protos(graph.len(), &funcs) || !are_named(&funcs) {
@@ -168,10 +170,10 @@ fn choose<'a, R: Threads + Sync>(
     }
     let protos = Protos {
         graph: packed(alloc, graph)?,
-        plain: case.plain,
+        plain: files.plain,
         funcs: Funcs::new(funcs),
     };
-    Ok(choose_over(rt, alloc, base, case.most, protos))
+    Ok(choose_over(rt, alloc, base, most, protos))
 }
 
 /// Whether two nodes have one kind and the same references.
@@ -212,99 +214,132 @@ fn has_funcs(nodes: &[CType<'_>], types: &[CType<'_>], plain: usize, rows: &[Row
     true
 }
 
-/// Whether what comes of a case is what is wanted.
-fn is_met<R: Threads + Sync>(rt: &R, alloc: Global, case: &Case<'_>) -> Result<bool, Fail> {
-    let below = if case.base.is_empty() {
-        Vec::new(alloc)
-    } else {
-        btf(alloc, case.base)?
-    };
-    let bytes = btf(alloc, case.types)?;
-    let base = base_of(alloc, &below)?;
-    let graph = graph_of(alloc, &bytes)?;
-    let answer = choose(rt, alloc, base.as_ref(), &graph, case)?;
-    match (answer, case.wanted) {
-        (Ok(chosen), Wanted::Chosen(rows)) => {
-            let chosen = chosen.unpack(alloc)?;
-            Ok(has_funcs(chosen.nodes(), graph.nodes(), case.plain as usize, rows))
-        }
-        (Err(TableFault::NodesTooMany(count)), Wanted::TooMany(wanted)) => Ok(count == wanted),
-        _ => Ok(false),
+/// The bytes of a base, none where it has no types.
+fn bytes_of_base(alloc: Global, base: &[Type]) -> Result<Vec<u8>, AllocError> {
+    if base.is_empty() {
+        return Ok(Vec::new(alloc));
     }
+    btf(alloc, base)
+}
+
+/// Whether the functions of these rows are chosen of the types that bytes spell, behind a base, where it has bytes.
+fn chooses_from<'a, R: Threads + Sync>(
+    rt: &R,
+    alloc: Global,
+    below: &'a [u8],
+    most: u32,
+    bytes: &'a [u8],
+    files: &Files<'_>,
+    rows: &[Row],
+) -> Result<bool, Fail> {
+    let base = base_of(alloc, below)?;
+    let graph = graph_of(alloc, bytes)?;
+    match choose(rt, alloc, base.as_ref(), most, &graph, files)? {
+        Ok(chosen) => {
+            let chosen = chosen.unpack(alloc)?;
+            let plain = files.plain as usize;
+            Ok(has_funcs(chosen.nodes(), graph.nodes(), plain, rows))
+        }
+        Err(_) => Ok(false),
+    }
+}
+
+/// The same of types, behind a base, where it has types.
+fn chooses<R: Threads + Sync>(
+    rt: &R,
+    alloc: Global,
+    base: &[Type],
+    most: u32,
+    files: &Files<'_>,
+    rows: &[Row],
+) -> Result<bool, Fail> {
+    let below = bytes_of_base(alloc, base)?;
+    let bytes = btf(alloc, files.types)?;
+    chooses_from(rt, alloc, &below, most, &bytes, files, rows)
+}
+
+/// The same without a base, of entries of two prototypes that return `int`, and of one that returns nothing.
+fn chooses_of<R: Threads + Sync>(
+    rt: &R,
+    alloc: Global,
+    rows: &[Row],
+    wanted: &[Row],
+) -> Result<bool, Fail> {
+    let types = [Type::Int, Type::Proto(1), Type::Proto(1), Type::Proto(0)];
+    let files = Files {
+        types: &types,
+        plain: 1,
+        rows,
+    };
+    chooses(rt, alloc, &[], 0, &files, wanted)
+}
+
+/// Why nothing is chosen of the types that bytes spell behind a base.
+fn refusal_from<'a, R: Threads + Sync>(
+    rt: &R,
+    alloc: Global,
+    below: &'a [u8],
+    most: u32,
+    bytes: &'a [u8],
+    files: &Files<'_>,
+) -> Result<Option<TableFault>, Fail> {
+    let base = base_of(alloc, below)?;
+    let graph = graph_of(alloc, bytes)?;
+    Ok(choose(rt, alloc, base.as_ref(), most, &graph, files)?.err())
+}
+
+/// The same of types behind a base.
+fn refusal<R: Threads + Sync>(
+    rt: &R,
+    alloc: Global,
+    base: &[Type],
+    most: u32,
+    files: &Files<'_>,
+) -> Result<Option<TableFault>, Fail> {
+    let below = bytes_of_base(alloc, base)?;
+    let bytes = btf(alloc, files.types)?;
+    refusal_from(rt, alloc, &below, most, &bytes, files)
 }
 
 #[test]
 fn without_a_base(rt: HostRuntime) -> Result<(), Fail> {
     let alloc = rt.alloc();
     let (f, g) = (b"f".as_slice(), b"g".as_slice());
-    let types: [&[u32]; 4] = [&INT, &proto(1), &proto(1), &proto(0)];
-    // Entries, and which of them are chosen.
-    let cases: [(&[Row], &[Row]); 6] = [
-        (&[], &[]),
-        (&[global(f, 1)], &[global(f, 1)]),
-        // A static and an external function of one name, and prototypes of one class.
-        (&[local(f, 1), global(f, 2)], &[]),
-        (&[local(f, 2), local(f, 1)], &[local(f, 2)]),
-        // Prototypes that differ.
-        (&[global(f, 1), global(f, 3)], &[]),
-        (
-            &[global(g, 3), local(f, 1), local(g, 3), local(f, 2)],
-            &[local(f, 1)],
-        ),
-    ];
-    for (rows, wanted) in cases {
-        let case = Case {
-            base: &[],
-            types: &types,
-            plain: 1,
-            rows,
-            most: 0,
-            wanted: Wanted::Chosen(wanted),
-        };
-        assert!(rt; is_met(&rt, alloc, &case)?);
-    }
+    // No functions, and one.
+    assert!(rt; chooses_of(&rt, alloc, &[], &[])?);
+    assert!(rt; chooses_of(&rt, alloc, &[global(f, 1)], &[global(f, 1)])?);
+    // A static and an external function of one name; prototypes of one class; and prototypes that differ.
+    assert!(rt; chooses_of(&rt, alloc, &[local(f, 1), global(f, 2)], &[])?);
+    assert!(rt; chooses_of(&rt, alloc, &[local(f, 2), local(f, 1)], &[local(f, 2)])?);
+    assert!(rt; chooses_of(&rt, alloc, &[global(f, 1), global(f, 3)], &[])?);
+    let mixed = [global(g, 3), local(f, 1), local(g, 3), local(f, 2)];
+    assert!(rt; chooses_of(&rt, alloc, &mixed, &mixed[1..2])?);
     Ok(())
 }
 
 #[test]
 fn behind_a_base(rt: HostRuntime) -> Result<(), Fail> {
     let alloc = rt.alloc();
-    let f = b"f".as_slice();
     // Two prototypes return pointers to `foo`, where it is defined and where it is only declared.
-    let types: [&[u32]; 6] = [
-        &structure(4),
-        &FORWARD,
-        &pointer(1),
-        &pointer(2),
-        &proto(3),
-        &proto(4),
+    let types = [
+        Type::Foo(4),
+        Type::Forward,
+        Type::Pointer(1),
+        Type::Pointer(2),
+        Type::Proto(3),
+        Type::Proto(4),
     ];
-    let rows = [global(f, 4), global(f, 5)];
-    let case = Case {
-        base: &[],
+    let rows = [global(b"f", 4), global(b"f", 5)];
+    let files = Files {
         types: &types,
         plain: 4,
         rows: &rows,
-        most: 8,
-        wanted: Wanted::Chosen(&rows[..1]),
     };
-    assert!(rt; is_met(&rt, alloc, &case)?);
+    assert!(rt; chooses(&rt, alloc, &[], 8, &files, &rows[..1])?);
     // A base with the same definition changes nothing; one with two definitions leaves the declaration alone.
-    let one: [&[u32]; 2] = [&structure(4), &INT];
-    assert!(rt; is_met(&rt, alloc, &Case { base: &one, ..case })?);
-    let two: [&[u32]; 2] = [&structure(4), &structure(8)];
-    let none = Wanted::Chosen(&[]);
-    assert!(rt;
-        is_met(
-            &rt,
-            alloc,
-            &Case {
-                base: &two,
-                wanted: none,
-                ..case
-            }
-        )?
-    );
+    let (one, two) = ([Type::Int, Type::Foo(4)], [Type::Foo(4), Type::Foo(8)]);
+    assert!(rt; chooses(&rt, alloc, &one, 8, &files, &rows[..1])?);
+    assert!(rt; chooses(&rt, alloc, &two, 8, &files, &[])?);
     Ok(())
 }
 
@@ -313,38 +348,15 @@ fn as_many_nodes_as_there_may_be(rt: HostRuntime) -> Result<(), Fail> {
     let alloc = rt.alloc();
     let rows = [local(b"f", 1)];
     // The base has the prototype; base and files have four nodes together.
-    let types: [&[u32]; 2] = [&INT, &proto(1)];
-    let case = Case {
-        base: &types,
+    let types = [Type::Int, Type::Proto(1)];
+    let files = Files {
         types: &types,
         plain: 1,
         rows: &rows,
-        most: 4,
-        wanted: Wanted::Chosen(&rows),
     };
-    assert!(rt; is_met(&rt, alloc, &case)?);
-    let refused = Wanted::TooMany(4);
-    assert!(rt;
-        is_met(
-            &rt,
-            alloc,
-            &Case {
-                most: 3,
-                wanted: refused,
-                ..case
-            }
-        )?
-    );
-    assert!(rt;
-        is_met(
-            &rt,
-            alloc,
-            &Case {
-                most: 0,
-                wanted: refused,
-                ..case
-            }
-        )?
-    );
+    assert!(rt; chooses(&rt, alloc, &types, 4, &files, &rows)?);
+    let refused = Some(TableFault::NodesTooMany(4));
+    assert_eq!(rt; refusal(&rt, alloc, &types, 3, &files)?, refused);
+    assert_eq!(rt; refusal(&rt, alloc, &types, 0, &files)?, refused);
     Ok(())
 }
