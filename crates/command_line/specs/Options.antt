@@ -1,7 +1,7 @@
 -- The table of the options.
 use Rattle.std.specs.Prelude.{ℕ, List, [], ◌∷◌, Bool, true, codes, ◌==◌, is_some}
 use Rattle.command_line.specs.declared.options.Setting.{Setting}
-use Rattle.command_line.specs.declared.options.Setting.TheVariants.{Out, Base, Selfmade, Names, Holes, Line, Format, Sizes, Jobs}
+use Rattle.command_line.specs.declared.options.Setting.TheVariants.{Out, Base, Selfmade, Names, Holes, Line, Format, Sizes, Jobs, Funcs}
 use Rattle.command_line.specs.declared.options.ValuePlace.{ValuePlace}
 use Rattle.command_line.specs.declared.options.ValuePlace.TheVariants.{Nowhere, NextWord, SameWord}
 use Rattle.command_line.specs.Values.{made_number, holes, line, jobs, file_name, names, format}
@@ -26,9 +26,10 @@ row Line = option 5 (codes "-c") NextWord (λ v. is_some (line v))
 row Format = option 6 (codes "-F") NextWord (λ v. is_some (format v))
 row Sizes = option 7 (codes "-s") Nowhere (λ v. true)
 row Jobs = option 8 (codes "-j") SameWord (λ v. is_some (jobs v))
+row Funcs = option 9 (codes "--funcs") Nowhere (λ v. true)
 
 abbrev pub settings : List Setting
-settings = Out ∷ Base ∷ Selfmade ∷ Names ∷ Holes ∷ Line ∷ Format ∷ Sizes ∷ Jobs ∷ []
+settings = Out ∷ Base ∷ Selfmade ∷ Names ∷ Holes ∷ Line ∷ Format ∷ Sizes ∷ Jobs ∷ Funcs ∷ []
 
 abbrev pub is_same : Setting → Setting → Bool
 is_same s t = (row s).rank == (row t).rank

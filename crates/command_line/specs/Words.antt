@@ -11,7 +11,7 @@ use Rattle.command_line.specs.declared.job.UsageFault.{UsageFault}
 use Rattle.command_line.specs.declared.job.JobFault.{JobFault}
 use Rattle.command_line.specs.declared.job.JobFault.TheVariants.{Usage, Memory}
 use Rattle.command_line.specs.declared.options.Setting.{Setting}
-use Rattle.command_line.specs.declared.options.Setting.TheVariants.{Out, Base, Selfmade, Names, Holes, Line, Format as Shape, Sizes, Jobs}
+use Rattle.command_line.specs.declared.options.Setting.TheVariants.{Out, Base, Selfmade, Names, Holes, Line, Format as Shape, Sizes, Jobs, Funcs}
 use Rattle.command_line.specs.declared.options.ValuePlace.{ValuePlace}
 use Rattle.command_line.specs.declared.options.ValuePlace.TheVariants.{NextWord, SameWord}
 use Rattle.command_line.specs.Values.{made_number, holes, line, jobs, file_name, names, format}
@@ -138,6 +138,7 @@ are_apart us =
     (is_used us Out && (list_any (is_used us) showing || is_used us Selfmade))
     || (is_used us Selfmade && (list_any (is_used us) showing || is_used us Base))
     || (is_used us Base && not (is_used us Out) && not (is_btf (format_of us)))
+    || (is_used us Funcs && not (is_used us Out))
 
 -- what is wrong with all words together, by the options and the number of files
 abbrev pub whole_fault : List (Setting × List ℕ) → ℕ → Option ℕ
@@ -151,7 +152,7 @@ jobs_wanted us = unwrap_or (read jobs Jobs us) 1
 
 abbrev pub job_by : Option ℕ → Option (List ℕ) → List (Setting × List ℕ) → List (List ℕ) → Job
 job_by (Some number) out us fs = Made number (jobs_wanted us)
-job_by None (Some out) us fs = Encode out (read file_name Base us) (jobs_wanted us) fs
+job_by None (Some out) us fs = Encode out (read file_name Base us) (jobs_wanted us) fs (is_used us Funcs)
 job_by None None us fs =
     Show (format_of us) (read file_name Base us) (read names Names us) (is_used us Sizes)
     (unwrap_or (read holes Holes us) 0) (unwrap_or (read line Line us) 64) (jobs_wanted us) fs
@@ -181,23 +182,23 @@ Gives (Err Memory) wanted = Unit {0}
 
 -- the files of a job, and its number of workers
 abbrev pub files_of : Job → List (List ℕ)
-files_of (Encode _ _ _ fs) = fs
+files_of (Encode _ _ _ fs _) = fs
 files_of (Show _ _ _ _ _ _ _ fs) = fs
 files_of (Made _ _) = []
 
 abbrev pub jobs_of : Job → ℕ
-jobs_of (Encode _ _ n _) = n
+jobs_of (Encode _ _ n _ _) = n
 jobs_of (Show _ _ _ _ _ _ n _) = n
 jobs_of (Made _ n) = n
 
 -- the names of the types that a job shows, and the size of a cache line; none, and 1, where it shows no layouts
 abbrev pub names_of : Job → List (List ℕ)
-names_of (Encode _ _ _ _) = []
+names_of (Encode _ _ _ _ _) = []
 names_of (Show _ _ None _ _ _ _ _) = []
 names_of (Show _ _ (Some ns) _ _ _ _ _) = ns
 names_of (Made _ _) = []
 
 abbrev pub line_of : Job → ℕ
-line_of (Encode _ _ _ _) = 1
+line_of (Encode _ _ _ _ _) = 1
 line_of (Show _ _ _ _ _ l _ _) = l
 line_of (Made _ _) = 1

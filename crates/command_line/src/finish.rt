@@ -74,10 +74,12 @@ fn are_apart(uses: &[Use<'_>]) -> bool
     let out = is_used(uses, Setting::Out);
     let selfmade = is_used(uses, Setting::Selfmade);
     let base = is_used(uses, Setting::Base);
+    let funcs = is_used(uses, Setting::Funcs);
     let shows = any_used(uses, &SHOWING);
     out && (shows || selfmade)
         || selfmade && (shows || base)
         || base && !out && !is_btf(format_of(uses))
+        || funcs && !out
 }
 
 /// Whether one of some options is used.
@@ -229,6 +231,7 @@ fn job_with(alloc: Global, uses: &[Use<'_>], files: Texts) -> Result<Job, AllocE
             base,
             jobs,
             files,
+            funcs: is_used(uses, Setting::Funcs),
         });
     }
     Ok(Job::Show {

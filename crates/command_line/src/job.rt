@@ -138,6 +138,8 @@ pub enum Job {
         jobs: u32,
         /// The names of the files that are read, in order; at least one.
         files: Texts,
+        /// Whether the functions of the files are encoded, too.
+        funcs: bool,
     },
     /// To print layouts.
     Show {

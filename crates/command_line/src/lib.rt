@@ -11,6 +11,7 @@
 //! | `-H N` | shows only types with at least N byte holes | 0 (default, shows all) to 4294967295 |
 //! | `-c N` | the size of a cache line in bytes | 1 to 4294967295, by default 64 |
 //! | `-jN` | the number of workers | 1 to 256, by default 1 |
+//! | `--funcs` | encodes functions, too; while encoding | none |
 //! | `--` | makes each later word a file | none |
 //!
 //! Without `--btf_encode_detached=` and `--selfmade=` the layouts of the types are shown; then no other job's options

@@ -25,6 +25,8 @@ pub enum Setting {
     Sizes,
     /// The number of workers.
     Jobs,
+    /// That functions are encoded, too.
+    Funcs,
 }
 
 /// Where an option's value stands.
@@ -39,7 +41,7 @@ pub enum ValuePlace {
 }
 
 /// All settings.
-pub const SETTINGS: [Setting; 9] = [
+pub const SETTINGS: [Setting; 10] = [
     Setting::Out,
     Setting::Base,
     Setting::Selfmade,
@@ -49,6 +51,7 @@ pub const SETTINGS: [Setting; 9] = [
     Setting::Format,
     Setting::Sizes,
     Setting::Jobs,
+    Setting::Funcs,
 ];
 
 /// The options that only jobs that show have.
@@ -75,6 +78,7 @@ impl Setting {
             Setting::Format => "-F",
             Setting::Sizes => "-s",
             Setting::Jobs => "-j",
+            Setting::Funcs => "--funcs",
         }
     }
 
@@ -89,7 +93,7 @@ impl Setting {
             Setting::Names | Setting::Holes | Setting::Line | Setting::Format => {
                 ValuePlace::NextWord
             }
-            Setting::Sizes => ValuePlace::Nowhere,
+            Setting::Sizes | Setting::Funcs => ValuePlace::Nowhere,
         }
     }
 
@@ -111,7 +115,7 @@ impl Setting {
             Setting::Holes => holes(value).is_some(),
             Setting::Line => line(value).is_some(),
             Setting::Format => format(value).is_some(),
-            Setting::Sizes => true,
+            Setting::Sizes | Setting::Funcs => true,
             Setting::Jobs => jobs(value).is_some(),
         }
     }

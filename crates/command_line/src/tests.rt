@@ -10,6 +10,13 @@ const JOBS: &str = "\
 a -> show dwarf base=- C=- H0 c64 j1: <a>
 --btf_encode_detached=o a -> encode o base=- j1: <a>
 --btf_encode_detached=o --btf_base=B a -> encode o base=B j1: <a>
+--btf_encode_detached=o --funcs a -> encode o base=- funcs j1: <a>
+--funcs --btf_encode_detached=o a b -> encode o base=- funcs j1: <a> <b>
+a --funcs -j2 --btf_base=B --btf_encode_detached=o -> encode o base=B funcs j2: <a>
+--btf_encode_detached=o -- --funcs --funcs -> encode o base=- j1: <--funcs> <--funcs>
+--btf_encode_detached=--funcs a -> encode --funcs base=- j1: <a>
+--btf_encode_detached=o --funcs -- --funcs -> encode o base=- funcs j1: <--funcs>
+-C --funcs a -> show dwarf base=- C=--funcs H0 c64 j1: <a>
 --btf_base=B -j3 --btf_encode_detached=o a b -> encode o base=B j3: <a> <b>
 a --btf_encode_detached=o b -> encode o base=- j1: <a> <b>
 -F dwarf a b -> show dwarf base=- C=- H0 c64 j1: <a> <b>
@@ -104,8 +111,14 @@ a -j0 -x -> word 1: usage 3
 -C , -x -> word 0: usage 3
 -H x -C -> word 0: usage 3
 -x -C -> word 0: usage 1
---funcs a -> word 0: usage 1
---btf_encode_detached=o --funcs --funcs a -> word 1: usage 1
+--btf_encode_detached=o --funcs --funcs a -> word 2: usage 4
+--funcs --funcs a -> word 1: usage 4
+--funcs a --funcs -x -> word 2: usage 4
+--funcs -j0 a -> word 1: usage 3
+--btf_encode_detached=o --funcs=x a -> word 1: usage 1
+--btf_encode_detached=o --funcs= a -> word 1: usage 1
+--btf_encode_detached=o --func a -> word 1: usage 1
+--btf_encode_detached=o -funcs a -> word 1: usage 1
 -é a -> word 0: usage 1
 -H ١ a -> word 0: usage 3
 -j４ a -> word 0: usage 3
@@ -137,6 +150,18 @@ const FAULTS_OF_ALL_WORDS: &str = "\
 -F btf a b -> word 4: usage 7
 -F btf a -- b -> word 5: usage 7
 --selfmade=1 -s a -> word 3: usage 5
+--funcs a -> word 2: usage 5
+--funcs -> word 1: usage 5
+--funcs --btf_base=B a -> word 3: usage 5
+--funcs -F btf a -> word 4: usage 5
+--funcs -F btf --btf_base=B a -> word 5: usage 5
+--funcs -F btf a b -> word 5: usage 5
+--funcs -F dwarf a -> word 4: usage 5
+--funcs --selfmade=1 -> word 2: usage 5
+--funcs --selfmade=1 a -> word 3: usage 5
+--btf_encode_detached=o --funcs -s a -> word 4: usage 5
+--btf_encode_detached=o --funcs --selfmade=1 -> word 3: usage 5
+--btf_encode_detached=o --funcs -> word 2: usage 6
 ";
 
 #[test]
@@ -207,10 +232,12 @@ fn said_of_job(alloc: Global, job: &Job) -> Result<String, AllocError> {
             base,
             jobs,
             files,
+            funcs,
         } => {
             let files = list(alloc, files)?;
+            let funcs = if *funcs { " funcs" } else { "" };
             format!(in alloc;
-                "encode {} base={} j{jobs}:{files}",
+                "encode {} base={}{funcs} j{jobs}:{files}",
                 out.as_str(),
                 text_or_dash(base)
             )

@@ -1,0 +1,131 @@
+//! The graph of the chosen functions.
+ghost use Rattle.std.specs.Prelude.{◌≡◌, ◌<◌, ◌≤◌, ◌+◌, ◌*◌, ◌^◌, ◌⊎◌, None, Some, All, length, IfOk, IfErr, IfSome};
+ghost use Rattle.std.specs.Option.{option_map};
+ghost use Rattle.base_merge.specs.Merging.{CanBeBase, KeepsLimit};
+ghost use Rattle.btf_codec.specs.Gives.{before_of};
+ghost use Rattle.c_model.specs.Forwards.{HasFittingForwards};
+ghost use Rattle.c_model.specs.Graph.{RefersWithin};
+ghost use Rattle.c_model.specs.Kinds.{HasNoNul, IsWellFormed};
+ghost use Rattle.split_base.specs.declared.fault.TableFault.TheVariants.{Memory};
+ghost use Rattle.func_merge.specs.Choosing.{AreChosenOver, AreTheChosen, RefusesChoice};
+
+use base_merge::merge::{base_classes, classes_over};
+use btf_codec::Table;
+use c_model::{Classes, Numbers, TypeGraph};
+use dw_base::Steps;
+use func_types::nodes::first_nodes;
+use func_types::{Protos, chosen_packed};
+use packed_graph::PackedGraph;
+use split_base::{TableFault, with_base_packed};
+use std::alloc::{AllocError, Global};
+use std::marker::Brand;
+use std::sync::ledger::{Blank, Ledger};
+use std::thread::Threads;
+
+/// The graph of the chosen functions: a name is chosen by the classes of the graph of prototypes, which stands behind
+/// the types of a base, where there is one. The graph itself has no base nodes.
+///
+/// It is refused by `NodesTooMany` exactly where there is a base, and the base and the graph of prototypes have more
+/// than `most` nodes together.
+pub fn choose_over<'a, R: Threads + Sync>(
+    rt: &R,
+    alloc: Global,
+    base: Option<&Table<'a>>,
+    most: u32,
+    protos: Protos<'a, PackedGraph<'a>>,
+) -> Result<PackedGraph<'a>, TableFault>
+    requires base { IfSome base (λ b. CanBeBase b.now) }
+    requires alone { protos.graph.base ≡ 0 }
+    requires plain { protos.plain ≤ length protos.graph.nodes }
+    requires within { RefersWithin protos.plain protos.graph.nodes }
+    requires protos { All (λ f. f.proto < length protos.graph.nodes) protos.funcs }
+    requires room { protos.plain + 2 * length protos.funcs < 2 ^ 32 }
+    requires well { All IsWellFormed protos.graph.nodes }
+    requires fitting { HasFittingForwards protos.graph }
+    requires names { All (λ f. HasNoNul f.name) protos.funcs }
+    ensures chosen { IfOk result (λ g. AreTheChosen (option_map (λ b. before_of b.now) base.entry) protos.entry g.nodes) }
+    ensures alone { IfOk result (λ g. g.base ≡ 0) }
+    ensures well { IfOk result (λ g. All IsWellFormed g.nodes) }
+    ensures fitting { IfOk result HasFittingForwards }
+    ensures limit { IfOk result (λ _. KeepsLimit most (option_map (λ b. before_of b.now) base.entry) protos.entry.graph.nodes) }
+    ensures refusal { IfErr result (RefusesChoice most (option_map (λ b. before_of b.now) base.entry) protos.entry.graph.nodes) }
+{
+    match base {
+        None => Ok(choose_alone::<Brand>(alloc, &protos, Blank::new(1))?),
+        Some(table) => choose_behind::<R, Brand>(rt, alloc, table, most, &protos, Blank::new(1)),
+    }
+}
+
+/// The graph of the chosen functions where there is no base.
+fn choose_alone<'a, L: Ledger>(
+    alloc: Global,
+    protos: &Protos<'a, PackedGraph<'a>>,
+    blank: Blank,
+) -> Result<PackedGraph<'a>, AllocError>
+    requires name { blank.name ≡ L.name }
+    requires parts { blank.parts ≡ L.parts }
+    requires some { 0 < L.parts }
+    requires alone { protos.now.graph.base ≡ 0 }
+    requires plain { protos.now.plain ≤ length protos.now.graph.nodes }
+    requires within { RefersWithin protos.now.plain protos.now.graph.nodes }
+    requires protos { All (λ f. f.proto < length protos.now.graph.nodes) protos.now.funcs }
+    requires room { protos.now.plain + 2 * length protos.now.funcs < 2 ^ 32 }
+    requires well { All IsWellFormed protos.now.graph.nodes }
+    requires fitting { HasFittingForwards protos.now.graph }
+    requires names { All (λ f. HasNoNul f.name) protos.now.funcs }
+    ensures chosen { IfOk result (λ g. AreChosenOver None protos.now g.nodes) }
+    ensures alone { IfOk result (λ g. g.base ≡ 0) }
+    ensures well { IfOk result (λ g. All IsWellFormed g.nodes) }
+    ensures fitting { IfOk result HasFittingForwards }
+{
+    let mut steps = Steps::<L>::new(blank);
+    let none = Classes::new(Numbers::new(Vec::new(alloc)));
+    let found = classes_over(alloc, &protos.graph, &none, &mut steps)?;
+    // What holds of every graph is known once this is asked for.
+    let _ = protos.graph.len();
+    chosen_packed(alloc, 0, protos, &found)
+}
+
+/// The graph of the chosen functions behind a base.
+fn choose_behind<'a, R: Threads + Sync, L: Ledger>(
+    rt: &R,
+    alloc: Global,
+    base: &Table<'a>,
+    most: u32,
+    protos: &Protos<'a, PackedGraph<'a>>,
+    blank: Blank,
+) -> Result<PackedGraph<'a>, TableFault>
+    requires name { blank.name ≡ L.name }
+    requires parts { blank.parts ≡ L.parts }
+    requires some { 0 < L.parts }
+    requires base { CanBeBase base.now }
+    requires alone { protos.now.graph.base ≡ 0 }
+    requires plain { protos.now.plain ≤ length protos.now.graph.nodes }
+    requires within { RefersWithin protos.now.plain protos.now.graph.nodes }
+    requires protos { All (λ f. f.proto < length protos.now.graph.nodes) protos.now.funcs }
+    requires room { protos.now.plain + 2 * length protos.now.funcs < 2 ^ 32 }
+    requires well { All IsWellFormed protos.now.graph.nodes }
+    requires fitting { HasFittingForwards protos.now.graph }
+    requires names { All (λ f. HasNoNul f.name) protos.now.funcs }
+    ensures chosen { IfOk result (λ g. AreChosenOver (Some (before_of base.now)) protos.now g.nodes) }
+    ensures alone { IfOk result (λ g. g.base ≡ 0) }
+    ensures well { IfOk result (λ g. All IsWellFormed g.nodes) }
+    ensures fitting { IfOk result HasFittingForwards }
+    ensures limit { IfOk result (λ _. length base.now.types + length protos.now.graph.nodes ≤ most) }
+    ensures refusal { IfErr result (RefusesChoice most (Some (before_of base.now)) protos.now.graph.nodes) }
+{
+    let mut steps = Steps::<L>::new(blank);
+    let kept = base_classes(rt, alloc, base, &mut steps)?;
+    let whole = with_base_packed(alloc, base, most, copy_of(alloc, &protos.graph)?)?;
+    let found = classes_over(alloc, &whole, &kept, &mut steps)?;
+    Ok(chosen_packed(alloc, whole.base(), protos, &found)?)
+}
+
+/// A second copy of a graph without base nodes.
+fn copy_of<'a>(alloc: Global, graph: &PackedGraph<'a>) -> Result<PackedGraph<'a>, AllocError>
+    requires { graph.now.base ≡ 0 }
+    ensures { IfOk result (λ g. g ≡ graph.now) }
+{
+    let nodes = first_nodes(alloc, graph, graph.len())?;
+    Ok(PackedGraph::new(0, nodes))
+}

@@ -1,0 +1,9 @@
+//! Laws of the definitions. Each function does nothing: its contract is the law.
+ghost use Rattle.func_merge.specs.Laws.{PartedIsOne, ChosenAreOne};
+
+/// The coarsest agreeing partition of a graph is one as a relation, and the nodes of the chosen functions depend on
+/// that relation alone: there is one graph of them.
+pub fn chosen_are_one()
+    ensures partitions { PartedIsOne }
+    ensures nodes { ChosenAreOne }
+{}

@@ -1,0 +1,11 @@
+//! The graph of the chosen functions, by the classes of the graph of prototypes behind a base, where there is one.
+#![tactic(auto)]
+
+pub mod choose;
+#[cfg(test)]
+mod fitting;
+pub mod laws;
+#[cfg(test)]
+mod tests;
+
+pub use choose::choose_over;
