@@ -7,3 +7,6 @@ pub mod Shaping
 pub mod Relating
 pub mod Choice
 pub mod Standing
+pub mod Following
+pub mod Gathering
+pub mod Refusing
