@@ -10,3 +10,6 @@ pub mod Standing
 pub mod Following
 pub mod Gathering
 pub mod Refusing
+pub mod Formed
+pub mod Outcome
+pub mod Encoded

@@ -10,13 +10,15 @@ pub mod linking;
 pub mod nodes;
 pub mod places;
 pub mod protos;
-pub mod prototypes;
 pub mod reading;
 mod shared;
 #[cfg(test)]
 mod tests;
+#[cfg(test)]
+mod unit_tests;
+pub mod units;
 
 pub use fault::FuncFault;
 pub use graph::{chosen, chosen_packed};
 pub use protos::{Func, Funcs, Protos};
-pub use prototypes::{FuncUnit, prototypes_packed};
+pub use units::{FuncUnit, prototypes, prototypes_packed};

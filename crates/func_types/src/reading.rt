@@ -26,6 +26,13 @@ pub struct Found<'a> {
     pub count: u32,
 }
 
+/// The number of the file that a unit is of.
+fn file_of(at: &UnitAt<'_>) -> u32
+    ensures { result ≡ at.now.file }
+{
+    at.file
+}
+
 /// The functions of a unit of a file. Its table of abbreviations is the last one then.
 fn functions_by<'a>(
     alloc: Global,
@@ -128,7 +135,7 @@ pub fn read_functions<'a>(
     let mut last = None;
     for i in 0..units.len() {
         let at = &units[i];
-        let file = at.file;
+        let file = file_of(at);
         match functions_by(alloc, &mut last, at) {
             Ok(unit) => push_unit(&mut found, file, unit)?,
             Err(fault) => return Err(fault_of(file, i as u32, fault)),

@@ -46,7 +46,6 @@ pub fn prototypes_packed<'a>(
     requires few { length units.now < 2 ^ 32 }
     requires readable { All IsReadable units.now }
     requires files { AreOfFiles units.now }
-    requires alone { graph.base ≡ 0 }
     requires types { IsGraphOf units.now graph.nodes }
     ensures protos { Gives (λ p. p) result (prototypes_of_units most units.now graph.entry.nodes) }
     // What `chosen` asks of it.
@@ -55,6 +54,10 @@ pub fn prototypes_packed<'a>(
     ensures within { IfOk result (λ p. RefersWithin p.plain p.graph.nodes) }
     ensures placed { IfOk result (λ p. All (λ f. f.proto < length p.graph.nodes) p.funcs) }
     ensures room { IfOk result (λ p. p.plain + 2 * length p.funcs ≤ most) }
+    // And what `chosen` keeps.
+    ensures formed { IfOk result (λ p. All IsWellFormed p.graph.nodes) }
+    ensures named { IfOk result (λ p. All (λ f. HasNoNul f.name) p.funcs) }
+    ensures fitting { IfOk result (λ p. HasFittingForwards p.graph) }
 {
     let found = read_functions(alloc, units)?;
     let plain = graph.len();
@@ -76,5 +79,47 @@ pub fn prototypes_packed<'a>(
             to: out.to,
             tag: find_tag(alloc, units, out.file, out.to)?,
         }),
+    }
+}
+
+/// The graph of the types of some units, and behind it the prototype of each function entry of these, in the order of the
+/// units and then of the entries. The graph that is given is that of the units' types. Units of one number are of one file.
+///
+/// A prototype refers to the types of its file, in its unit or not. Each node is well formed, none of the prototypes
+/// declares a tag, and no name has a NUL.
+///
+/// The first of these refuses: `Unit`, the first unit that one of its functions refuses; `NodesTooMany` where the types,
+/// and two nodes for each function entry, are more than `most`; `TypeRefOut`, the first reference, in the order of the
+/// prototypes and then of their targets, that names no type of its file. `Memory` comes only where memory can't be
+/// found.
+pub fn prototypes<'a>(
+    alloc: Global,
+    most: u32,
+    graph: &Graph<'a>,
+    units: &[FuncUnit<'a>],
+) -> Result<Protos<'a>, FuncFault>
+    requires few { length units.now < 2 ^ 32 }
+    requires readable { All IsReadable units.now }
+    requires files { AreOfFiles units.now }
+    requires types { IsGraphOf units.now graph.now.nodes }
+    ensures protos { Gives (λ p. p) result (prototypes_of_units most units.now graph.now.nodes) }
+    // What `chosen` asks of it.
+    ensures alone { IfOk result (λ p. p.graph.base ≡ 0) }
+    ensures plain { IfOk result (λ p. p.plain ≤ length p.graph.nodes) }
+    ensures within { IfOk result (λ p. RefersWithin p.plain p.graph.nodes) }
+    ensures placed { IfOk result (λ p. All (λ f. f.proto < length p.graph.nodes) p.funcs) }
+    ensures room { IfOk result (λ p. p.plain + 2 * length p.funcs ≤ most) }
+    // And what `chosen` keeps.
+    ensures formed { IfOk result (λ p. All IsWellFormed p.graph.nodes) }
+    ensures named { IfOk result (λ p. All (λ f. HasNoNul f.name) p.funcs) }
+    ensures fitting { IfOk result (λ p. HasFittingForwards p.graph) }
+{
+    match prototypes_packed(alloc, most, packed(alloc, graph)?, units) {
+        Ok(protos) => Ok(Protos {
+            graph: protos.graph.unpack(alloc)?,
+            plain: protos.plain,
+            funcs: protos.funcs,
+        }),
+        Err(fault) => Err(fault),
     }
 }
