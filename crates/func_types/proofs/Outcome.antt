@@ -50,9 +50,9 @@ counted : (most : ℕ) (units : List FileUnit) (nodes : List CType) (fs : List F
 counted most units nodes fs b read e =
     ap (λ (r : Result (List FileFunc) UnitRefusal). linked most units nodes (unit_faults r)) read
     ∙ ap
-      (λ (t : Bool).
-      if t then Err (NodesTooMany (length nodes + 2 * length fs)) else told_out units nodes fs (nodes_from (sources_by (gathered 0 [] units)) [] (prototypes_in (length nodes) fs)))
-      e
+    (λ (t : Bool).
+    if t then Err (NodesTooMany (length nodes + 2 * length fs)) else told_out units nodes fs (nodes_from (sources_by (gathered 0 [] units)) [] (prototypes_in (length nodes) fs)))
+    e
 
 pub too_many : (most : ℕ) (units : List FileUnit) (nodes : List CType) (fs : List FileFunc) → functions_from 0 [] units ≡ Ok fs → most < length nodes + 2 * length fs
     → prototypes_of_units most units nodes ≡ Err (NodesTooMany (length nodes + 2 * length fs))

@@ -63,12 +63,7 @@ fn added(count: u32, more: u32) -> Result<u32, AllocError>
 }
 
 /// Appends the places of a file's nodes, which are numbered from `first` on, and gives the next number.
-fn push_rows(
-    rows: &mut Vec<Row>,
-    file: u32,
-    first: u32,
-    places: &[u64],
-) -> Result<u32, AllocError>
+fn push_rows(rows: &mut Vec<Row>, file: u32, first: u32, places: &[u64]) -> Result<u32, AllocError>
     ensures rows { OnOk result (rows.new.items ≡ rows.old.items ++ rows_of first file places.now) }
     ensures next { IfOk result (λ n. n ≡ first + length places.now) }
 {
@@ -100,11 +95,7 @@ fn push_funcs<'a>(
 }
 
 /// What is read, with one unit more.
-fn push_unit<'a>(
-    found: &mut Found<'a>,
-    file: u32,
-    unit: UnitFuncs<'a>,
-) -> Result<(), AllocError>
+fn push_unit<'a>(found: &mut Found<'a>, file: u32, unit: UnitFuncs<'a>) -> Result<(), AllocError>
     ensures funcs { OnOk result (found.new.funcs.items ≡ found.old.funcs.items ++ of_file file unit.entry.funcs) }
     ensures rows { OnOk result (found.new.rows.items ≡ found.old.rows.items ++ rows_of found.old.count file unit.entry.places) }
     ensures count { OnOk result (found.new.count ≡ found.old.count + length unit.entry.places + index_count unit.entry.has_array) }
@@ -115,10 +106,7 @@ fn push_unit<'a>(
 }
 
 /// The function entries of units and the places of their types, or the fault of the first unit that is refused.
-pub fn read_functions<'a>(
-    alloc: Global,
-    units: &[UnitAt<'a>],
-) -> Result<Found<'a>, FuncFault>
+pub fn read_functions<'a>(alloc: Global, units: &[UnitAt<'a>]) -> Result<Found<'a>, FuncFault>
     requires few { length units.now < 2 ^ 32 }
     requires readable { All IsReadable units.now }
     requires files { AreOfFiles units.now }

@@ -37,7 +37,13 @@ fn put(file: &mut Vec<u8>, number: u64, width: u32) -> Result<(), AllocError> {
 }
 
 /// Puts a section header.
-fn put_header(file: &mut Vec<u8>, name: u64, kind: u64, at: u64, size: u64) -> Result<(), AllocError> {
+fn put_header(
+    file: &mut Vec<u8>,
+    name: u64,
+    kind: u64,
+    at: u64,
+    size: u64,
+) -> Result<(), AllocError> {
     put(file, name, 4)?;
     put(file, kind, 4)?;
     for number in [0, 0, at, size, 0, 0, 0] {
@@ -234,10 +240,22 @@ fn prototypes_in_lines(rt: HostRuntime) -> Result<(), Fail> {
     let cases: [([&[&[u8]]; 2], u32, Result<&str, FuncFault>); 7] = [
         ([&[], &[]], 0, Ok("")),
         ([&[FIRST, SECOND], &[OTHER]], 9, Ok(three)),
-        ([&[FIRST, SECOND], &[OTHER]], 8, Err(FuncFault::NodesTooMany(9))),
+        (
+            [&[FIRST, SECOND], &[OTHER]],
+            8,
+            Err(FuncFault::NodesTooMany(9)),
+        ),
         ([&[SECOND, SECOND], &[OUT]], 99, Err(out)),
-        ([&[SECOND, SECOND], &[OUT]], 9, Err(FuncFault::NodesTooMany(10))),
-        ([&[FIRST, SECOND], &[OTHER, UNTYPED, UNTYPED]], 99, Err(refused(3))),
+        (
+            [&[SECOND, SECOND], &[OUT]],
+            9,
+            Err(FuncFault::NodesTooMany(10)),
+        ),
+        (
+            [&[FIRST, SECOND], &[OTHER, UNTYPED, UNTYPED]],
+            99,
+            Err(refused(3)),
+        ),
         ([&[OUT], &[OTHER, UNTYPED]], 0, Err(refused(2))),
     ];
     for (files, most, wanted) in cases {
