@@ -192,9 +192,9 @@ fn answer<R: Threads + Sync>(
     rt: &R,
     alloc: Global,
     most: u32,
-    files: [&[&[u8]]; 2],
+    first: &[&[u8]],
+    second: &[&[u8]],
 ) -> Result<Result<String, FuncFault>, Fail> {
-    let [first, second] = files;
     let (first, second) = (info_of(alloc, first)?, info_of(alloc, second)?);
     let first = file_with(alloc, first.as_slice())?;
     let second = file_with(alloc, second.as_slice())?;
@@ -222,44 +222,41 @@ const UNTYPED: &[u8] = b"\x01\x04u\0\x06x\0\0\0";
 /// Two functions at 13 and 21, which return themselves.
 const OUT: &[u8] = b"\x01\x03p\0\x0d\0\0\0\0\x03q\0\x15\0\0\0\0\0";
 
-/// The units of two files, the most nodes, and what comes of them.
-#[test]
-fn prototypes_in_lines(rt: HostRuntime) -> Result<(), Fail> {
-    let refused = |unit: u32| FuncFault::Unit {
+/// The unit of this number, of the second file, is refused by a parameter at 46.
+fn refused(unit: u32) -> FuncFault {
+    FuncFault::Unit {
         file: 1,
         unit,
         fault: TypeFault::MissingType(46),
-    };
-    let out = FuncFault::TypeRefOut {
+    }
+}
+
+/// The function at this offset of the second file returns a function there.
+fn out(at: u64) -> FuncFault {
+    FuncFault::TypeRefOut {
         file: 1,
-        from: 13,
-        to: 13,
+        from: at,
+        to: u128::from(at),
         tag: 0x2e,
-    };
-    let three = "f true 3:13,1,0; g false 4:13,void,0; h false 5:13,void,2; ";
-    let cases: [([&[&[u8]]; 2], u32, Result<&str, FuncFault>); 7] = [
-        ([&[], &[]], 0, Ok("")),
-        ([&[FIRST, SECOND], &[OTHER]], 9, Ok(three)),
-        (
-            [&[FIRST, SECOND], &[OTHER]],
-            8,
-            Err(FuncFault::NodesTooMany(9)),
-        ),
-        ([&[SECOND, SECOND], &[OUT]], 99, Err(out)),
-        (
-            [&[SECOND, SECOND], &[OUT]],
-            9,
-            Err(FuncFault::NodesTooMany(10)),
-        ),
-        (
-            [&[FIRST, SECOND], &[OTHER, UNTYPED, UNTYPED]],
-            99,
-            Err(refused(3)),
-        ),
-        ([&[OUT], &[OTHER, UNTYPED]], 0, Err(refused(2))),
+    }
+}
+
+/// The units of two files, the most nodes, and what comes of them.
+#[test]
+fn prototypes_in_lines(rt: HostRuntime) -> Result<(), Fail> {
+    let two: &[&[u8]] = &[FIRST, SECOND];
+    let all = "f true 3:13,1,0; g false 4:13,void,0; h false 5:13,void,2; ";
+    let cases: [(&[&[u8]], &[&[u8]], u32, Result<&str, FuncFault>); 7] = [
+        (&[], &[], 0, Ok("")),
+        (two, &[OTHER], 9, Ok(all)),
+        (two, &[OTHER], 8, Err(FuncFault::NodesTooMany(9))),
+        (&[SECOND], &[OUT], 99, Err(out(13))),
+        (&[SECOND], &[OUT], 6, Err(FuncFault::NodesTooMany(7))),
+        (two, &[OTHER, UNTYPED, UNTYPED], 99, Err(refused(3))),
+        (&[OUT], &[OTHER, UNTYPED], 0, Err(refused(2))),
     ];
-    for (files, most, wanted) in cases {
-        match answer(&rt, rt.alloc(), most, files)? {
+    for (first, second, most, wanted) in cases {
+        match answer(&rt, rt.alloc(), most, first, second)? {
             Ok(text) => assert_eq!(rt; Ok(text.as_str()), wanted),
             Err(fault) => assert_eq!(rt; Err(fault), wanted),
         }
