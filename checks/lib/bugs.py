@@ -19,7 +19,7 @@ LAYERS = {
     "Entries": ["entry_tree"],
     "Types": ["type_attributes", "c_types"],
     "Made input": ["dwarf_gen"],
-    "Functions": ["func_entries", "func_types"],
+    "Functions": ["func_entries", "func_types", "func_merge"],
     "Graph": ["c_model", "packed_graph", "unit_graph", "unit_encoder", "forward_rule"],
     "Classes": ["type_signature", "class_refine", "class_halves"],
     "Table": ["split_base", "base_merge", "btf_strings"],
