@@ -7,3 +7,9 @@ pub mod Shaping
 pub mod Relating
 pub mod Choice
 pub mod Standing
+pub mod Following
+pub mod Gathering
+pub mod Refusing
+pub mod Formed
+pub mod Outcome
+pub mod Encoded

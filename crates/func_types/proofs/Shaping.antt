@@ -103,9 +103,9 @@ length_chosen class plain nodes funcs le =
     let e = length_funcs plain cs in
     (omega (arith, a, b, c, d, e), omega (arith, a, b, c, d, e))
 
-below_more : (m n : ℕ) (r : Ref) → m ≤ n → IsBelow m r → IsBelow n r
-below_more m n Void le h = tt
-below_more m n (Node x) le h = omega (arith, le, h)
+pub below_wider : (m n : ℕ) (r : Ref) → m ≤ n → IsBelow m r → IsBelow n r
+below_wider m n Void le h = tt
+below_wider m n (Node x) le h = omega (arith, le, h)
 
 pub chosen_within : (class : ℕ → ℕ) (plain : ℕ) (nodes : List CType) (funcs : List Func) → plain ≤ length nodes → RefersWithin plain nodes
     → RefersWithin (length (chosen_nodes class plain nodes funcs)) (chosen_nodes class plain nodes funcs)
@@ -119,7 +119,7 @@ chosen_within class plain nodes funcs le within =
     All-cons (IsBelow n) (Node k) [] (omega (arith, h, least)) (All-nil (IsBelow n)))
     (λ (k : ℕ) (f : Func) (h : k < length funcs). tt)
     (All-weaker (λ (t : CType). All (IsBelow plain) t.targets) below
-    (λ (t : CType) (h : All (IsBelow plain) t.targets). All-weaker (IsBelow plain) (IsBelow n) (λ (r : Ref) (b : IsBelow plain r). below_more plain n r (omega (arith, least)) b) t.targets h)
+    (λ (t : CType) (h : All (IsBelow plain) t.targets). All-weaker (IsBelow plain) (IsBelow n) (λ (r : Ref) (b : IsBelow plain r). below_wider plain n r (omega (arith, least)) b) t.targets h)
     nodes within)
 
 -- FUNC of a name without NUL is well formed

@@ -1,0 +1,133 @@
+//! Reading the function entries of units, one unit after the other.
+ghost use Rattle.std.specs.Prelude.{◌≡◌, ◌<◌, ◌+◌, ◌++◌, ◌^◌, [], All, List, Ok, length, IfOk, IfErr, IfSome, OnOk};
+ghost use Rattle.c_types.specs.Tables.{IsTableAt};
+ghost use Rattle.c_types.specs.Types.{types_of_unit_of};
+ghost use Rattle.c_types.specs.declared.source.UnitTypes.{UnitTypes};
+ghost use Rattle.func_entries.specs.Units.{functions_of_unit_of, Gives as FunctionsGive};
+ghost use Rattle.unit_graph.specs.Numbers.{rows_from};
+ghost use Rattle.unit_graph.specs.Sources.{IsReadable, Source, gathered};
+ghost use Rattle.unit_graph.specs.Tables.{AreOfFiles};
+ghost use Rattle.func_types.specs.Faults.{Fails, unit_faults};
+ghost use Rattle.func_types.specs.Prototypes.{functions_from, of_file};
+ghost use Rattle.func_types.specs.Reading.{index_count, rows_of};
+
+use crate::fault::{FuncFault, fault_of};
+use crate::file_funcs::FileFunc;
+use c_types::TypeFault;
+use func_entries::{FuncEntries, UnitFuncs, functions_of_unit_with};
+use std::alloc::{AllocError, Global};
+use unit_graph::{LastTable, Row, UnitAt, table_for};
+
+/// What is read of some units: their function entries, where their types stand, and how many nodes these are.
+#[derive(Drop)]
+pub struct Found<'a> {
+    pub funcs: Vec<FileFunc<'a>>,
+    pub rows: Vec<Row>,
+    pub count: u32,
+}
+
+/// The number of the file that a unit is of.
+fn file_of(at: &UnitAt<'_>) -> u32
+    ensures { result ≡ at.now.file }
+{
+    at.file
+}
+
+/// The functions of a unit of a file. Its table of abbreviations is the last one then.
+fn functions_by<'a>(
+    alloc: Global,
+    last: &mut Option<LastTable>,
+    at: &UnitAt<'a>,
+) -> Result<UnitFuncs<'a>, TypeFault>
+    requires readable { IsReadable at.now }
+    requires types { (t : UnitTypes) × (types_of_unit_of at.now.bytes at.now.unit ≡ Ok t) }
+    requires last { IfSome last.old (λ t. t.file ≡ at.now.file → IsTableAt at.now.bytes t.at t.abbrevs) }
+    ensures functions { FunctionsGive result (functions_of_unit_of at.now.bytes at.now.unit) }
+    ensures file { IfSome last.new (λ t. t.file ≡ at.now.file) }
+    ensures table { IfSome last.new (λ t. IsTableAt at.now.bytes t.at t.abbrevs) }
+{
+    let table = table_for(alloc, last.take(), at)?;
+    let found = functions_of_unit_with(alloc, &at.image, &at.unit, &table.abbrevs);
+    *last = Some(table);
+    found
+}
+
+/// A number of nodes and so many more. A sum that does not fit is want of memory.
+fn added(count: u32, more: u32) -> Result<u32, AllocError>
+    ensures { IfOk result (λ n. n ≡ count + more) }
+{
+    match count.checked_add(more) {
+        Some(sum) => Ok(sum),
+        None => Err(AllocError),
+    }
+}
+
+/// Appends the places of a file's nodes, which are numbered from `first` on, and gives the next number.
+fn push_rows(rows: &mut Vec<Row>, file: u32, first: u32, places: &[u64]) -> Result<u32, AllocError>
+    ensures rows { OnOk result (rows.new.items ≡ rows.old.items ++ rows_of first file places.now) }
+    ensures next { IfOk result (λ n. n ≡ first + length places.now) }
+{
+    rows.reserve(places.len())?;
+    let mut number = first;
+    for at in places {
+        rows.push(Row {
+            file,
+            number,
+            at: *at,
+        })?;
+        number = added(number, 1)?;
+    }
+    Ok(number)
+}
+
+/// Appends the function entries of a unit.
+fn push_funcs<'a>(
+    funcs: &mut Vec<FileFunc<'a>>,
+    file: u32,
+    more: FuncEntries<'a>,
+) -> Result<(), AllocError>
+    ensures { OnOk result (funcs.new.items ≡ funcs.old.items ++ of_file file more.entry) }
+{
+    for func in more.into_items() {
+        funcs.push(FileFunc { file, func })?;
+    }
+    Ok(())
+}
+
+/// What is read, with one unit more.
+fn push_unit<'a>(found: &mut Found<'a>, file: u32, unit: UnitFuncs<'a>) -> Result<(), AllocError>
+    ensures funcs { OnOk result (found.new.funcs.items ≡ found.old.funcs.items ++ of_file file unit.entry.funcs) }
+    ensures rows { OnOk result (found.new.rows.items ≡ found.old.rows.items ++ rows_of found.old.count file unit.entry.places) }
+    ensures count { OnOk result (found.new.count ≡ found.old.count + length unit.entry.places + index_count unit.entry.has_array) }
+{
+    let next = push_rows(&mut found.rows, file, found.count, unit.places.items())?;
+    found.count = added(next, u32::from(unit.has_array))?;
+    push_funcs(&mut found.funcs, file, unit.funcs)
+}
+
+/// The function entries of units and the places of their types, or the fault of the first unit that is refused.
+pub fn read_functions<'a>(alloc: Global, units: &[UnitAt<'a>]) -> Result<Found<'a>, FuncFault>
+    requires few { length units.now < 2 ^ 32 }
+    requires readable { All IsReadable units.now }
+    requires files { AreOfFiles units.now }
+    requires types { (all : List Source) × (gathered 0 [] units.now ≡ Ok all) }
+    ensures funcs { IfOk result (λ found. functions_from 0 [] units.now ≡ Ok found.funcs.items) }
+    ensures rows { IfOk result (λ found. (all : List Source) → gathered 0 [] units.now ≡ Ok all → found.rows.items ≡ rows_from 0 all) }
+    ensures refused { IfErr result (λ e. Fails e (unit_faults (functions_from 0 [] units.now))) }
+{
+    let mut found = Found {
+        funcs: Vec::new(alloc),
+        rows: Vec::new(alloc),
+        count: 0,
+    };
+    let mut last = None;
+    for i in 0..units.len() {
+        let at = &units[i];
+        let file = file_of(at);
+        match functions_by(alloc, &mut last, at) {
+            Ok(unit) => push_unit(&mut found, file, unit)?,
+            Err(fault) => return Err(fault_of(file, i as u32, fault)),
+        }
+    }
+    Ok(found)
+}
