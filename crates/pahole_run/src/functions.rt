@@ -45,9 +45,9 @@ pub fn add_functions<'a, R: Threads + Sync>(
     requires well { All IsWellFormed sources.graph.nodes }
     requires fitting { HasFittingForwards sources.graph }
     ensures told { Tells (first (funcs_checks funcs most (option_map before_of sources.entry.base)
-            (prototypes_of_units most sources.entry.units.items sources.entry.graph.nodes)))
+        (prototypes_of_units most sources.entry.units.items sources.entry.graph.nodes)))
         (λ s. AreTheOnly (AreNodesOf funcs (option_map before_of sources.entry.base) sources.entry.graph.nodes
-            (prototypes_of_units most sources.entry.units.items sources.entry.graph.nodes)) s.graph.nodes) result }
+        (prototypes_of_units most sources.entry.units.items sources.entry.graph.nodes)) s.graph.nodes) result }
     ensures units { IfOk result (λ s. s.units.items ≡ sources.entry.units.items) }
     ensures same { IfOk result (λ s. s.base ≡ sources.entry.base) }
     ensures alone { IfOk result (λ s. s.graph.base ≡ 0) }
@@ -81,9 +81,9 @@ fn with_functions<'a, R: Threads + Sync>(
     requires well { All IsWellFormed graph.nodes }
     requires fitting { HasFittingForwards graph }
     ensures told { Tells (first (funcs_checks true most (option_map (λ b. before_of b.now) base.entry)
-            (prototypes_of_units most units.now graph.entry.nodes)))
+        (prototypes_of_units most units.now graph.entry.nodes)))
         (λ g. AreTheOnly (AreNodesOf true (option_map (λ b. before_of b.now) base.entry) graph.entry.nodes
-            (prototypes_of_units most units.now graph.entry.nodes)) g.nodes) result }
+        (prototypes_of_units most units.now graph.entry.nodes)) g.nodes) result }
     ensures alone { IfOk result (λ g. g.base ≡ 0) }
     ensures well { IfOk result (λ g. All IsWellFormed g.nodes) }
     ensures fitting { IfOk result (λ g. HasFittingForwards g) }
