@@ -1,13 +1,10 @@
 -- The steps of functions: the graph of units, its prototypes, and the nodes that are merged.
-use Rattle.std.proofs.Common.{◌≡◌, ◌⊎◌, ◌<◌, ◌≤◌, ◌∷◌, ◌++◌, [], ℕ, List, Bool, true, false, nat_lt, Option, None, Some, Result, Ok, Err, inl, inr, ⊎_elim, refl, sym, ap, ◌∙◌, subst, length, if◌then◌else◌}
-use Rattle.std.specs.Option.{option_copied, option_map, option_or}
+use Rattle.std.proofs.Common.{◌≡◌, ◌⊎◌, ◌∷◌, [], ℕ, List, Bool, true, false, nat_lt, Option, None, Some, Result, Ok, Err, inl, inr, ⊎_elim, refl, sym, ap, ◌∙◌, subst, length, if◌then◌else◌}
+use Rattle.std.specs.Option.{option_or}
 use Rattle.std.specs.Result.{result_err, result_unwrap_or}
-use denote.Bor.{Bor}
 use Rattle.dw_base.specs.declared.places.Limits.{Limits}
 use Rattle.command_line.specs.declared.job.Format.TheVariants.{Dwarf}
-use Rattle.btf_codec.specs.Gives.{before_of}
 use Rattle.btf_codec.specs.Reading.{Before}
-use Rattle.btf_codec.specs.declared.table.Table.{Table}
 use Rattle.c_model.specs.Graph.{Shape}
 use Rattle.c_model.specs.declared.graph.CType.{CType}
 use Rattle.split_base.specs.declared.fault.TableFault.{TableFault}
