@@ -1,5 +1,5 @@
 //! The line that tells of the table of a made input.
-ghost use Rattle.std.specs.Prelude.{◌≡◌, ◌++◌, ◌<◌, ◌≤◌, ◌^◌, All, decimal, length, IfOk, OnOk, None};
+ghost use Rattle.std.specs.Prelude.{◌≡◌, ◌++◌, ◌<◌, ◌≤◌, ◌^◌, All, decimal, length, IfOk, OnOk, None, false};
 ghost use Rattle.command_line.specs.declared.job.Format.TheVariants.{Dwarf};
 ghost use Rattle.pahole_run.specs.Files.{HasImage};
 ghost use Rattle.pahole_run.specs.Line.{counts_line};
@@ -29,9 +29,9 @@ pub fn make_line<R: Threads + Sync, G: Gate>(
     requires few { length files.now < 2 ^ 32 }
     requires size { bytes_in files.now < 2 ^ 32 }
     requires images { All HasImage files.now }
-    ensures { Makes Dwarf Told limits (inputs_from files.now None) result }
+    ensures { Makes Dwarf Told limits (inputs_from files.now None false) result }
 {
-    let made = make_table(rt, alloc, gate, jobs, limits, files, None)?;
+    let made = make_table(rt, alloc, gate, jobs, limits, files, None, false)?;
     let bytes = write_table(alloc, &made.table, order_in(files))?;
     line_of(alloc, &made, bytes.items().len() as u64)
 }

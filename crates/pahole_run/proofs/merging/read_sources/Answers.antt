@@ -14,9 +14,9 @@ use Rattle.pahole_run.proofs.PatchLemmas.{images_not_first}
 use Rattle.pahole_run.proofs.merging.read_sources.Goals as goal
 
 pub returns-in_err-images-clause-told : goal.returns-in_err-images-clause-told
-returns-in_err-images-clause-told g c =
+returns-in_err-images-clause-told g c funcs =
     let gone : c.from_residual.result ≡ Err c.in_err-images.field-0.0 = search rules in
-    let inputs = inputs_from c.args.files.now (option_copied c.args.base) in
+    let inputs = inputs_from c.args.files.now (option_copied c.args.base) funcs in
     rw gone
     (part_told (Vec Image) Sources (λ (v : Vec Image). map file_of v.items ≡ c.args.files.now)
     (λ (s : Sources).

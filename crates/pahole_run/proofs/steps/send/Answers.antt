@@ -5,7 +5,7 @@ use Rattle.pahole_run.proofs.steps.send.Goals as goal
 
 pub returns-in-Encode : goal.returns-in-Encode
 returns-in-Encode g c limits before made =
-    done_sent_stored limits (task_of c.args.job.now) c.in-Encode.out c.in-Encode.files c.in-Encode.base before _ _ c.args.bytes.now
+    done_sent_stored limits (task_of c.args.job.now) c.in-Encode.out c.in-Encode.files c.in-Encode.base c.in-Encode.funcs before _ _ c.args.bytes.now
     c.store_out.result (ap task_of c.in-Encode.is) made (rw c.as_str.ensures at c.store_out.ensures)
 
 pub returns-in-Show : goal.returns-in-Show

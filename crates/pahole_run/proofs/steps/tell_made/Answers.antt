@@ -1,4 +1,4 @@
-use Rattle.std.proofs.Common.{◌≡◌, ◌∙◌, ◌∷◌, [], None, Err, ap, rules}
+use Rattle.std.proofs.Common.{◌≡◌, ◌∙◌, ◌∷◌, [], false, None, Err, ap, rules}
 use Rattle.command_line.specs.declared.job.Format.TheVariants.{Dwarf}
 use Rattle.dwarf_gen.specs.Images.{image_bytes}
 use Rattle.dwarf_gen.specs.Sizes.{spec_from}
@@ -24,6 +24,6 @@ pub returns : goal.returns
 returns g c w =
     let bytes : c.in-Ok.image ≡ image_bytes (spec_from c.args.number) =
     c.in-Ok.ensures.bytes ∙ ap image_bytes c.spec_of.ensures.is in
-    prepared c.args.limits (made_task c.args.number) w w (inputs_from c.patch_inputs.new.files None) c.make_line.result
+    prepared c.args.limits (made_task c.args.number) w w (inputs_from c.patch_inputs.new.files None false) c.make_line.result
     (ready_made c.args.limits c.args.number w c.in-Ok.image c.patch_inputs.new.files bytes c.in_ok-patch_inputs.ensures.told)
     c.make_line.ensures

@@ -1,4 +1,4 @@
-use Rattle.std.proofs.Common.{◌≡◌, ℕ, Err, List, None, rules}
+use Rattle.std.proofs.Common.{◌≡◌, ℕ, Err, List, None, false, rules}
 use Rattle.command_line.specs.declared.job.Format.TheVariants.{Dwarf}
 use Rattle.pahole_run.specs.Files.{Inputs, base_in}
 use Rattle.pahole_run.specs.Steps.{inputs_from}
@@ -11,12 +11,12 @@ pub returns-in_err-made : goal.returns-in_err-made
 returns-in_err-made g c =
     let gone : c.from_residual.result ≡ Err c.in_err-made.field-0.0 = search rules in
     rw gone
-    (bytes_unmade Told c.args.limits (inputs_from c.args.files.now None) c.in_err-made.field-0.0 c.in_err-made.ensures.made)
+    (bytes_unmade Told c.args.limits (inputs_from c.args.files.now None false) c.in_err-made.field-0.0 c.in_err-made.ensures.made)
 
 pub returns-in_err-bytes : goal.returns-in_err-bytes
 returns-in_err-bytes g c =
     let gone : c.from_residual-in_err-bytes.result ≡ Err c.in_err-bytes.field-0.0 = search rules in
-    let inputs : Inputs = inputs_from c.args.files.now None in
+    let inputs : Inputs = inputs_from c.args.files.now None false in
     rw gone
     (line_unwritten c.args.limits inputs c.in_ok-made.made
     (λ (v : List ℕ). v ≡ btf_of c.order_in.result (base_in Dwarf inputs) c.in_ok-made.made.table.types) c.in_err-bytes.field-0.0 c.in_ok-made.ensures.made
@@ -24,7 +24,7 @@ returns-in_err-bytes g c =
 
 pub returns : goal.returns
 returns g c =
-    let inputs : Inputs = inputs_from c.args.files.now None in
+    let inputs : Inputs = inputs_from c.args.files.now None false in
     let over = c.in_ok-made.ensures.made.over in
     line_made c.args.limits inputs c.in_ok-made.made c.in_ok-bytes.bytes c.line_of.result c.in_ok-made.ensures.made
     c.in_ok-made.ensures.counted

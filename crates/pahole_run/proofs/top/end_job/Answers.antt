@@ -1,4 +1,4 @@
-use Rattle.std.proofs.Common.{◌≡◌, Ok, Err, refl, subst, sym, ◌∙◌}
+use Rattle.std.proofs.Common.{Ok, Err, refl, subst, sym, ◌∙◌}
 use Rattle.pahole_run.specs.Run.Outcome.{Did}
 use Rattle.pahole_run.specs.Steps.{Done}
 use Rattle.pahole_run.specs.Tasks.{task_of}

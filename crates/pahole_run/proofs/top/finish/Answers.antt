@@ -1,4 +1,4 @@
-use Rattle.std.proofs.Common.{◌≡◌, Ok, Err, List, ℕ, Result, subst, sym}
+use Rattle.std.proofs.Common.{subst, sym}
 use Rattle.pahole_run.specs.Steps.{IsMade, Prepares}
 use Rattle.pahole_run.specs.Tasks.{task_of}
 use Rattle.pahole_run.proofs.top.finish.Goals as goal

@@ -1,0 +1,156 @@
+//! The functions of files: their prototypes, and the graph of those that are chosen.
+ghost use Rattle.std.specs.Prelude.{◌≡◌, ◌<◌, ◌≤◌, ◌+◌, ◌*◌, ◌^◌, All, Ok, true, length, IfOk, IfSome};
+ghost use Rattle.std.specs.Option.{option_map};
+ghost use Rattle.std.specs.Result.{result_err};
+ghost use Rattle.btf_codec.specs.Gives.{before_of};
+ghost use Rattle.c_model.specs.Forwards.{HasFittingForwards};
+ghost use Rattle.c_model.specs.Graph.{RefersWithin};
+ghost use Rattle.c_model.specs.Kinds.{HasNoNul, IsWellFormed};
+ghost use Rattle.unit_encoder.specs.Links.{IsGraphOf};
+ghost use Rattle.unit_encoder.specs.Sources.{IsReadable};
+ghost use Rattle.unit_encoder.specs.Tables.{AreOfFiles};
+ghost use Rattle.func_types.specs.Prototypes.{prototypes_of_units};
+ghost use Rattle.func_merge.specs.Choosing.{AreTheChosen};
+ghost use Rattle.base_merge.specs.Merging.{CanBeBase};
+ghost use Rattle.pahole_run.specs.Layers.{of_funcs, seen_as};
+ghost use Rattle.pahole_run.specs.Refusals.{first, funcs_checks, over_check};
+ghost use Rattle.pahole_run.specs.Steps.{Tells, IsOwn};
+ghost use Rattle.pahole_run.specs.Tables.{AreNodesOf, AreTheOnly};
+
+use crate::faults::{ended_of_funcs, ended_of_table};
+use crate::merging::Sources;
+use crate::refusal::Ended;
+use btf_codec::Table;
+use func_merge::choose_over;
+use func_types::{Protos, prototypes_packed};
+use packed_graph::PackedGraph;
+use std::alloc::Global;
+use std::thread::Threads;
+use unit_encoder::UnitAt;
+
+/// Adds the functions of files to the graph of their types, where that is asked for: the chosen ones, each with its prototype.
+pub fn add_functions<'a, R: Threads + Sync>(
+    rt: &R,
+    alloc: Global,
+    most: u32,
+    funcs: bool,
+    sources: Sources<'a>,
+) -> Result<Sources<'a>, Ended>
+    requires few { length sources.units.items < 2 ^ 32 }
+    requires readable { All IsReadable sources.units.items }
+    requires files { AreOfFiles sources.units.items }
+    requires types { IsGraphOf sources.units.items sources.graph.nodes }
+    requires base { IfSome sources.base CanBeBase }
+    requires alone { sources.graph.base ≡ 0 }
+    requires well { All IsWellFormed sources.graph.nodes }
+    requires fitting { HasFittingForwards sources.graph }
+    ensures told { Tells (first (funcs_checks funcs most (option_map before_of sources.entry.base)
+        (prototypes_of_units most sources.entry.units.items sources.entry.graph.nodes)))
+        (λ s. AreTheOnly (AreNodesOf funcs (option_map before_of sources.entry.base) sources.entry.graph.nodes
+        (prototypes_of_units most sources.entry.units.items sources.entry.graph.nodes)) s.graph.nodes) result }
+    ensures units { IfOk result (λ s. s.units.items ≡ sources.entry.units.items) }
+    ensures same { IfOk result (λ s. s.base ≡ sources.entry.base) }
+    ensures alone { IfOk result (λ s. s.graph.base ≡ 0) }
+    ensures well { IfOk result (λ s. All IsWellFormed s.graph.nodes) }
+    ensures fitting { IfOk result (λ s. HasFittingForwards s.graph) }
+    ensures own { IsOwn result }
+{
+    if !funcs {
+        return Ok(sources);
+    }
+    let Sources { units, base, graph } = sources;
+    let graph = with_functions(rt, alloc, most, base.as_ref(), units.as_slice(), graph)?;
+    Ok(Sources { units, base, graph })
+}
+
+/// The graph of the chosen functions, over the base, where there is one.
+fn with_functions<'a, R: Threads + Sync>(
+    rt: &R,
+    alloc: Global,
+    most: u32,
+    base: Option<&Table<'a>>,
+    units: &[UnitAt<'a>],
+    graph: PackedGraph<'a>,
+) -> Result<PackedGraph<'a>, Ended>
+    requires few { length units.now < 2 ^ 32 }
+    requires readable { All IsReadable units.now }
+    requires files { AreOfFiles units.now }
+    requires types { IsGraphOf units.now graph.nodes }
+    requires base { IfSome base (λ b. CanBeBase b.now) }
+    requires alone { graph.base ≡ 0 }
+    requires well { All IsWellFormed graph.nodes }
+    requires fitting { HasFittingForwards graph }
+    ensures told { Tells (first (funcs_checks true most (option_map (λ b. before_of b.now) base.entry)
+        (prototypes_of_units most units.now graph.entry.nodes)))
+        (λ g. AreTheOnly (AreNodesOf true (option_map (λ b. before_of b.now) base.entry) graph.entry.nodes
+        (prototypes_of_units most units.now graph.entry.nodes)) g.nodes) result }
+    ensures alone { IfOk result (λ g. g.base ≡ 0) }
+    ensures well { IfOk result (λ g. All IsWellFormed g.nodes) }
+    ensures fitting { IfOk result (λ g. HasFittingForwards g) }
+    ensures own { IsOwn result }
+{
+    let protos = read_prototypes(alloc, most, units, graph)?;
+    choose(rt, alloc, base, most, protos)
+}
+
+/// The graph of the prototypes of all functions.
+fn read_prototypes<'a>(
+    alloc: Global,
+    most: u32,
+    units: &[UnitAt<'a>],
+    graph: PackedGraph<'a>,
+) -> Result<Protos<'a, PackedGraph<'a>>, Ended>
+    requires few { length units.now < 2 ^ 32 }
+    requires readable { All IsReadable units.now }
+    requires files { AreOfFiles units.now }
+    requires types { IsGraphOf units.now graph.nodes }
+    requires alone { graph.base ≡ 0 }
+    requires well { All IsWellFormed graph.nodes }
+    requires fitting { HasFittingForwards graph }
+    ensures told { Tells (seen_as of_funcs (result_err (prototypes_of_units most units.now graph.entry.nodes)))
+        (λ p. prototypes_of_units most units.now graph.entry.nodes ≡ Ok p) result }
+    ensures alone { IfOk result (λ p. p.graph.base ≡ 0) }
+    ensures plain { IfOk result (λ p. p.plain ≤ length p.graph.nodes) }
+    ensures within { IfOk result (λ p. RefersWithin p.plain p.graph.nodes) }
+    ensures placed { IfOk result (λ p. All (λ f. f.proto < length p.graph.nodes) p.funcs) }
+    ensures room { IfOk result (λ p. p.plain + 2 * length p.funcs < 2 ^ 32) }
+    ensures well { IfOk result (λ p. All IsWellFormed p.graph.nodes) }
+    ensures fitting { IfOk result (λ p. HasFittingForwards p.graph) }
+    ensures names { IfOk result (λ p. All (λ f. HasNoNul f.name) p.funcs) }
+    ensures own { IsOwn result }
+{
+    match prototypes_packed(alloc, most, graph, units) {
+        Ok(protos) => Ok(protos),
+        Err(fault) => Err(ended_of_funcs(fault)),
+    }
+}
+
+/// The graph of the functions that are chosen among prototypes.
+fn choose<'a, R: Threads + Sync>(
+    rt: &R,
+    alloc: Global,
+    base: Option<&Table<'a>>,
+    most: u32,
+    protos: Protos<'a, PackedGraph<'a>>,
+) -> Result<PackedGraph<'a>, Ended>
+    requires base { IfSome base (λ b. CanBeBase b.now) }
+    requires alone { protos.graph.base ≡ 0 }
+    requires plain { protos.plain ≤ length protos.graph.nodes }
+    requires within { RefersWithin protos.plain protos.graph.nodes }
+    requires placed { All (λ f. f.proto < length protos.graph.nodes) protos.funcs }
+    requires room { protos.plain + 2 * length protos.funcs < 2 ^ 32 }
+    requires well { All IsWellFormed protos.graph.nodes }
+    requires fitting { HasFittingForwards protos.graph }
+    requires names { All (λ f. HasNoNul f.name) protos.funcs }
+    ensures told { Tells (over_check most (option_map (λ b. before_of b.now) base.entry) protos.entry.graph.nodes)
+        (λ g. AreTheChosen (option_map (λ b. before_of b.now) base.entry) protos.entry g.nodes) result }
+    ensures alone { IfOk result (λ g. g.base ≡ 0) }
+    ensures well { IfOk result (λ g. All IsWellFormed g.nodes) }
+    ensures fitting { IfOk result (λ g. HasFittingForwards g) }
+    ensures own { IsOwn result }
+{
+    match choose_over(rt, alloc, base, most, protos) {
+        Ok(graph) => Ok(graph),
+        Err(fault) => Err(ended_of_table(fault)),
+    }
+}
