@@ -1,2 +1,3 @@
 pub mod Relating
 pub mod Choosing
+pub mod Encoded

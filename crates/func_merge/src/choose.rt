@@ -1,12 +1,11 @@
 //! The graph of the chosen functions.
-ghost use Rattle.std.specs.Prelude.{◌≡◌, ◌<◌, ◌≤◌, ◌+◌, ◌*◌, ◌^◌, ◌⊎◌, None, Some, All, length, IfOk, IfErr, IfSome};
+ghost use Rattle.std.specs.Prelude.{◌≡◌, ◌<◌, ◌≤◌, ◌+◌, ◌*◌, ◌^◌, None, Some, All, length, IfOk, IfErr, IfSome};
 ghost use Rattle.std.specs.Option.{option_map};
 ghost use Rattle.base_merge.specs.Merging.{CanBeBase, KeepsLimit};
 ghost use Rattle.btf_codec.specs.Gives.{before_of};
 ghost use Rattle.c_model.specs.Forwards.{HasFittingForwards};
 ghost use Rattle.c_model.specs.Graph.{RefersWithin};
 ghost use Rattle.c_model.specs.Kinds.{HasNoNul, IsWellFormed};
-ghost use Rattle.split_base.specs.declared.fault.TableFault.TheVariants.{Memory};
 ghost use Rattle.func_merge.specs.Choosing.{AreChosenOver, AreTheChosen, RefusesChoice};
 
 use base_merge::merge::{base_classes, classes_over};

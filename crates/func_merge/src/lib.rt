@@ -6,6 +6,8 @@ pub mod choose;
 mod fitting;
 pub mod laws;
 #[cfg(test)]
+mod prototype_tests;
+#[cfg(test)]
 mod tests;
 
 pub use choose::choose_over;

@@ -12,4 +12,3 @@ pub mod Gathering
 pub mod Refusing
 pub mod Formed
 pub mod Outcome
-pub mod Encoded

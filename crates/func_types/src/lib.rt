@@ -14,8 +14,6 @@ pub mod reading;
 mod shared;
 #[cfg(test)]
 mod tests;
-#[cfg(test)]
-mod unit_tests;
 pub mod units;
 
 pub use fault::FuncFault;

@@ -1,6 +1,6 @@
 use Rattle.std.proofs.Common.{◌≡◌, ℕ, List, ◌∙◌}
 use Rattle.unit_graph.specs.Tables.{AreOf}
-use Rattle.func_types.proofs.unit_tests.push_units.Goals as goal
+use Rattle.func_merge.proofs.prototype_tests.push_units.Goals as goal
 
 pub loop-i-preserved : goal.loop-i-preserved
 loop-i-preserved c = record {

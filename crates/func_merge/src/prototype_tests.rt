@@ -6,11 +6,11 @@ ghost use Rattle.unit_graph.specs.Links.{IsGraphOf};
 ghost use Rattle.unit_graph.specs.Sources.{IsReadable};
 ghost use Rattle.unit_graph.specs.Tables.{AreOf, AreOfFiles};
 
-use crate::{FuncFault, FuncUnit, Protos, prototypes};
 use c_model::{Graph, Ref};
 use c_types::TypeFault;
 use elf_sections::Image;
 use entry_tree::{Unit, units};
+use func_types::{FuncFault, FuncUnit, Protos, prototypes};
 use std::alloc::{AllocError, Global};
 use std::test::Fail;
 use std::thread::Threads;
