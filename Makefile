@@ -19,7 +19,8 @@ demo: pahole
 test:
 	bash .ci/run
 
-# PAHOLE=path measures another program, RUNS=n times each row so often, VMLINUX=path names a kernel, WRITE=1 writes docs/SPEED.md's table
+# PAHOLE=path measures another program, RUNS=n times each row so often, VMLINUX=path names a kernel, REAL=folder one of other programs
+# (tools/real-programs.sh builds some), WRITE=1 writes docs/SPEED.md's table
 measure:
 	bash tools/measure.sh $(VMLINUX)
 

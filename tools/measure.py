@@ -35,14 +35,19 @@ WHATS = {
     "wide": "the widest structure",
 }
 WIDE = "the layout of the widest structure"
-KERNEL, KERNEL_ONE, KERNEL_LAYOUT = "a kernel", "a kernel, one worker", "a layout of a kernel"
-TABLE, PEER = "the layouts of this machine's kernel, from its BTF", "a kernel, by the tool pahole"
+KERNEL, KERNEL_TWO, KERNEL_ONE = "a kernel", "a kernel, two workers", "a kernel, one worker"
+FUNCS, FUNCS_ONE = "a kernel with its functions", "a kernel with its functions, one worker"
+KERNEL_LAYOUT = "a layout of a kernel"
+TABLE = "the layouts of this machine's kernel, from its BTF"
+PEER, PEER_ONE = "a kernel, by the tool pahole", "a kernel, by the tool pahole, one thread"
 # modules of a kernel that stand beside it, in ../lib/modules, and are encoded over its table
 MODULES = ["xfs.ko", "btrfs.ko", "mac80211.ko", "amdgpu.ko"]
 MADE = "a made input of 2,100,224 types"
 MODULE, MODULE_PEER = "a module of a kernel, {}", "{}, by the tool pahole"
 MADE_NUMBER, MADE_LINE = 8388607, b"units 1024, entries 2100224, types 16387, bytes 398366\n"
-ALL = [KERNEL, KERNEL_ONE, KERNEL_LAYOUT, PEER, TABLE, *WHATS.values(), WIDE, MADE,
+# other programs, which tools/real-programs.sh builds: the files of the folder REAL, each by another program too
+REAL, REAL_PEER = "the program {}", "{}, by the tool pahole"
+ALL = [KERNEL, KERNEL_TWO, KERNEL_ONE, FUNCS, FUNCS_ONE, KERNEL_LAYOUT, PEER, PEER_ONE, TABLE, *WHATS.values(), WIDE, MADE,
        *(form.format(name) for name in MODULES for form in (MODULE, MODULE_PEER))]
 
 
@@ -158,24 +163,29 @@ def machine(program, runs):
 
 def kernel(program, folder, runs, named):
     """A kernel with its DWARF: its table by as many workers as there are processors and by one, a layout, and the table of another program.
-    Answers both tables."""
+    Answers the tables, that with functions and that of the other program."""
     found = [named] if named else sorted(glob.glob(KERNELS))
     if not found:
         say(f"skipped {KERNEL}: there is no {KERNELS}; the package {PACKAGE}")
-        return b"", b""
+        return b"", b"", b""
     path, workers = os.path.abspath(found[-1]), min(os.cpu_count(), 256)
     given = f"`{os.path.basename(path)}`, {number(os.path.getsize(path))} bytes"
     encode = [program, "--btf_encode_detached=o"]
     many = show(Row(KERNEL, f"{given}, `-j{workers}`", [*encode, f"-j{workers}", path]), folder, runs)
+    two = show(Row(KERNEL_TWO, "the same, `-j2`", [*encode, "-j2", path]), folder, runs)
     one = show(Row(KERNEL_ONE, "the same, `-j1`", [*encode, "-j1", path]), folder, runs)
-    if many != one:
-        say(f"failed {KERNEL_ONE}: another table than by {workers} workers")
+    if not many == two == one:
+        say(f"failed {KERNEL_ONE}: another table than by more workers")
+    funcs = show(Row(FUNCS, f"the same, `--funcs -j{workers}`", [*encode, "--funcs", f"-j{workers}", path]), folder, runs)
+    if funcs != show(Row(FUNCS_ONE, "the same, `--funcs -j1`", [*encode, "--funcs", "-j1", path]), folder, runs):
+        say(f"failed {FUNCS_ONE}: another table than by {workers} workers")
     show(Row(KERNEL_LAYOUT, "the same, `-C list_head`", [program, "-C", "list_head", path]), folder, runs)
     if tool(["pahole", "--version"], r"v(\S+)"):
-        words = ["pahole", f"-j{workers}", "--btf_encode_detached=o", path]
-        return one, show(Row(PEER, f"the same, `-j{workers}`", words), folder, runs)
+        words = ["pahole", "--btf_encode_detached=o", path]
+        show(Row(PEER_ONE, "the same", words), folder, runs)
+        return one, funcs, show(Row(PEER, f"the same, `-j{workers}`", [*words, f"-j{workers}"]), folder, runs)
     say(f"skipped {PEER}: it is not installed")
-    return one, b""
+    return one, funcs, b""
 
 
 def modules(program, folder, runs, named, base):
@@ -197,6 +207,19 @@ def modules(program, folder, runs, named, base):
             show(Row(MODULE_PEER.format(name), "the same", words), folder, runs)
 
 
+def real_programs(program, folder, runs):
+    """Programs that users have, each by another program too."""
+    has_peer = tool(["pahole", "--version"], r"v(\S+)")
+    for path in sorted(glob.glob(f"{os.environ.get('REAL', '')}/*")):
+        if not os.path.isfile(path) or read(path)[:4] != b"\x7fELF":
+            continue
+        name = os.path.basename(path)
+        given = f"`{name}`, {number(os.path.getsize(path))} bytes"
+        show(Row(REAL.format(name), given, [program, "--btf_encode_detached=o", "--funcs", path]), folder, runs)
+        if has_peer:
+            show(Row(REAL_PEER.format(name), "the same", ["pahole", "--btf_encode_detached=o", path]), folder, runs)
+
+
 def made_number(program, folder, runs):
     """A file that the program makes itself, from a number."""
     show(Row(MADE, f"`--selfmade={MADE_NUMBER}`", [program, f"--selfmade={MADE_NUMBER}"]), folder, runs)
@@ -204,15 +227,15 @@ def made_number(program, folder, runs):
         say(f"failed {MADE}: it prints another line than {MADE_LINE.decode().strip()!r}")
 
 
-def compare(ours, theirs):
-    """How many types of each kind are in the kernel's two tables."""
-    here, there = kinds(ours), kinds(theirs)
+def compare(*tables):
+    """How many types of each kind are in the kernel's tables."""
+    counts = [kinds(table) for table in tables]
     print()
-    print("| Kind | Here | By the tool pahole |")
-    print("|---|---|---|")
+    print("| Kind | Here | Here, with functions | By the tool pahole |")
+    print("|---|---|---|---|")
     for kind in BTF_KINDS:
-        if here[kind] or there[kind]:
-            print(f"| {kind} | {number(here[kind])} | {number(there[kind])} |")
+        if any(count[kind] for count in counts):
+            print(f"| {kind} | {' | '.join(number(count[kind]) for count in counts)} |")
 
 
 def table(program, folder, runs):
@@ -245,13 +268,14 @@ def made_inputs(program, root, folder, runs):
 def main():
     program, root, folder, runs = os.path.abspath(sys.argv[1]), *sys.argv[2:4], int(sys.argv[4])
     machine(program, runs)
-    ours, theirs = kernel(program, folder, runs, sys.argv[5] if len(sys.argv) > 5 else None)
+    ours, funcs, theirs = kernel(program, folder, runs, sys.argv[5] if len(sys.argv) > 5 else None)
     modules(program, folder, runs, sys.argv[5] if len(sys.argv) > 5 else None, ours)
     table(program, folder, runs)
+    real_programs(program, folder, runs)
     made_number(program, folder, runs)
     made_inputs(program, root, folder, runs)
-    if ours and theirs:
-        compare(ours, theirs)
+    if ours and funcs and theirs:
+        compare(ours, funcs, theirs)
     return any(line.startswith("failed ") for line in said)
 
 
