@@ -6,9 +6,7 @@ ghost use Rattle.entry_tree.specs.Walks.{given_entry};
 ghost use Rattle.c_types.specs.Pointers.{is_type_tag as names_type_tag};
 ghost use Rattle.func_entries.specs.Walking.{has_row as tag_has_row, is_type as entry_is_type, place_of, stands_in, AreDeepening, AllAbove};
 
-use type_attributes::attributes::name;
 use c_types::pointers::is_of_type_tags;
-use type_attributes::tags::DW_TAG_GNU_annotation;
 use dwarf_abbrev::constants::{
     DW_TAG_array_type, DW_TAG_atomic_type, DW_TAG_base_type, DW_TAG_const_type,
     DW_TAG_enumeration_type, DW_TAG_pointer_type, DW_TAG_restrict_type, DW_TAG_structure_type,
@@ -18,6 +16,8 @@ use dwarf_abbrev::constants::{
 use dwarf_forms::FormCtx;
 use entry_tree::Entry;
 use std::alloc::AllocError;
+use type_attributes::attributes::name;
+use type_attributes::tags::DW_TAG_GNU_annotation;
 
 /// Where the types stand so far.
 #[derive(Drop)]

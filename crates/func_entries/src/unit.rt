@@ -8,13 +8,13 @@ ghost use Rattle.func_entries.specs.Units.{after_root, functions_of_unit_of, Giv
 
 use crate::entries::{FuncEntries, Places, UnitFuncs};
 use crate::walking::read_functions;
-use type_attributes::scope::UnitCtx;
 use c_types::unit::is_other;
 use c_types::{TypeFault, read_abbrevs};
 use dwarf_abbrev::Abbrevs;
 use elf_sections::Image;
 use entry_tree::{Unit, Walk, context, root};
 use std::alloc::Global;
+use type_attributes::scope::UnitCtx;
 
 /// The functions of a unit whose abbreviations are read.
 fn read_unit<'a>(

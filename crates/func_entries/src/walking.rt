@@ -16,12 +16,8 @@ ghost use Rattle.func_entries.specs.Walking.{head_at, head_refused, head_listed,
 
 use crate::entries::{FuncEntries, FuncEntry, Places, UnitFuncs};
 use crate::places::{Placing, place};
-use type_attributes::attributes::{flag, name};
-use type_attributes::fault::join;
 use c_types::functions::open_function;
-use type_attributes::labels::is_unnamed;
 use c_types::open::{Kept, Reading};
-use type_attributes::scope::UnitCtx;
 use c_types::walking::{begin, close, meet};
 use c_types::{SourceType, TypeFault};
 use dw_base::Name;
@@ -29,6 +25,10 @@ use dwarf_abbrev::constants::{DW_AT_declaration, DW_AT_external, DW_TAG_subprogr
 use dwarf_forms::FormCtx;
 use entry_tree::Entry;
 use std::alloc::{AllocError, Global};
+use type_attributes::attributes::{flag, name};
+use type_attributes::fault::join;
+use type_attributes::labels::is_unnamed;
+use type_attributes::scope::UnitCtx;
 
 /// What a function's entry says of itself.
 #[derive(Drop)]
