@@ -9,4 +9,4 @@ export LC_ALL=C PATH=$PATH:/usr/sbin:/sbin
 need functions cc python3
 scratch=$(mktemp -d) || exit 2
 trap 'rm -rf "$scratch"' EXIT
-python3 -B "$root/checks/lib/functions.py" "$program" "$root/checks/lib/functions.c" "$scratch"
+python3 -B "$root/checks/lib/functions.py" "$program" "$root/checks/lib/functions.c" "$root/demo" "$scratch"

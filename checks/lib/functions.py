@@ -1,5 +1,5 @@
-"""functions.py PROGRAM SOURCE FOLDER: encodes the functions of programs that compilers build of SOURCE in FOLDER, and compares them with what
-clang says of them."""
+"""functions.py PROGRAM SOURCE DEMO FOLDER: encodes the functions of programs that compilers build of SOURCE in FOLDER, and compares them with what
+clang says of them; and those of the program of DEMO."""
 import os
 import shutil
 import subprocess
@@ -19,6 +19,10 @@ OTHERS = {
     "external_of_structures": (True, "FUNC_PROTO  INT int 0 {node@0x0 STRUCT node; either@0x0 UNION either}", ["node", "either"]),
     "external_with_more": (True, "FUNC_PROTO  INT int 0 {count@0x0 INT int; @0x0 void}", ["count", ""]),
 }
+
+
+# the functions of the program of demo/, and whether other units can call them
+OF_DEMO = {"main": True, "by_kind": False, "store_of": True, "registry_size": True}
 
 
 def run(words):
@@ -72,8 +76,24 @@ def beside_pahole():
     return f"{sorted(here ^ there)} are in one table alone" if here != there else None
 
 
+def of_demo(program, demo):
+    """What is wrong with the functions of the program of demo/, as this program and as bpftool tell them."""
+    if run(["cc", "-w", "-g", "-o", "a", f"{demo}/registry.c", f"{demo}/main.c"]).returncode:
+        return "it can't be built"
+    had, data = encoded(program, "--funcs")
+    if data is None:
+        return had
+    if {name: told[0] for name, told in had.items()} != OF_DEMO:
+        return f"it has {sorted(had)}"
+    if not shutil.which("bpftool"):
+        return None
+    dump = run(["bpftool", "btf", "dump", "file", "o"]).stdout
+    lines = [f"FUNC '{name}' " for name in OF_DEMO if f"FUNC '{name}' " not in dump]
+    return f"bpftool does not tell {lines}" if lines else None
+
+
 def main():
-    program, source, folder = (os.path.abspath(word) for word in sys.argv[1:])
+    program, source, demo, folder = (os.path.abspath(word) for word in sys.argv[1:])
     os.chdir(folder)
     told = of_clang(source)
     if told is None:
@@ -91,6 +111,8 @@ def main():
                 continue
             wrong = fault(program, told)
             print(f"failed {name}: {wrong}" if wrong else f"passed {name}: {len(told)} functions")
+    wrong = of_demo(program, demo)
+    print(f"failed functions demo: {wrong}" if wrong else f"passed functions demo: {len(OF_DEMO)} functions")
     if run(["cc", "-w", "-g", "-o", "a", source]).returncode == 0 and run([program, "--btf_encode_detached=o", "--funcs", "a"]).returncode == 0:
         peers = [("bpftool", lambda: run(["bpftool", "btf", "dump", "file", "o"]).stderr.strip()), ("pahole", beside_pahole)]
         for peer, asked in peers:
