@@ -1,6 +1,6 @@
 use Rattle.std.proofs.Common.{ap, subst, sym}
 use Rattle.pahole_run.specs.Tasks.{Task, task_of}
-use Rattle.pahole_run.proofs.DoneLemmas.{IsPrinted, done_sent_stored, done_sent_printed}
+use Rattle.pahole_run.proofs.SentLemmas.{IsPrinted, done_sent_stored, done_sent_printed}
 use Rattle.pahole_run.proofs.steps.send.Goals as goal
 
 pub returns-in-Encode : goal.returns-in-Encode
