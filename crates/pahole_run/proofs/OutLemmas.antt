@@ -10,7 +10,6 @@ use Rattle.pahole_run.specs.Layers.{of_store, of_print}
 use Rattle.pahole_run.specs.Steps.{Counted, StoresOut, Printed, PrintsOut, prints_for}
 use Rattle.pahole_run.proofs.LoadLemmas.{called_once, counted_once, none_counted}
 
-
 -- one store
 
 store_rest :
