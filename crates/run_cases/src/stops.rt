@@ -136,7 +136,7 @@ fn tells_load(case: &Case, call: u64, complained: &[u8]) -> bool {
     let Some(name) = rest.strip_suffix(b"\n") else {
         return false;
     };
-    let mut load = 0;
+    let mut load = 0u64;
     let mut is_value = false;
     for word in case.words.iter() {
         let word = word.as_str();
@@ -146,7 +146,7 @@ fn tells_load(case: &Case, call: u64, complained: &[u8]) -> bool {
             return word.as_bytes() == name;
         }
         if is_file {
-            load += 1;
+            load = load.saturating_add(1);
         }
     }
     load == call && name == b"B".as_slice()
