@@ -26,7 +26,7 @@ OF_ELF = [
     [],
     ["-s", "-H", "1"],
     ["-C", "registry,point,word", "-c", "32"],
-    ["-F", "dwarf", "--btf_base=B", "-j3"],
+    ["-F", "dwarf", "-j3"],
 ]
 OF_BTF = [["-F", "btf"], ["-F", "btf", "-s", "-H", "1"], ["-F", "btf", "-C", "packet,registry", "-c", "16"]]
 OVER_BASE = [words + ["--btf_base=B"] for words in OF_BTF]
