@@ -29,6 +29,17 @@ def cause(told):
     return None
 
 
+def head(told):
+    """The kind and the name of a type, by its text."""
+    return told.split(" ", 2)[:2]
+
+
+def causes(alone):
+    """Why each of some types is in one of the tables alone: by its own text, or by that of another one of its kind and name."""
+    of_name = {tuple(head(told)): why for _, told in alone if (why := cause(told))}
+    return [of_name.get(tuple(head(told))) for _, told in alone]
+
+
 def table(words, folder):
     """The table that a program stores under `o`, or nothing and what it complains."""
     done = subprocess.run(words, cwd=folder, capture_output=True, text=True)
@@ -61,11 +72,12 @@ def compare(program, path, folder, options):
     functions = "\n" + compare_functions(name, ours, theirs) if options else ""
     ours, theirs = ours.named(), theirs.named()
     alone = [("here", told) for told in sorted(ours - theirs)] + [("there", told) for told in sorted(theirs - ours)]
-    causes = collections.Counter(cause(told) for _, told in alone)
-    unknown = causes.pop(None, 0)
-    known = "".join(f"; {count} by {why}" for why, count in sorted(causes.items()))
+    whys = causes(alone)
+    counts = collections.Counter(whys)
+    unknown = counts.pop(None, 0)
+    known = "".join(f"; {count} by {why}" for why, count in sorted(counts.items()))
     line = f"{'failed' if unknown else 'passed'} agree {name}: {len(ours & theirs)} types are the same, {unknown} are not{known}"
-    return line + functions, [f"  {where} {told[:300]}" for where, told in alone if cause(told) is None]
+    return line + functions, [f"  {where} {told[:300]}" for (where, told), why in zip(alone, whys) if why is None]
 
 
 def main():
