@@ -72,6 +72,7 @@ TOLD = [
     ("docs/PROMISES.md", r"unions, built in (\w+) ways", lambda: len(constant("checks/lib/layouts.py", "WAYS"))),
     ("docs/PROMISES.md", r"over ([\d,]+) damaged copies", lambda: constant("checks/lib/damage.py", "RUNS")),
     ("docs/PROMISES.md", r"up to (\w+) programs and objects", lambda: occurrences("checks/damage.sh", r"^build [\w-]+ elf")),
+    ("docs/SPEED.md", r"small files of (\d+) kinds", lambda: occurrences("checks/lib/growth.py", r"^    \(\"")),
     ("docs/PROMISES.md", r"on small files of (\d+) kinds", lambda: occurrences("checks/lib/growth.py", r"^    \(\"")),
     ("docs/REFUSALS.md", r"larger than (\d+) GiB", lambda: shipped("file_bytes") >> 30),
     ("docs/REFUSALS.md", r"together are larger than (\d+) GiB", lambda: shipped("all_bytes") >> 30),
