@@ -77,7 +77,7 @@ def beside_pahole():
 
 
 def of_demo(program, demo):
-    """What is wrong with the functions of the program of demo/, as this program and as bpftool tell them."""
+    """What is wrong with the functions of the program of demo/, as this program and bpftool tell them, and libbpf reads them."""
     if run(["cc", "-w", "-g", "-o", "a", f"{demo}/registry.c", f"{demo}/main.c"]).returncode:
         return "it can't be built"
     had, data = encoded(program, "--funcs")
@@ -85,6 +85,9 @@ def of_demo(program, demo):
         return had
     if {name: told[0] for name, told in had.items()} != OF_DEMO:
         return f"it has {sorted(had)}"
+    reader = f"{os.path.dirname(os.path.abspath(__file__))}/structures.c"
+    if run(["cc", "-o", "structures", reader, "-lbpf"]).returncode == 0 and run(["./structures", "o"]).returncode:
+        return "libbpf refuses it"
     if not shutil.which("bpftool"):
         return None
     dump = run(["bpftool", "btf", "dump", "file", "o"]).stdout

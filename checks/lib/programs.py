@@ -7,6 +7,7 @@ import sys
 
 from btf import Member, structures
 from compiler import build, says
+from described import Described
 from elf import sections, units
 
 # compilers, each with the ways in which it builds the program: for this machine, for others with big-endian numbers of 64 bits (two) and
@@ -301,6 +302,23 @@ def type_tags(program, readers):
     return "passed", f"{len(stored)} bytes of BTF, read by bpftool"
 
 
+def of_both_versions(program, demo, compiler):
+    """The table of the program by DWARF 4 is that by DWARF 5, but for types that are made of `_Atomic` ones, which gcc does not tell in version 4."""
+    tables = []
+    for version in ("-gdwarf-4", "-gdwarf-5"):
+        # clang 14 places bit fields as DWARF 5 has it with -glldb alone
+        flags = [version, "-glldb"] if compiler == "clang" else [version]
+        if run([compiler, "-w", *flags, "-o", "a", *sources_of(demo)]).returncode:
+            return "skipped", "it builds no file"
+        status, complaint, stored = encoded(program, "-j1")
+        if status:
+            return "failed", f"{version}: {complaint!r}"
+        tables.append(Described(stored).named())
+    atomic = {tuple(told.split(" ", 2)[:2]) for told in tables[1] if "_Atomic" in told}
+    alone = [told for told in tables[0] ^ tables[1] if tuple(told.split(" ", 2)[:2]) not in atomic]
+    return ("failed", f"{alone[0][:200]} is in one alone") if alone else ("passed", f"{len(tables[0] & tables[1])} types are the same")
+
+
 def found_readers(folder):
     """Other readers: of BTF bpftool and a program over libbpf, of DWARF Debian's pahole."""
     readers = {}
@@ -341,6 +359,9 @@ def main():
     for compiler, way in (("cc", ""), ("cc", "-gdwarf-4"), ("clang", "-glldb"), ("aarch64-linux-gnu-gcc", "")):
         if shutil.which(compiler):
             say(f"objects of {compiler} {way}".strip(), objects(program, demo, compiler, way.split()))
+    for compiler in ("cc", "clang", "s390x-linux-gnu-gcc"):
+        if shutil.which(compiler):
+            say(f"of DWARF 4 and 5 by {compiler}", of_both_versions(program, demo, compiler))
     say("with Rust", with_rust(program))
     say("with tags of types", type_tags(program, readers))
     say("of two classes", mixed(program, demo))
