@@ -47,8 +47,10 @@ MODULE, MODULE_PEER = "a module of a kernel, {}", "{}, by the tool pahole"
 MADE_NUMBER, MADE_LINE = 8388607, b"units 1024, entries 2100224, types 16387, bytes 398366\n"
 # other programs, which tools/real-programs.sh builds: the files of the folder REAL, each by another program too
 REAL, REAL_PEER = "the program {}", "{}, by the tool pahole"
+REAL_NAMES = ["busybox", "git", "postgres", "redis", "sqlite3"]
 ALL = [KERNEL, KERNEL_TWO, KERNEL_ONE, FUNCS, FUNCS_ONE, KERNEL_LAYOUT, PEER, PEER_ONE, TABLE, *WHATS.values(), WIDE, MADE,
-       *(form.format(name) for name in MODULES for form in (MODULE, MODULE_PEER))]
+       *(form.format(name) for name in MODULES for form in (MODULE, MODULE_PEER)),
+       *(form.format(name) for name in REAL_NAMES for form in (REAL, REAL_PEER))]
 
 
 said = []
