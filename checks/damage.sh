@@ -1,5 +1,5 @@
 #!/usr/bin/env bash
-# Damages real files RUNS times (by default 1,000), always the same way: 1 to 8 bytes are changed, half of them in the sections of debugging
+# Damages real files RUNS times (by default 3,000), always the same way: 1 to 8 bytes are changed, half of them in the sections of debugging
 # information, or the file is cut off. Each time the built program, with options that change from run to run, ends within seconds with a status
 # from 0 to 5, by no signal, stores or prints nothing unless it ends with 0, and complains one line of its form, or nothing on 0. The files are the
 # program of demo/ for this machine and, where compilers for them are installed, for 32 bits and big-endian machines, of DWARF 4, as a

@@ -24,7 +24,7 @@ busybox() { unpack busybox && make CC="$cc" defconfig && sed -i 's/^CONFIG_TC=y/
   make -j"$jobs" CC="$cc" CFLAGS="$flags" SKIP_STRIP=y; built=busybox_unstripped; }
 git() { unpack git && make -j"$jobs" CC="$cc" CFLAGS="$flags" NO_CURL=1 NO_EXPAT=1 NO_GETTEXT=1 NO_OPENSSL=1 NO_PERL=1 NO_PYTHON=1 NO_TCLTK=1 git; built=git; }
 postgres() { unpack postgresql-15 && ./configure CC="$cc" CFLAGS="$flags" --without-readline --without-zlib --without-icu &&
-  make -j"$jobs" -C src/backend; built=src/backend/postgres; }
+  make -C src/backend generated-headers && make -j"$jobs" -C src/backend; built=src/backend/postgres; }
 
 for program in ${PROGRAMS:-sqlite3 redis busybox git postgres}; do
   if ($program >>"$folder/log" 2>&1 && cp "$built" "$folder/$program"); then echo "$folder/$program"; else echo "skipped $program: see $folder/log"; fi

@@ -10,7 +10,7 @@ import sys
 
 from elf import sections
 
-RUNS = 1000
+RUNS = 3000
 SECONDS = 10
 LINE = re.compile(
     rb"pahole: (a|B|-): (image|\.debug_info|\.debug_abbrev|btf|table) \d+: error \d+( -?\d+){0,2}\n"
