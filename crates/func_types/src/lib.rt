@@ -15,6 +15,7 @@ mod shared;
 #[cfg(test)]
 mod tests;
 pub mod units;
+pub mod workers;
 
 pub use fault::FuncFault;
 pub use graph::{chosen, chosen_packed};

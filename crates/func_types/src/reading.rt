@@ -1,15 +1,14 @@
 //! Reading the function entries of units, one unit after the other.
-ghost use Rattle.std.specs.Prelude.{◌≡◌, ◌<◌, ◌+◌, ◌++◌, ◌^◌, [], All, List, Ok, length, IfOk, IfErr, IfSome, OnOk};
+ghost use Rattle.std.specs.Prelude.{◌≡◌, ◌<◌, ◌+◌, ◌++◌, ◌^◌, All, List, Ok, length, IfOk, IfSome, OnOk};
 ghost use Rattle.c_types.specs.Tables.{IsTableAt};
 ghost use Rattle.c_types.specs.Types.{types_of_unit_of};
 ghost use Rattle.type_attributes.specs.declared.source.UnitTypes.{UnitTypes};
 ghost use Rattle.func_entries.specs.Units.{functions_of_unit_of, Gives as FunctionsGive};
-ghost use Rattle.unit_graph.specs.Numbers.{rows_from};
-ghost use Rattle.unit_graph.specs.Sources.{IsReadable, Source, gathered};
+ghost use Rattle.unit_graph.specs.Pieces.{Read, reads};
+ghost use Rattle.unit_graph.specs.Sources.{IsReadable};
 ghost use Rattle.unit_graph.specs.Tables.{AreOfFiles};
-ghost use Rattle.func_types.specs.Faults.{Fails, unit_faults};
-ghost use Rattle.func_types.specs.Prototypes.{functions_from, of_file};
-ghost use Rattle.func_types.specs.Reading.{index_count, rows_of};
+ghost use Rattle.func_types.specs.Prototypes.{of_file};
+ghost use Rattle.func_types.specs.Reading.{GivesFound, index_count, rows_of};
 
 use crate::fault::{FuncFault, fault_of};
 use crate::file_funcs::FileFunc;
@@ -18,7 +17,8 @@ use func_entries::{FuncEntries, UnitFuncs, functions_of_unit_with};
 use std::alloc::{AllocError, Global};
 use unit_graph::{LastTable, Row, UnitAt, table_for};
 
-/// What is read of some units: their function entries, where their types stand, and how many nodes these are.
+/// What is read of some units: their function entries, where their types stand, and how many nodes these are. Nodes are
+/// numbered from the first that is held.
 #[derive(Drop)]
 pub struct Found<'a> {
     pub funcs: Vec<FileFunc<'a>>,
@@ -53,7 +53,7 @@ fn functions_by<'a>(
 }
 
 /// A number of nodes and so many more. A sum that does not fit is want of memory.
-fn added(count: u32, more: u32) -> Result<u32, AllocError>
+pub(crate) fn added(count: u32, more: u32) -> Result<u32, AllocError>
     ensures { IfOk result (λ n. n ≡ count + more) }
 {
     match count.checked_add(more) {
@@ -105,15 +105,18 @@ fn push_unit<'a>(found: &mut Found<'a>, file: u32, unit: UnitFuncs<'a>) -> Resul
     push_funcs(&mut found.funcs, file, unit.funcs)
 }
 
-/// The function entries of units and the places of their types, or the fault of the first unit that is refused.
-pub fn read_functions<'a>(alloc: Global, units: &[UnitAt<'a>]) -> Result<Found<'a>, FuncFault>
-    requires few { length units.now < 2 ^ 32 }
+/// What a worker reads: units one after the other, the first of which has the number `from` in the list of all. Or the
+/// fault of the first that is refused.
+pub fn read_piece<'a>(
+    alloc: Global,
+    from: u32,
+    units: &[UnitAt<'a>],
+) -> Result<Found<'a>, FuncFault>
+    requires few { from + length units.now < 2 ^ 32 }
     requires readable { All IsReadable units.now }
     requires files { AreOfFiles units.now }
-    requires types { (all : List Source) × (gathered 0 [] units.now ≡ Ok all) }
-    ensures funcs { IfOk result (λ found. functions_from 0 [] units.now ≡ Ok found.funcs.items) }
-    ensures rows { IfOk result (λ found. (all : List Source) → gathered 0 [] units.now ≡ Ok all → found.rows.items ≡ rows_from 0 all) }
-    ensures refused { IfErr result (λ e. Fails e (unit_faults (functions_from 0 [] units.now))) }
+    requires types { (rs : List Read) × (reads from units.now ≡ Ok rs) }
+    ensures { GivesFound from units.now result }
 {
     let mut found = Found {
         funcs: Vec::new(alloc),
@@ -126,7 +129,7 @@ pub fn read_functions<'a>(alloc: Global, units: &[UnitAt<'a>]) -> Result<Found<'
         let file = file_of(at);
         match functions_by(alloc, &mut last, at) {
             Ok(unit) => push_unit(&mut found, file, unit)?,
-            Err(fault) => return Err(fault_of(file, i as u32, fault)),
+            Err(fault) => return Err(fault_of(file, from + i as u32, fault)),
         }
     }
     Ok(found)

@@ -32,10 +32,12 @@ use unit_encoder::UnitAt;
 pub fn add_functions<'a, R: Threads + Sync>(
     rt: &R,
     alloc: Global,
+    jobs: u32,
     most: u32,
     funcs: bool,
     sources: Sources<'a>,
 ) -> Result<Sources<'a>, Ended>
+    requires jobs { 1 ≤ jobs }
     requires few { length sources.units.items < 2 ^ 32 }
     requires readable { All IsReadable sources.units.items }
     requires files { AreOfFiles sources.units.items }
@@ -59,7 +61,15 @@ pub fn add_functions<'a, R: Threads + Sync>(
         return Ok(sources);
     }
     let Sources { units, base, graph } = sources;
-    let graph = with_functions(rt, alloc, most, base.as_ref(), units.as_slice(), graph)?;
+    let graph = with_functions(
+        rt,
+        alloc,
+        jobs,
+        most,
+        base.as_ref(),
+        units.as_slice(),
+        graph,
+    )?;
     Ok(Sources { units, base, graph })
 }
 
@@ -67,11 +77,13 @@ pub fn add_functions<'a, R: Threads + Sync>(
 fn with_functions<'a, R: Threads + Sync>(
     rt: &R,
     alloc: Global,
+    jobs: u32,
     most: u32,
     base: Option<&Table<'a>>,
     units: &[UnitAt<'a>],
     graph: PackedGraph<'a>,
 ) -> Result<PackedGraph<'a>, Ended>
+    requires jobs { 1 ≤ jobs }
     requires few { length units.now < 2 ^ 32 }
     requires readable { All IsReadable units.now }
     requires files { AreOfFiles units.now }
@@ -89,17 +101,20 @@ fn with_functions<'a, R: Threads + Sync>(
     ensures fitting { IfOk result (λ g. HasFittingForwards g) }
     ensures own { IsOwn result }
 {
-    let protos = read_prototypes(alloc, most, units, graph)?;
+    let protos = read_prototypes(rt, alloc, jobs, most, units, graph)?;
     choose(rt, alloc, base, most, protos)
 }
 
 /// The graph of the prototypes of all functions.
-fn read_prototypes<'a>(
+fn read_prototypes<'a, R: Threads + Sync>(
+    rt: &R,
     alloc: Global,
+    jobs: u32,
     most: u32,
     units: &[UnitAt<'a>],
     graph: PackedGraph<'a>,
 ) -> Result<Protos<'a, PackedGraph<'a>>, Ended>
+    requires jobs { 1 ≤ jobs }
     requires few { length units.now < 2 ^ 32 }
     requires readable { All IsReadable units.now }
     requires files { AreOfFiles units.now }
@@ -119,7 +134,7 @@ fn read_prototypes<'a>(
     ensures names { IfOk result (λ p. All (λ f. HasNoNul f.name) p.funcs) }
     ensures own { IsOwn result }
 {
-    match prototypes_packed(alloc, most, graph, units) {
+    match prototypes_packed(rt, alloc, jobs, most, graph, units) {
         Ok(protos) => Ok(protos),
         Err(fault) => Err(ended_of_funcs(fault)),
     }

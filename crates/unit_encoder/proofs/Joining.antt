@@ -4,7 +4,7 @@ use Rattle.std.specs.List.{slice_get}
 use Rattle.std.specs.Option.{option_map, option_map_or}
 use Rattle.std.proofs.lemmas.Bool.{cases_lt}
 use Rattle.std.proofs.lemmas.Option.{slice_get_within, slice_get-map, none-some, same_Some}
-use Rattle.std.proofs.lemmas.List.{length-map, map-append}
+use Rattle.std.proofs.lemmas.List.{length-map}
 use Rattle.c_model.specs.declared.graph.CType.{CType}
 use Rattle.c_model.specs.declared.graph.Ref.{Ref}
 use Rattle.c_model.specs.declared.graph.Ref.TheVariants.{Void, Node}
@@ -14,10 +14,10 @@ use Rattle.unit_encoder.specs.declared.piece.Piece.{Piece}
 use Rattle.unit_encoder.specs.declared.piece.Unlinked.{Unlinked}
 use Rattle.unit_graph.specs.declared.places.Row.{Row}
 use Rattle.unit_graph.specs.Sources.{Source}
-use Rattle.unit_encoder.specs.Held.{Stands, IsLeft, IsListed, Holds, row_moved, unlinked_moved, Follow}
-use Rattle.unit_graph.specs.Numbers.{rows_at, rows_from}
+use Rattle.unit_encoder.specs.Held.{Stands, IsLeft, IsListed, Holds, unlinked_moved, Follow}
+use Rattle.unit_graph.specs.Numbers.{row_moved, rows_from}
 use Rattle.unit_graph.proofs.Lists.{get-left, get-right}
-use Rattle.unit_graph.proofs.Numbering.{rows-append, rows-none}
+use Rattle.unit_graph.proofs.Numbering.{rows-append, rows-none, rows_moved}
 use Rattle.unit_encoder.proofs.Holding.{stands-left, stands-right, label-left, label-right, targets-left, targets-right}
 
 -- ---- the same nodes, told otherwise
@@ -71,19 +71,6 @@ targets-moved c ns k = ap (λ (o : Option CType). option_map_or (λ (t : CType).
     by : (o : Option CType) → option_map_or (λ (t : CType). t.targets) (option_map (λ (t : CType). record t { targets = map (moved c) t.targets }) o) [] ≡ map (moved c) (option_map_or (λ (t : CType). t.targets) o [])
     by None = refl
     by (Some t) = refl
-
-row-moved : (c k m file : ℕ) (at : Option ℕ) → m ≡ k + c → rows_at m file at ≡ map (row_moved c) (rows_at k file at)
-row-moved c k m file None e = refl
-row-moved c k m file (Some at) e = ap (λ (j : ℕ). record { file = file; number = j; at = at } ∷ []) e
-
-rows-moved : (c k m : ℕ) (ss : List Source) → m ≡ k + c → rows_from m ss ≡ map (row_moved c) (rows_from k ss)
-unfolding rows_from
-rows-moved c k m [] e = refl
-rows-moved c k m (s ∷ ss) e =
-    let next : m + 1 ≡ k + 1 + c = omega arith in
-    ap (λ (rs : List Row). rs ++ rows_from (m + 1) ss) (row-moved c k m s.file s.at e)
-    ∙ ap (λ (rs : List Row). map (row_moved c) (rows_at k s.file s.at) ++ rs) (rows-moved c (k + 1) (m + 1) ss next)
-    ∙ sym (map-append (row_moved c) (rows_at k s.file s.at) (rows_from (k + 1) ss))
 
 -- a moved one is one that is moved
 unmoved : (c : ℕ) (us : List Unlinked) (i : ℕ) (v : Unlinked) → slice_get (map (unlinked_moved c) us) i ≡ Some v → (u : Unlinked) × (slice_get us i ≡ Some u) × (unlinked_moved c u ≡ v)
@@ -144,7 +131,7 @@ module _ (local : Bool) (ss ts : ℕ → List Source) (p q r : Piece) (a : Holds
             f.rows
             ∙ ap (λ (rs : List Row). rs ++ map (row_moved (length p.nodes)) q.rows.items) (a.rows n)
             ∙ ap (λ (rs : List Row). rows_from 0 (ss n) ++ map (row_moved (length p.nodes)) rs) (b.rows (n + length p.nodes))
-            ∙ ap (λ (rs : List Row). rows_from 0 (ss n) ++ rs) (sym (rows-moved (length p.nodes) 0 (length p.nodes) (ts (n + length p.nodes)) (omega arith)))
+            ∙ ap (λ (rs : List Row). rows_from 0 (ss n) ++ rs) (sym (rows_moved (length p.nodes) 0 (length p.nodes) (ts (n + length p.nodes)) (omega arith)))
             ∙ sym (rows-append 0 (length p.nodes) (ss n) (ts (n + length p.nodes)) (let x = before n in omega arith));
         labels = λ n k s e. cases n k s e
             (λ lt old. ap (λ (ns : List CType). label_at ns k) f.nodes ∙ label-left p.nodes (moved_by (length p.nodes) q.nodes) k lt ∙ a.labels n k s old)

@@ -9,11 +9,10 @@ use Rattle.unit_encoder.specs.declared.fault.EncodeFault.{EncodeFault}
 use Rattle.unit_encoder.specs.declared.piece.Piece.{Piece}
 use Rattle.unit_encoder.specs.declared.piece.Unlinked.{Unlinked}
 use Rattle.unit_encoder.specs.declared.piece.UnitNodes.{UnitNodes}
-use Rattle.unit_graph.specs.declared.places.Row.{Row}
 use Rattle.unit_graph.specs.Sources.{Source, UnitRefusal}
 use Rattle.unit_graph.specs.Pieces.{Read, sources_from}
 use Rattle.unit_graph.specs.Links.{number_of, refs_from}
-use Rattle.unit_graph.specs.Numbers.{PlacesRise, rows_from}
+use Rattle.unit_graph.specs.Numbers.{PlacesRise, row_moved, rows_from}
 use Rattle.unit_encoder.specs.Faults.{Fails, unit_faults}
 
 -- nodes stand in a list from a number on
@@ -58,10 +57,7 @@ abbrev pub GivesPiece : Bool → Result Piece EncodeFault → Result (List Read)
 GivesPiece local (Ok p) r = IsHeld local p r
 GivesPiece local (Err e) r = Fails e (unit_faults r)
 
--- a place, and a node that is not linked, of a node that comes so many later
-abbrev pub row_moved : ℕ → Row → Row
-row_moved c r = record { file = r.file; number = r.number + c; at = r.at }
-
+-- what is kept of a node that is not linked, which comes so many later
 abbrev pub unlinked_moved : ℕ → Unlinked → Unlinked
 unlinked_moved c u = record { node = u.node + c; file = u.file; index = u.index + c; targets = u.targets }
 

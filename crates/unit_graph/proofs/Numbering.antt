@@ -1,9 +1,10 @@
 -- Rows that are made of nodes: those of two lists, and the numbers that they have.
-use Rattle.std.proofs.Common.{◌≡◌, ◌+◌, ◌==◌, ◌&&◌, ◌++◌, ◌∷◌, [], ℕ, Bool, true, false, List, Option, None, Some, length, refl, sym, ap, ◌∙◌, arith, append_assoc, append-nil}
+use Rattle.std.proofs.Common.{◌≡◌, ◌+◌, ◌==◌, ◌&&◌, ◌++◌, ◌∷◌, [], ℕ, Bool, true, false, List, Option, None, Some, length, map, refl, sym, ap, ◌∙◌, arith, append_assoc, append-nil}
+use Rattle.std.proofs.lemmas.List.{map-append}
 use Rattle.unit_graph.specs.declared.places.Row.{Row}
 use Rattle.unit_graph.specs.Sources.{Source}
 use Rattle.unit_graph.specs.Links.{is_at, at_offset, or_here, number_from}
-use Rattle.unit_graph.specs.Numbers.{number_in, rows_at, rows_from}
+use Rattle.unit_graph.specs.Numbers.{number_in, row_moved, rows_at, rows_from}
 
 -- ---- lists of nodes
 
@@ -21,6 +22,21 @@ rows-one k s = append-nil (rows_at k s.file s.at)
 pub rows-none : (k : ℕ) → rows_from k [] ≡ []
 unfolding rows_from
 rows-none k = refl
+
+-- ---- nodes that come later
+
+row-moved : (c k m file : ℕ) (at : Option ℕ) → m ≡ k + c → rows_at m file at ≡ map (row_moved c) (rows_at k file at)
+row-moved c k m file None e = refl
+row-moved c k m file (Some at) e = ap (λ (j : ℕ). record { file = file; number = j; at = at } ∷ []) e
+
+pub rows_moved : (c k m : ℕ) (ss : List Source) → m ≡ k + c → rows_from m ss ≡ map (row_moved c) (rows_from k ss)
+unfolding rows_from
+rows_moved c k m [] e = refl
+rows_moved c k m (s ∷ ss) e =
+    let next : m + 1 ≡ k + 1 + c = omega arith in
+    ap (λ (rs : List Row). rs ++ rows_from (m + 1) ss) (row-moved c k m s.file s.at e)
+    ∙ ap (λ (rs : List Row). map (row_moved c) (rows_at k s.file s.at) ++ rs) (rows_moved c (k + 1) (m + 1) ss next)
+    ∙ sym (map-append (row_moved c) (rows_at k s.file s.at) (rows_from (k + 1) ss))
 
 -- ---- numbers
 

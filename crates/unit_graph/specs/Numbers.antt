@@ -40,3 +40,7 @@ rows_from k (s ∷ ss) = rows_at k s.file s.at ++ rows_from (k + 1) ss
 -- the places of nodes rise: no two begin at one
 abbrev pub PlacesRise : List Source → Type 0
 PlacesRise all = (i j : ℕ) (s t : Source) (a b : ℕ) → i < j → slice_get all i ≡ Some s → slice_get all j ≡ Some t → s.at ≡ Some a → t.at ≡ Some b → (s.file < t.file) ⊎ ((s.file ≡ t.file) × (a < b))
+
+-- the place of a node that comes so many later
+abbrev pub row_moved : ℕ → Row → Row
+row_moved c r = record { file = r.file; number = r.number + c; at = r.at }

@@ -3,6 +3,7 @@
 
 pub mod laws;
 pub mod links;
+pub mod pieces;
 pub mod places;
 mod shared;
 pub mod sources;
@@ -12,6 +13,7 @@ pub mod tags;
 mod tests;
 
 pub use links::{Out, link_targets};
+pub use pieces::{cut_of, push_moved_rows};
 pub use places::{Places, Row};
 pub use sources::UnitAt;
 pub use tables::{LastTable, table_for, types_by};
