@@ -2,7 +2,8 @@
 ghost use Rattle.std.specs.Prelude.{◌≡◌, ◌<◌, ◌≤◌, ◌+◌, ◌-◌, ◌^◌, ◌++◌, ◌∷◌, [], ℕ, All, length, slice_get, take, Some, IfOk, OnOk};
 ghost use Rattle.std.specs.List.{filter_map};
 ghost use Rattle.c_model.specs.Graph.{RefersWithin};
-ghost use Rattle.c_model.specs.Partition.{targets_at};
+ghost use Rattle.c_model.specs.Numberings.{IsNumbering};
+ghost use Rattle.c_model.specs.Partition.{label_at, targets_at};
 ghost use Rattle.c_model.specs.declared.graph.CType.{CType};
 ghost use Rattle.func_types.specs.Chosen.{func_type, funcs_from, prototypes_of};
 
@@ -54,6 +55,53 @@ fn push_node<'a, G: TypeGraph<'a>>(
     nodes.push(label, &targets)
 }
 
+/// Appends a second copy of a node, whose label is that of a node that was appended before.
+fn push_alike<'a, G: TypeGraph<'a>>(
+    alloc: Global,
+    nodes: &mut PackedNodes<'a>,
+    graph: &G,
+    x: u32,
+    first: u32,
+) -> Result<(), AllocError>
+    requires node { x < length (G.shape graph.now).nodes }
+    requires first { first < length nodes.old }
+    requires label { label_at nodes.old first ≡ label_at (G.shape graph.now).nodes x }
+    requires within { RefersWithin (2 ^ 32 - 1) (G.shape graph.now).nodes }
+    ensures { OnOk result ((t : CType) → slice_get (G.shape graph.now).nodes x ≡ Some t → nodes.new ≡ nodes.old ++ t ∷ []) }
+{
+    let targets = targets_of(alloc, graph, x)?;
+    nodes.push_alike(first, &targets)
+}
+
+/// The first nodes of a graph that numbers its labels: one that an earlier node has is not looked for again.
+fn first_by_numbers<'a, G: TypeGraph<'a>>(
+    alloc: Global,
+    graph: &G,
+    numbers: &[u32],
+    count: u32,
+) -> Result<PackedNodes<'a>, AllocError>
+    requires count { count ≤ length (G.shape graph.now).nodes }
+    requires within { RefersWithin (2 ^ 32 - 1) (G.shape graph.now).nodes }
+    requires numbers { IsNumbering (label_at (G.shape graph.now).nodes) (length (G.shape graph.now).nodes) numbers.now }
+    requires below { All (λ k. k < length (G.shape graph.now).nodes) numbers.now }
+    ensures { IfOk result (λ nodes. nodes ≡ take count (G.shape graph.now).nodes) }
+{
+    let mut nodes = PackedNodes::new(alloc)?;
+    // Of each label the first node that has it, and `count` where none has it yet.
+    let mut firsts = vec![in alloc; count; graph.len() as usize]?;
+    for x in 0..count {
+        let number = numbers[x as usize] as usize;
+        let first = firsts[number];
+        if first < count {
+            push_alike(alloc, &mut nodes, graph, x, first)?;
+        } else {
+            push_node(alloc, &mut nodes, graph, x)?;
+            firsts[number] = x;
+        }
+    }
+    Ok(nodes)
+}
+
 /// The first nodes of a graph.
 pub fn first_nodes<'a, G: TypeGraph<'a>>(
     alloc: Global,
@@ -64,6 +112,9 @@ pub fn first_nodes<'a, G: TypeGraph<'a>>(
     requires within { RefersWithin (2 ^ 32 - 1) (G.shape graph.now).nodes }
     ensures { IfOk result (λ nodes. nodes ≡ take count (G.shape graph.now).nodes) }
 {
+    if let Some(numbers) = graph.label_numbers() {
+        return first_by_numbers(alloc, graph, numbers, count);
+    }
     let mut nodes = PackedNodes::new(alloc)?;
     for x in 0..count {
         push_node(alloc, &mut nodes, graph, x)?;
