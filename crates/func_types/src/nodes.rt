@@ -89,14 +89,14 @@ fn first_by_numbers<'a, G: TypeGraph<'a>>(
     let mut nodes = PackedNodes::new(alloc)?;
     // Of each label the first node that has it, and `count` where none has it yet.
     let mut firsts = vec![in alloc; count; graph.len() as usize]?;
-    for x in 0..count {
-        let number = numbers[x as usize] as usize;
+    for node in 0..count {
+        let number = numbers[node as usize] as usize;
         let first = firsts[number];
         if first < count {
-            push_alike(alloc, &mut nodes, graph, x, first)?;
+            push_alike(alloc, &mut nodes, graph, node, first)?;
         } else {
-            push_node(alloc, &mut nodes, graph, x)?;
-            firsts[number] = x;
+            push_node(alloc, &mut nodes, graph, node)?;
+            firsts[number] = node;
         }
     }
     Ok(nodes)
