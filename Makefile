@@ -1,11 +1,11 @@
 # pahole, proved. `make pahole` builds the proved program, `make demo` encodes a file with it, `make test` is
 # the gate and the repository's own checks. The pages' other numbers come from scripts that no check runs, for they take long (tools/):
-# `make measure` and `make agree` (docs/SPEED.md), `make plants`, `make edits` and `make unseen` (docs/AUDIT.md).
+# `make measure` and `make agree` (docs/SPEED.md), `make plants`, `make edits`, `make unseen` and `make memory` (docs/AUDIT.md).
 PROGRAM = crates/pahole/out/pahole
 
 SHELL = bash
 
-.PHONY: pahole demo test measure agree plants unseen edits
+.PHONY: pahole demo test measure agree plants unseen edits memory
 
 pahole:
 	@. checks/lib/toolchain.sh
@@ -39,3 +39,8 @@ unseen:
 # tries the edits that must fail and are no part of the gate (crates/NAME/more-edits); CRATES='a b' those of these alone
 edits:
 	bash tools/edits.sh $(CRATES)
+
+# refuses the built program each request for memory in turn, on CASES='a b' of crates/run_cases/data or on those that tools/memory.sh names; STEP=n tries
+# every nth alone, MOST=n at most n of each case
+memory:
+	bash tools/memory.sh $(CASES)

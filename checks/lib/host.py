@@ -1,10 +1,16 @@
 """host.py PROGRAM FOLDER: runs PROGRAM in FOLDER, on its file `a`, where the host fails in one way or another; `disk` is a small full disk, if it is there."""
 import os
+import shutil
 import subprocess
 import sys
 import threading
 
 SECONDS = 60
+# the most bytes of a file, and what else a run reads: its libraries' beginnings, and what this program reads of its complaint
+LIMIT = 1 << 30
+BESIDE = 1 << 16
+# words that run a program as nobody, for a user who may read every file
+AS_NOBODY = ["setpriv", "--reuid=65534", "--regid=65534", "--clear-groups"]
 ENCODE = "--btf_encode_detached="
 
 
@@ -70,6 +76,32 @@ def reads_a_pipe(program):
     return None if piped == run(program, ["-s", "a"]) else f"status {piped[0]}, {piped[1]!r}"
 
 
+def bytes_read():
+    """How many bytes this process and those that it waited for have read."""
+    with open("/proc/self/io") as file:
+        return int(dict(line.split(": ") for line in file.read().splitlines())["rchar"])
+
+
+def reads_no_more_than_the_limit(program):
+    """Of a file that never ends one byte more than the limit is read."""
+    before = bytes_read()
+    wrong = ends(program, ["/dev/zero"], 1, "pahole: /dev/zero: image 0: error 110\n")
+    had = bytes_read() - before
+    return wrong or (None if LIMIT < had <= LIMIT + BESIDE else f"{had} bytes were read")
+
+
+def may_not_read(program, starts):
+    """The program is not let read `a`; `starts` are the words that run it, as another user."""
+    shutil.copy(program, "program")
+    os.chmod("program", 0o755)
+    os.chmod(".", 0o711)
+    words = [*starts, os.path.abspath("program"), "a"]
+    os.chmod("a", 0o644)
+    wrong = ends(words[0], words[1:], 0, "")
+    os.chmod("a", 0o200)
+    return wrong or ends(words[0], words[1:], 3, "pahole: cannot read a\n")
+
+
 def stores_over_its_input(program):
     """The input is read whole before the output is stored."""
     run(program, [ENCODE + "o", "a"])
@@ -99,7 +131,11 @@ def cases(program):
     yield "standard error is a pipe without a reader", lambda: complains_to(program, to_nobody())
     yield "a file is missing", lambda: ends(program, ["missing"], 3, "pahole: cannot read missing\n")
     yield "a file is a folder", lambda: ends(program, ["."], 3, "pahole: cannot read .\n")
-    yield "a file never ends", lambda: ends(program, ["/dev/zero"], 1, "pahole: /dev/zero: image 0: error 110\n")
+    if os.path.exists("/proc/self/io"):
+        yield "a file never ends", lambda: reads_no_more_than_the_limit(program)
+    else:
+        yield "a file never ends", lambda: ends(program, ["/dev/zero"], 1, "pahole: /dev/zero: image 0: error 110\n")
+        print("skipped host how much is read of a file that never ends: this machine does not tell it")
     yield "the second of two files vanished", lambda: keeps(program, ["a", "missing"], 3, "pahole: cannot read missing\n")
     yield "the base vanished", lambda: keeps(program, ["--btf_base=missing", "a"], 3, "pahole: cannot read missing\n")
     yield "a refused file keeps an old output", lambda: keeps(program, ["/dev/null"], 1, "pahole: /dev/null: image 0: error 10\n")
@@ -112,11 +148,11 @@ def cases(program):
         yield "the disk is full", lambda: stores_on_a_full_disk(program)
     else:
         print("skipped host the disk is full: no small disk can be mounted here")
-    if os.getuid() == 0:
-        print("skipped host a file that may not be read: this user may read every file")
+    starts = AS_NOBODY if os.getuid() == 0 else []
+    if starts and (not shutil.which(starts[0]) or subprocess.run([*starts, "true"]).returncode):
+        print("skipped host a file that may not be read: this user may read every file, and can be no other")
     else:
-        os.chmod("a", 0o200)
-        yield "a file that may not be read", lambda: ends(program, ["a"], 3, "pahole: cannot read a\n")
+        yield "a file that may not be read", lambda: may_not_read(program, starts)
 
 
 def main():
