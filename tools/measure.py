@@ -120,8 +120,8 @@ def outcome(folder):
     return f"{number(len(printed))} bytes of text, {number(lines)} line{'s' * (lines != 1)}"
 
 
-def show(row, folder, runs):
-    """Prints a row; answers the table that was stored."""
+def show(row, folder, runs, more=lambda row: ""):
+    """Prints a row, with more that is found of what was stored; answers the table that was stored."""
     stored = f"{folder}/o"
     if os.path.exists(stored):
         os.remove(stored)
@@ -130,7 +130,7 @@ def show(row, folder, runs):
         complaint = read(f"{folder}/complaint").decode(errors="replace").strip()[:200]
         say(f"failed {row.what}: status {status}, {complaint}")
         return b""
-    cells = [row.what, row.given, seconds(run.wall), seconds(run.used), f"{number(round(run.memory / 1e6))} MB", outcome(folder)]
+    cells = [row.what, row.given, seconds(run.wall), seconds(run.used), f"{number(round(run.memory / 1e6))} MB", outcome(folder) + more(row)]
     print(f"| {' | '.join(cells)} |", flush=True)
     return read(stored) if os.path.exists(stored) else b""
 
@@ -190,6 +190,26 @@ def kernel(program, folder, runs, named):
     return one, funcs, b""
 
 
+def read_back(folder):
+    """A reader of what is stored over the kernel's table: the words for a row, where bpftool is installed and reads it."""
+    if not shutil.which("bpftool"):
+        say(f"skipped {MODULE.format('read back')}: bpftool is not installed")
+        return lambda row: ""
+
+    def more(row):
+        words = ["bpftool", "btf", "dump", "-B", f"{folder}/base", "file", f"{folder}/o"]
+        done = subprocess.run(words, stdin=subprocess.DEVNULL, capture_output=True)
+        # its lines of types begin with their numbers, those of the base left out
+        lines = len(re.findall(rb"^\[\d+\]", done.stdout, re.M))
+        if done.returncode != 0 or lines != count(read(f"{folder}/o")):
+            complaint = done.stderr.decode(errors="replace").strip()[:200]
+            say(f"failed {row.what}: bpftool reads {number(lines)} types, status {done.returncode}, {complaint}")
+            return ""
+        return ", read by bpftool"
+
+    return more
+
+
 def modules(program, folder, runs, named, base):
     """Modules of the kernel over the table that was made of it, each by another program too."""
     found = [named] if named else sorted(glob.glob(KERNELS))
@@ -197,13 +217,15 @@ def modules(program, folder, runs, named, base):
     has_peer = tool(["pahole", "--version"], r"v(\S+)")
     with open(f"{folder}/base", "wb") as file:
         file.write(base)
+    reader = read_back(folder)
     for name in MODULES:
         paths = glob.glob(f"{place}/lib/modules/*/kernel/**/{name}", recursive=True)
         if not base or not paths:
             say(f"skipped {name}: it does not stand beside a kernel that is measured")
             continue
         given = f"`{name}`, {number(os.path.getsize(paths[0]))} bytes, over the kernel's table"
-        show(Row(MODULE.format(name), given, [program, "--btf_encode_detached=o", "--btf_base=base", paths[0]]), folder, runs)
+        words = [program, "--btf_encode_detached=o", "--btf_base=base", paths[0]]
+        show(Row(MODULE.format(name), given, words), folder, runs, reader)
         if has_peer:
             words = ["pahole", "--btf_base=base", "--btf_encode_detached=o", paths[0]]
             show(Row(MODULE_PEER.format(name), "the same", words), folder, runs)

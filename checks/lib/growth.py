@@ -141,6 +141,34 @@ def sections(n):
     return b"\x7fELF\x02\x01\x01" + bytes(9) + header + names + first + row * n + last
 
 
+def relocations(count, entries, targets):
+    """An object with so many sections of the same relocations, for the targets by turns: 1 is .debug_info, 2 .debug_abbrev."""
+    info, table, names = unit(b""), ROOT + b"\0", b"\0.debug_info\0.debug_abbrev\0"
+    symbols, end = bytes(24), 64 + len(entries)
+    body = [entries]
+    # names, types, links and sizes of entries are those of the gABI; the first row says how many there are, and where the names stand
+    rows = [(0, 0, 0, 0, 0, 5 + count, 4, 0, 0, 0)]
+    for name, kind, data, each in ((1, 1, info, 0), (13, 1, table, 0), (0, 2, symbols, 24), (0, 3, names, 0)):
+        rows.append((name, kind, 0, 0, end, len(data), 0, 0, 1, each))
+        body.append(data)
+        end += len(data)
+    rows += [(0, 4, 0, 0, 64, len(entries), 3, targets[i % len(targets)], 1, 24) for i in range(count)]
+    header = struct.pack("<HHIQQQIHHHHHH", 1, 62, 1, 0, 0, end, 0, 64, 0, 0, 64, 0, 0xFFFF)
+    return b"\x7fELF\x02\x01\x01" + bytes(9) + header + b"".join(body) + b"".join(struct.pack("<IIQQQQIIQQ", *row) for row in rows)
+
+
+# the unit's place in the table of abbreviations, which is 0: R_X86_64_32 of symbol 0
+AGAIN = struct.pack("<QQq", 8, 10, 0)
+
+
+def sections_of_relocations(n):
+    return relocations(n, b"", (1, 2))
+
+
+def relocations_of_the_same_bytes(n):
+    return relocations(n, AGAIN * n, (1,))
+
+
 def codes_far_apart(n):
     codes = [2 + i * 1_000_003 for i in range(n)]
     table = ROOT + b"".join(abbreviation(code, BLOCK, 0) for code in codes)
@@ -183,7 +211,7 @@ def arrays_of_btf(n):
 
 
 # kinds whose work is known to grow with the square; docs/SPEED.md says why
-SQUARES = ("names that are ends of one text",)
+SQUARES = ("names that are ends of one text", "relocations of the same bytes")
 DIGITS = "0123456789abcdefghijklmnopqrstuvwxyz"
 
 
@@ -227,6 +255,8 @@ KINDS = [
     ("entries that are no members", entries_that_are_no_members, 12_500, True, encoding),
     ("lengths of one array", lengths, 125_000, True, encoding),
     ("sections of one long name", sections, 50_000, True, encoding),
+    ("sections of relocations", sections_of_relocations, 50_000, True, encoding),
+    ("relocations of the same bytes", relocations_of_the_same_bytes, 2_500, False, encoding),
     ("codes of abbreviations far apart", codes_far_apart, 12_500, True, encoding),
     ("names that are ends of one text", ends_of_one_text, 5_000, True, encoding),
     ("members of one structure", members, 16_383, False, encoding),

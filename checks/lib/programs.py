@@ -238,15 +238,100 @@ def supplementary(program, demo):
     return is_refused(program, ("a",), r"pahole: a: \.debug_info \d+: error 44 \d+\n")
 
 
-def objects(program, demo, compiler, flags):
-    """The objects of a program, as files of one run, give the table of the linked program."""
-    for out, words in (("a", [sources_of(demo)[0], "-c"]), ("b", [sources_of(demo)[1], "-c"]), ("linked", sources_of(demo))):
+def strange(alone, linked):
+    """A named type of one table that another doesn't have; what is only declared in the one may be defined in the other."""
+    heads = {tuple(told.split(" ", 2)[:2]) for told in linked}
+    for told in sorted(alone - linked):
+        kind, name, _, flag = told.split(" ")[:4]
+        if kind != "FWD" or (("STRUCT", "UNION")[int(flag)], name) not in heads:
+            return told
+    return None
+
+
+def objects(program, sources, compiler, flags):
+    """The objects of a program, as files of one run, give the table of the linked program, and each alone some of its types."""
+    apart = [f"{number}.o" for number in range(len(sources))]
+    for out, words in [*zip(apart, ([source, "-c"] for source in sources)), ("linked", sources)]:
         if not build(compiler, flags, out, words):
-            return "skipped", "the compiler can't build it"
-    apart, linked = encoded(program, "-j1", ("a", "b")), encoded(program, "-j1", ("linked",))
-    if apart != encoded(program, "-j4", ("a", "b")) or apart != linked or apart[0] != 0:
-        return "failed", f"the objects: {apart[:2]}, the linked program: {linked[:2]}, equal bytes: {apart[2] == linked[2]}"
-    return "passed", f"{len(apart[2])} bytes of BTF"
+            return "skipped", f"the compiler can't build {out}"
+    linked, together = encoded(program, "-j1", ("linked",)), encoded(program, "-j1", apart)
+    if together != encoded(program, "-j4", apart) or together != linked or linked[0] != 0:
+        return "failed", f"the objects: {together[:2]}, the linked program: {linked[:2]}, equal bytes: {together[2] == linked[2]}"
+    known, counts = Described(linked[2]).named(), []
+    for out in apart:
+        status, complaint, stored = encoded(program, "-j1", (out,))
+        if status != 0:
+            return "failed", f"{out} alone: status {status}, {complaint!r}"
+        named = Described(stored).named()
+        other = strange(named, known)
+        if other:
+            return "failed", f"{out} alone has a type that the linked program has not: {other[:200]}"
+        counts.append(len(named))
+    return "passed", f"{len(linked[2])} bytes of BTF, {len(known)} named types; alone the objects have {min(counts)} to {max(counts)}"
+
+
+# headers, each with types of it that a larger program uses
+USED = {
+    "aio.h": ["struct aiocb"], "arpa/inet.h": ["struct in_addr"], "complex.h": ["double complex"], "ctype.h": ["wint_t"],
+    "dirent.h": ["struct dirent", "DIR *"], "elf.h": ["Elf64_Ehdr", "Elf32_Sym"], "fcntl.h": ["struct flock"], "fenv.h": ["fenv_t"],
+    "ftw.h": ["struct FTW"], "glob.h": ["glob_t"], "grp.h": ["struct group"], "inttypes.h": ["imaxdiv_t", "uintmax_t"],
+    "link.h": ["struct link_map", "struct dl_phdr_info"], "locale.h": ["struct lconv"], "math.h": ["float_t"],
+    "mqueue.h": ["struct mq_attr"], "net/if.h": ["struct ifreq"], "netdb.h": ["struct addrinfo", "struct hostent"],
+    "netinet/in.h": ["struct sockaddr_in6", "struct ip_mreq"], "netinet/ip.h": ["struct iphdr"], "netinet/tcp.h": ["struct tcphdr"],
+    "poll.h": ["struct pollfd"], "pthread.h": ["pthread_mutex_t", "pthread_cond_t", "pthread_attr_t"], "pwd.h": ["struct passwd"],
+    "regex.h": ["regex_t", "regmatch_t"], "sched.h": ["struct sched_param", "cpu_set_t"], "search.h": ["ENTRY", "VISIT"],
+    "semaphore.h": ["sem_t"], "setjmp.h": ["jmp_buf"], "signal.h": ["struct sigaction", "siginfo_t", "stack_t"],
+    "spawn.h": ["posix_spawnattr_t"], "stdatomic.h": ["atomic_flag"], "stdio.h": ["FILE", "fpos_t"], "stdlib.h": ["ldiv_t"],
+    "sys/epoll.h": ["struct epoll_event"], "sys/ipc.h": ["struct ipc_perm"], "sys/mman.h": ["off_t"], "sys/resource.h": ["struct rusage"],
+    "sys/select.h": ["fd_set"], "sys/sem.h": ["struct sembuf"], "sys/shm.h": ["struct shmid_ds"], "sys/socket.h": ["struct msghdr"],
+    "sys/stat.h": ["struct stat"], "sys/statvfs.h": ["struct statvfs"], "sys/time.h": ["struct itimerval"], "sys/times.h": ["struct tms"],
+    "sys/un.h": ["struct sockaddr_un"], "sys/utsname.h": ["struct utsname"], "termios.h": ["struct termios"], "time.h": ["struct tm", "timer_t"],
+    "ucontext.h": ["ucontext_t"], "unistd.h": ["pid_t"], "utime.h": ["struct utimbuf"], "wchar.h": ["mbstate_t"], "wctype.h": ["wctrans_t"],
+}
+PARTS = 12
+# a file of it: a structure that others declare, one of a name that others define otherwise, and types in a function
+PART = """
+enum level_{n} {{ LOW_{n} = -{n}, HIGH_{n} = 1 << {n} }};
+struct node_{next};
+struct local {{ char first; {locals} }} local_{n};
+typedef int (*call_{n})(struct node_{n} *, const struct node_{next} *, size_t, ...);
+typedef struct node_{n} {{
+    struct node_{next} *next;
+    struct shared shared[{n} + 1];
+    union {{ uint64_t whole; struct {{ uint16_t low, high; }}; enum level_{n} level; }};
+    unsigned of_few : {n} + 1, of_more : 31 - {n};
+    _Bool known : 1;
+    double rows[{n} + 1][3];
+    call_{n} call;
+    const volatile struct local *const local;
+    struct {{ union word *restrict words; struct node_{n} **all; }} inner[2];
+    char rest[];
+}} node_{n}_type;
+node_{n}_type *node_{n};
+long work_{n}(const node_{n}_type *node, unsigned char (*bytes)[{n} + 5])
+{{
+    struct seen_{n} {{ const char *text; int times[{n} + 1]; struct seen_{n} *next; }} seen = {{ 0 }};
+    return sizeof(*node) + (*bytes)[0] + seen.times[0];
+}}
+"""
+SHARED = """union word { int32_t whole; struct { uint8_t first, second; uint16_t rest; } parts; };
+struct shared { struct shared *previous, *next; union word word; enum { OFF, ON } mode; void (*done)(struct shared *); };
+"""
+
+
+def larger():
+    """The files of a program of several files that include many headers, and use other types of them each."""
+    with open("shared.h", "w") as file:
+        file.write("#define _GNU_SOURCE\n" + "".join(f"#include <{header}>\n" for header in ["stddef.h", "stdint.h", *USED]) + SHARED)
+    every = [name for names in USED.values() for name in names]
+    for n in range(PARTS):
+        locals_ = " ".join(f"long member_{i};" for i in range(n % 5))
+        uses = "".join(f"{name} *used_{n}_{i};\n" for i, name in enumerate(every) if i % PARTS == n or i % 3 == n % 3)
+        with open(f"part{n}.c", "w") as file:
+            file.write('#include "shared.h"\n' + PART.format(n=n, next=(n + 1) % PARTS, locals=locals_) + uses)
+            if n == 0:
+                file.write("int main(void) { return 0; }\n")
+    return [f"part{n}.c" for n in range(PARTS)]
 
 
 # C and Rust in one program, of DWARF 5 and 4
@@ -358,7 +443,12 @@ def main():
         say(f"cc {way}", refused(program, demo, way.split(), wanted))
     for compiler, way in (("cc", ""), ("cc", "-gdwarf-4"), ("clang", "-glldb"), ("aarch64-linux-gnu-gcc", "")):
         if shutil.which(compiler):
-            say(f"objects of {compiler} {way}".strip(), objects(program, demo, compiler, way.split()))
+            say(f"objects of {compiler} {way}".strip(), objects(program, sources_of(demo), compiler, way.split()))
+        else:
+            print(f"skipped programs objects of {compiler} {way}".rstrip() + ": it is not installed")
+    for compiler, way in (("gcc", ""), ("gcc", "-gdwarf-4"), ("clang", "-glldb")):
+        name = f"objects of a larger program by {compiler} {way}".strip()
+        say(name, objects(program, larger(), compiler, way.split()) if shutil.which(compiler) else ("skipped", "it is not installed"))
     for compiler in ("cc", "clang", "s390x-linux-gnu-gcc"):
         if shutil.which(compiler):
             say(f"of DWARF 4 and 5 by {compiler}", of_both_versions(program, demo, compiler))
