@@ -250,6 +250,8 @@ def strange(alone, linked):
 
 def objects(program, sources, compiler, flags):
     """The objects of a program, as files of one run, give the table of the linked program, and each alone some of its types."""
+    if not shutil.which(compiler):
+        return "skipped", "it is not installed"
     apart = [f"{number}.o" for number in range(len(sources))]
     for out, words in [*zip(apart, ([source, "-c"] for source in sources)), ("linked", sources)]:
         if not build(compiler, flags, out, words):
@@ -442,13 +444,9 @@ def main():
     for way, wanted in REFUSED:
         say(f"cc {way}", refused(program, demo, way.split(), wanted))
     for compiler, way in (("cc", ""), ("cc", "-gdwarf-4"), ("clang", "-glldb"), ("aarch64-linux-gnu-gcc", "")):
-        if shutil.which(compiler):
-            say(f"objects of {compiler} {way}".strip(), objects(program, sources_of(demo), compiler, way.split()))
-        else:
-            print(f"skipped programs objects of {compiler} {way}".rstrip() + ": it is not installed")
+        say(f"objects of {compiler} {way}".strip(), objects(program, sources_of(demo), compiler, way.split()))
     for compiler, way in (("gcc", ""), ("gcc", "-gdwarf-4"), ("clang", "-glldb")):
-        name = f"objects of a larger program by {compiler} {way}".strip()
-        say(name, objects(program, larger(), compiler, way.split()) if shutil.which(compiler) else ("skipped", "it is not installed"))
+        say(f"objects of a larger program by {compiler} {way}".strip(), objects(program, larger(), compiler, way.split()))
     for compiler in ("cc", "clang", "s390x-linux-gnu-gcc"):
         if shutil.which(compiler):
             say(f"of DWARF 4 and 5 by {compiler}", of_both_versions(program, demo, compiler))
