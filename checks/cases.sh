@@ -46,3 +46,11 @@ for folder in "$root"/crates/run_cases/data/*/; do
   )
   if [ -z "$wrong" ]; then echo "passed $name"; else echo "failed $name: ${wrong//$'\n'/; }"; fi
 done
+
+# The largest made input, which takes too long for the program run_cases.
+said=$("$program" --selfmade=8388607 2>&1)
+if [ "$said" = "units 1024, entries 2100224, types 16387, bytes 398366" ]; then
+  echo "passed selfmade-8388607"
+else
+  echo "failed selfmade-8388607: $said"
+fi
