@@ -6,3 +6,4 @@ pub mod Refused
 pub mod Spelled
 pub mod Texts
 pub mod Widths
+pub mod Writing
