@@ -1,6 +1,7 @@
 -- Units read one after the other, and by workers.
-use Rattle.std.proofs.Common.{◌≡◌, ℕ, zero, suc, ◌+◌, ◌<◌, ◌≤◌, Bool, true, false, List, [], ◌∷◌, ◌++◌, length, map, get_or, take, drop, Result, Ok, Err, refl, sym, ap, subst, ◌∙◌, arith, append_assoc, append-nil}
-use Rattle.std.proofs.lemmas.List.{drop_more, length-append, length-map, length-take-le, take-append-drop, take_all, take_more}
+use Rattle.std.proofs.Common.{◌≡◌, ℕ, ◌+◌, ◌<◌, ◌≤◌, Bool, true, false, List, [], ◌∷◌, ◌++◌, length, map, get_or, take, drop, Result, Ok, Err, IfOk, refl, sym, ap, subst, ◌∙◌, arith, append_assoc, append-nil}
+use Rattle.std.proofs.lemmas.List.{drop_more, get_or_default, length-append, length-map, length-take-le, take-append-drop, take_all, take_more}
+use Rattle.std.specs.Prelude.{All}
 use Rattle.type_attributes.specs.declared.fault.TypeFault.{TypeFault}
 use Rattle.type_attributes.specs.declared.source.SourceType.{SourceType}
 use Rattle.type_attributes.specs.declared.source.UnitTypes.{UnitTypes}
@@ -9,13 +10,13 @@ use Rattle.func_entries.specs.declared.entries.UnitFuncs.{UnitFuncs}
 use Rattle.func_entries.specs.Units.{functions_of_unit_of}
 use Rattle.unit_graph.specs.declared.places.Row.{Row}
 use Rattle.unit_graph.specs.Numbers.{row_moved, rows_from}
-use Rattle.unit_graph.specs.Pieces.{Read, behind as read_behind, both as both_reads, glue, glued, read_before, reads, sources_from}
+use Rattle.unit_graph.specs.Pieces.{Read, both as both_reads, glue, glued, read_before, reads, sources_from}
 use Rattle.unit_graph.specs.Sources.{FileUnit, Source, UnitRefusal, gathered, index_sources, made_sources, source_of, sources_of}
 use Rattle.unit_graph.proofs.Halves.{gathered_glue, glued_all, reads-append, reads_halves, sources-append, sources-none, sources-one}
 use Rattle.unit_graph.proofs.Numbering.{rows-append, rows-none, rows_moved}
 use Rattle.func_types.specs.Faults.{Fails, unit_faults}
 use Rattle.func_types.specs.Prototypes.{functions_from, joined, of_file}
-use Rattle.func_types.specs.Reading.{GivesFound, IsFound, Joins, index_count, rows_of}
+use Rattle.func_types.specs.Reading.{GivesFound, HasTypes, IsFound, Joins, index_count, rows_of}
 use Rattle.func_types.specs.declared.fault.FuncFault.{FuncFault}
 use Rattle.func_types.specs.declared.fault.FuncFault.TheVariants.{Unit as UnitFault, NodesTooMany, TypeRefOut, Memory}
 use Rattle.func_types.specs.declared.file_funcs.FileFunc.{FileFunc}
@@ -166,35 +167,34 @@ units_from : (us : List FileUnit) (i : ℕ) (u : FileUnit) → i < length us →
 units_from us i u lt is = drop_more us i u lt ∙ ap (λ (x : FileUnit). x ∷ drop (i + 1) us) (sym is)
 
 -- a unit of units that are read is read
-pub next_types : (k : ℕ) (us : List FileUnit) (i : ℕ) (u : FileUnit) → (rs : List Read) × (reads k us ≡ Ok rs) → i < length us → u ≡ get_or us i u → (t : UnitTypes) × (types_of_unit_of u.bytes u.unit ≡ Ok t)
+next_types : (k : ℕ) (us : List FileUnit) (i : ℕ) (u : FileUnit) → (rs : List Read) × (reads k us ≡ Ok rs) → i < length us → u ≡ get_or us i u → (t : UnitTypes) × (types_of_unit_of u.bytes u.unit ≡ Ok t)
 next_types k us i u all lt is =
     let halves : reads k us ≡ both_reads (reads k (take i us)) (reads (k + i) (drop i us)) = reads_halves k (k + i) i us (omega arith) refl in
     let parts = both_read (reads k (take i us)) (reads (k + i) (drop i us)) all.0 (sym halves ∙ all.1) in
     first_read u.file (k + i) (types_of_unit_of u.bytes u.unit) (reads (k + i + 1) (drop (i + 1) us)) parts.1
     (sym (reads-first (k + i) u (drop (i + 1) us)) ∙ sym (ap (reads (k + i)) (units_from us i u lt is)) ∙ parts.3)
 
--- and two pieces of them
-pub pieces_read : (k n : ℕ) (us : List FileUnit) → n ≤ length us → (rs : List Read) × (reads k us ≡ Ok rs) → ((xs : List Read) × (reads k (take n us) ≡ Ok xs)) × ((ys : List Read) × (reads (k + n) (drop n us) ≡ Ok ys))
-pieces_read k n us le all =
-    let parts = both_read (reads k (take n us)) (reads (k + n) (drop n us)) all.0 (sym (reads_halves k (k + n) n us le refl) ∙ all.1) in
-    ((parts.0, parts.2), (parts.1, parts.3))
+pub all_typed : (k : ℕ) (us : List FileUnit) → (rs : List Read) × (reads k us ≡ Ok rs) → All HasTypes us
+all_typed k us all i d lt =
+    let t = next_types k us i (get_or us i d) all lt (get_or_default us i d (get_or us i d) lt) in
+    record { types = t.0; read = t.1 }
 
 -- one unit more
 pub found_more : (k : ℕ) (us : List FileUnit) (i : ℕ) (u : FileUnit) (v : UnitFuncs) (p q : Found) → i < length us → u ≡ get_or us i u
-    → (t : UnitTypes) × (types_of_unit_of u.bytes u.unit ≡ Ok t) → functions_of_unit_of u.bytes u.unit ≡ Ok v
+    → HasTypes u → functions_of_unit_of u.bytes u.unit ≡ Ok v
     → ((t : UnitTypes) → types_of_unit_of u.bytes u.unit ≡ Ok t → (v.places ≡ map (λ (s : SourceType). s.at) t.types) × (v.has_array ≡ t.has_array))
     → q.funcs.items ≡ p.funcs.items ++ of_file u.file v.funcs → q.rows.items ≡ p.rows.items ++ rows_of p.count u.file v.places → q.count ≡ p.count + length v.places + index_count v.has_array
     → IsFound k (take i us) p → IsFound k (take (i + 1) us) q
 found_more k us i u v p q lt is types found places_agree put rowed counted h =
     let size : length (take i us) ≡ i = length-take-le i us (omega arith) in
     let split : take (i + 1) us ≡ take i us ++ u ∷ [] = next_unit us i u lt is in
-    let t : UnitTypes = types.0 in
+    let t : UnitTypes = types.types in
     let own : Read = record { file = u.file; found = t } in
-    let agree = places_agree t types.1 in
+    let agree = places_agree t types.read in
     let last : (rs : List Read) → reads k (take (i + 1) us) ≡ Ok rs → (xs : List Read) × (reads k (take i us) ≡ Ok xs) × (xs ++ own ∷ [] ≡ rs) =
     (λ (rs : List Read) (e : reads k (take (i + 1) us) ≡ Ok rs).
     let parts = both_read (reads k (take i us)) (reads (k + i) (u ∷ [])) rs (sym (ap (reads k) split ∙ reads-append k (k + i) (take i us) (u ∷ []) (omega (arith, size))) ∙ e) in
-    (parts.0, parts.2, ap (λ (ys : List Read). parts.0 ++ ys) (same_reads (own ∷ []) parts.1 (sym (reads-one (k + i) u t types.1) ∙ parts.3)) ∙ parts.4)) in
+    (parts.0, parts.2, ap (λ (ys : List Read). parts.0 ++ ys) (same_reads (own ∷ []) parts.1 (sym (reads-one (k + i) u t types.read) ∙ parts.3)) ∙ parts.4)) in
     let nodes : (n : ℕ) (xs : List Read) → sources_from n (xs ++ own ∷ []) ≡ sources_from n xs ++ sources_of u.file (n + length (sources_from n xs)) t =
     (λ (n : ℕ) (xs : List Read).
     sources-append n xs (own ∷ []) ∙ ap (λ (ss : List Source). sources_from n xs ++ ss) (sources-one (n + length (sources_from n xs)) own)) in
@@ -244,7 +244,7 @@ unit_refused k us i u f p lt is found h =
 
 -- ---- two workers
 
-joined_found : (k m : ℕ) (us vs : List FileUnit) (p q r : Found) → m ≡ k + length us → IsFound k us p → IsFound m vs q → Joins p q r → IsFound k (us ++ vs) r
+pub joined_found : (k m : ℕ) (us vs : List FileUnit) (p q r : Found) → m ≡ k + length us → IsFound k us p → IsFound m vs q → Joins p q r → IsFound k (us ++ vs) r
 joined_found k m us vs p q r at a b j =
     let parts : (rs : List Read) → reads k (us ++ vs) ≡ Ok rs → (xs : List Read) × (ys : List Read) × (reads k us ≡ Ok xs) × (reads m vs ≡ Ok ys) × (xs ++ ys ≡ rs) =
     (λ (rs : List Read) (e : reads k (us ++ vs) ≡ Ok rs). both_read (reads k us) (reads m vs) rs (sym (reads-append k m us vs at) ∙ e)) in
@@ -299,9 +299,6 @@ fails_second e k m us vs p at a h =
     carried e (functions_from m [] vs) (functions_from k [] (us ++ vs))
     (λ r is. functions-append k m us vs at ∙ ap (λ (x : Result (List FileFunc) UnitRefusal). both x (functions_from m [] vs)) a.funcs ∙ ap (behind p.funcs.items) is) h
 
-pub found_both : (k m : ℕ) (us vs : List FileUnit) (p q r : Found) → m ≡ k + length us → GivesFound k us (Ok p) → GivesFound m vs (Ok q) → Joins p q r → GivesFound k (us ++ vs) (Ok r)
-found_both k m us vs p q r at a b j = joined_found k m us vs p q r at a b j
-
 -- ---- all units
 
 ok_sources : (a b : List Source) → ◌≡◌ {A = Result (List Source) UnitRefusal} (Ok a) (Ok b) → a ≡ b
@@ -314,10 +311,17 @@ glued_of (Err e) all h = absurd (never e all h)
     never e all h = cc
 glued_of (Ok rs) all h = (rs, refl, sym (glued_all [] rs) ∙ ok_sources (glued [] rs) all h)
 
-pub types_read : (units : List FileUnit) (all : List Source) → gathered 0 [] units ≡ Ok all → (rs : List Read) × (reads 0 units ≡ Ok rs) × (sources_from 0 rs ≡ all)
+types_read : (units : List FileUnit) (all : List Source) → gathered 0 [] units ≡ Ok all → (rs : List Read) × (reads 0 units ≡ Ok rs) × (sources_from 0 rs ≡ all)
 types_read units all g = glued_of (reads 0 units) all (sym (gathered_glue 0 [] units) ∙ g)
 
-pub all_rows : (units : List FileUnit) (f : Found) (all : List Source) → IsFound 0 units f → gathered 0 [] units ≡ Ok all → f.rows.items ≡ rows_from 0 all
+pub units_typed : (units : List FileUnit) → (all : List Source) × (gathered 0 [] units ≡ Ok all) → All HasTypes units
+units_typed units all = let t = types_read units all.0 all.1 in all_typed 0 units (t.0, t.1)
+
+all_rows : (units : List FileUnit) (f : Found) (all : List Source) → IsFound 0 units f → gathered 0 [] units ≡ Ok all → f.rows.items ≡ rows_from 0 all
 all_rows units f all h g =
     let t = types_read units all g in
     h.rows 0 t.0 t.1 ∙ ap (rows_from 0) t.2
+
+pub all_units_rows : (units : List FileUnit) (r : Result Found FuncFault) → GivesFound 0 units r → IfOk r (λ (f : Found). (all : List Source) → gathered 0 [] units ≡ Ok all → f.rows.items ≡ rows_from 0 all)
+all_units_rows units (Ok f) h = λ (all : List Source) (g : gathered 0 [] units ≡ Ok all). all_rows units f all h g
+all_units_rows units (Err e) h = tt

@@ -1,6 +1,8 @@
 -- What is kept of units that are read one after the other: their function entries, and where their types stand.
 use Rattle.std.specs.Prelude.{ℕ, ◌+◌, ◌≡◌, List, [], ◌∷◌, ◌++◌, length, map, Bool, Result, Ok, Err, if◌then◌else◌}
 use Rattle.c_model.specs.declared.graph.CType.{CType}
+use Rattle.c_types.specs.Types.{types_of_unit_of}
+use Rattle.type_attributes.specs.declared.source.UnitTypes.{UnitTypes}
 use Rattle.unit_graph.specs.declared.places.Row.{Row}
 use Rattle.unit_graph.specs.declared.links.Out.{Out}
 use Rattle.unit_graph.specs.Numbers.{row_moved, rows_from}
@@ -21,6 +23,11 @@ rows_of k file (a ∷ rest) = record { file = file; number = k; at = a } ∷ row
 -- how many nodes the type of indices is
 abbrev pub index_count : Bool → ℕ
 index_count has_array = if has_array then 1 else 0
+
+-- the types of a unit can be read
+pub record HasTypes (u : FileUnit) : Type 0 where
+  pub types : UnitTypes
+  pub read : types_of_unit_of u.bytes u.unit ≡ Ok types
 
 -- what is held of units, the first of which has a number in the list of all: their function entries, and the rows and the number
 -- of their nodes, which are counted from the first that is held

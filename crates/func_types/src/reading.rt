@@ -1,14 +1,11 @@
 //! Reading the function entries of units, one unit after the other.
-ghost use Rattle.std.specs.Prelude.{◌≡◌, ◌<◌, ◌+◌, ◌++◌, ◌^◌, All, List, Ok, length, IfOk, IfSome, OnOk};
+ghost use Rattle.std.specs.Prelude.{◌≡◌, ◌<◌, ◌+◌, ◌++◌, ◌^◌, All, length, IfOk, IfSome, OnOk};
 ghost use Rattle.c_types.specs.Tables.{IsTableAt};
-ghost use Rattle.c_types.specs.Types.{types_of_unit_of};
-ghost use Rattle.type_attributes.specs.declared.source.UnitTypes.{UnitTypes};
 ghost use Rattle.func_entries.specs.Units.{functions_of_unit_of, Gives as FunctionsGive};
-ghost use Rattle.unit_graph.specs.Pieces.{Read, reads};
 ghost use Rattle.unit_graph.specs.Sources.{IsReadable};
 ghost use Rattle.unit_graph.specs.Tables.{AreOfFiles};
 ghost use Rattle.func_types.specs.Prototypes.{of_file};
-ghost use Rattle.func_types.specs.Reading.{GivesFound, index_count, rows_of};
+ghost use Rattle.func_types.specs.Reading.{GivesFound, HasTypes, index_count, rows_of};
 
 use crate::fault::{FuncFault, fault_of};
 use crate::file_funcs::FileFunc;
@@ -40,7 +37,7 @@ fn functions_by<'a>(
     at: &UnitAt<'a>,
 ) -> Result<UnitFuncs<'a>, TypeFault>
     requires readable { IsReadable at.now }
-    requires types { (t : UnitTypes) × (types_of_unit_of at.now.bytes at.now.unit ≡ Ok t) }
+    requires types { HasTypes at.now }
     requires last { IfSome last.old (λ t. t.file ≡ at.now.file → IsTableAt at.now.bytes t.at t.abbrevs) }
     ensures functions { FunctionsGive result (functions_of_unit_of at.now.bytes at.now.unit) }
     ensures file { IfSome last.new (λ t. t.file ≡ at.now.file) }
@@ -115,7 +112,7 @@ pub fn read_piece<'a>(
     requires few { from + length units.now < 2 ^ 32 }
     requires readable { All IsReadable units.now }
     requires files { AreOfFiles units.now }
-    requires types { (rs : List Read) × (reads from units.now ≡ Ok rs) }
+    requires types { All HasTypes units.now }
     ensures { GivesFound from units.now result }
 {
     let mut found = Found {

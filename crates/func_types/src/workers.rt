@@ -5,12 +5,11 @@
 ghost use Rattle.std.specs.Prelude.{◌≡◌, ◌<◌, ◌≤◌, ◌+◌, ◌++◌, ◌^◌, [], ℕ, All, List, Ok, length, IfOk, IfErr, OnOk};
 ghost use Rattle.std.specs.Thread.{IsSync};
 ghost use Rattle.unit_graph.specs.Numbers.{rows_from};
-ghost use Rattle.unit_graph.specs.Pieces.{Read, reads};
 ghost use Rattle.unit_graph.specs.Sources.{FileUnit, IsReadable, Source, gathered};
 ghost use Rattle.unit_graph.specs.Tables.{AreOfFiles};
 ghost use Rattle.func_types.specs.Faults.{Fails, unit_faults};
 ghost use Rattle.func_types.specs.Prototypes.{functions_from};
-ghost use Rattle.func_types.specs.Reading.{GivesFound, Joins};
+ghost use Rattle.func_types.specs.Reading.{GivesFound, HasTypes, Joins};
 
 use crate::fault::FuncFault;
 use crate::file_funcs::FileFunc;
@@ -20,11 +19,8 @@ use std::thread::{Threads, join_mut};
 use unit_graph::{UnitAt, cut_of, push_moved_rows};
 
 /// Puts function entries behind others.
-fn push_all<'a>(
-    funcs: &mut Vec<FileFunc<'a>>,
-    more: Vec<FileFunc<'a>>,
-) -> Result<(), AllocError>
-    ensures { OnOk result (funcs.new.items ≡ funcs.old.items ++ more.items) }
+fn push_all<'a>(funcs: &mut Vec<FileFunc<'a>>, more: Vec<FileFunc<'a>>) -> Result<(), AllocError>
+    ensures { OnOk result (funcs.new.items ≡ funcs.old.items ++ more.entry.items) }
 {
     funcs.reserve(more.len())?;
     for func in more {
@@ -81,7 +77,7 @@ fn read_pieces<'a, R: Threads + Sync>(
     requires few { from + length units.now < 2 ^ 32 }
     requires readable { All IsReadable units.now }
     requires files { AreOfFiles units.now }
-    requires types { (rs : List Read) × (reads from units.now ≡ Ok rs) }
+    requires types { All HasTypes units.now }
     ensures { GivesFound from units.now result }
 {
     if jobs == 1 || units.len() < 2 {
@@ -95,11 +91,11 @@ fn read_pieces<'a, R: Threads + Sync>(
     let (first, second) = join_mut(
         rt,
         &mut || -> Result<Found<'_>, FuncFault>
-            requires { IsSync R.row × (1 ≤ half) × (from + length left.now < 2 ^ 32) × All IsReadable left.now × AreOfFiles left.now × ((rs : List Read) × (reads from left.now ≡ Ok rs)) }
+            requires { IsSync R.row × (1 ≤ half) × (from + length left.now < 2 ^ 32) × All IsReadable left.now × AreOfFiles left.now × All HasTypes left.now }
             ensures { GivesFound from left.entry.now result }
         { read_pieces(rt, alloc, half, from, left) },
         &mut || -> Result<Found<'_>, FuncFault>
-            requires { IsSync R.row × (1 ≤ rest) × (middle + length right.now < 2 ^ 32) × All IsReadable right.now × AreOfFiles right.now × ((rs : List Read) × (reads middle right.now ≡ Ok rs)) }
+            requires { IsSync R.row × (1 ≤ rest) × (middle + length right.now < 2 ^ 32) × All IsReadable right.now × AreOfFiles right.now × All HasTypes right.now }
             ensures { GivesFound middle right.entry.now result }
         { read_pieces(rt, alloc, rest, middle, right) },
     );

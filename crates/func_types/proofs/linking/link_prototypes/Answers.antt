@@ -1,15 +1,14 @@
-use Rattle.std.proofs.Common.{◌≡◌, ◌+◌, ◌-◌, ◌<◌, ◌≤◌, ◌^◌, ◌++◌, ◌∷◌, ℕ, List, [], length, Result, Ok, Err, refl, sym, ap, subst, ◌∙◌, arith}
+use Rattle.std.proofs.Common.{◌≡◌, ◌+◌, ◌-◌, ◌<◌, ◌^◌, ◌++◌, ◌∷◌, ℕ, List, [], length, Ok, Err, refl, sym, ap, subst, ◌∙◌, arith}
 use Rattle.std.specs.Prelude.{All}
 use Rattle.std.proofs.lemmas.List.Elements.{All-weaker}
 use Rattle.c_model.specs.Graph.{IsBelow}
 use Rattle.c_model.specs.declared.label.Label.{Label}
-use Rattle.c_model.specs.declared.graph.CType.{CType}
 use Rattle.c_model.specs.declared.graph.Ref.{Ref}
 use Rattle.type_attributes.specs.declared.source.Target.{Target}
-use Rattle.unit_graph.specs.Links.{nodes_from, refs_from, seen}
+use Rattle.unit_graph.specs.Links.{refs_from, seen}
 use Rattle.unit_graph.specs.Numbers.{Numbers}
 use Rattle.unit_graph.specs.Sources.{Source}
-use Rattle.func_types.specs.Prototypes.{func_with, prototypes_in}
+use Rattle.func_types.specs.Prototypes.{func_with}
 use Rattle.func_types.specs.Reading.{Follows}
 use Rattle.func_types.specs.declared.protos.Func.{Func}
 use Rattle.func_types.proofs.Following.{AreLinked, all_linked, not_linked, one_linked, refs_below}

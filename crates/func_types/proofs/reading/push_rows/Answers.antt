@@ -1,4 +1,4 @@
-use Rattle.std.proofs.Common.{◌≡◌, ◌+◌, ◌++◌, ◌∷◌, [], ℕ, List, take, get_or, ap, sym, ◌∙◌, append_assoc, arith}
+use Rattle.std.proofs.Common.{◌++◌, ◌∷◌, [], ℕ, List, take, get_or, ap, sym, ◌∙◌, append_assoc, arith}
 use Rattle.unit_graph.specs.declared.places.Row.{Row}
 use Rattle.func_types.specs.Reading.{rows_of}
 use Rattle.func_types.proofs.Refusing.{rows_more}

@@ -1,10 +1,9 @@
-use Rattle.std.proofs.Common.{◌≡◌, ◌+◌, ◌*◌, ◌<◌, ◌≤◌, ◌^◌, ℕ, List, [], length, Result, Ok, Err, IfOk, refl, sym, ap, subst, ◌∙◌, arith}
+use Rattle.std.proofs.Common.{◌+◌, ◌*◌, ◌<◌, ◌≤◌, ℕ, List, length, Result, Ok, Err, IfOk, sym, ap, subst, ◌∙◌, arith}
 use Rattle.std.specs.Prelude.{All}
 use Rattle.c_model.specs.declared.graph.CType.{CType}
 use Rattle.c_model.specs.Graph.{RefersWithin}
 use Rattle.c_model.specs.Kinds.{HasNoNul, IsWellFormed}
 use Rattle.unit_graph.specs.Links.{IsGraphOf}
-use Rattle.unit_graph.specs.Sources.{FileUnit}
 use Rattle.unit_graph.specs.declared.links.Out.{Out}
 use Rattle.unit_graph.proofs.Formed.{IsFine, fits, well}
 use Rattle.func_types.specs.declared.fault.FuncFault.TheVariants.{TypeRefOut}

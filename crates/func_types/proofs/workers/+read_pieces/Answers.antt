@@ -1,4 +1,4 @@
-use Rattle.std.proofs.Common.{◌≡◌, ◌+◌, ◌++◌, List, length, refl, sym, ap, ap₂, subst, ◌∙◌, arith}
+use Rattle.std.proofs.Common.{◌≡◌, ◌+◌, ◌++◌, List, length, ap, ap₂, subst, ◌∙◌, arith}
 use Rattle.std.proofs.lemmas.List.{length-take-le, take-append-drop}
 use Rattle.unit_graph.specs.Sources.{FileUnit}
 use Rattle.func_types.specs.Reading.{GivesFound}
@@ -6,7 +6,7 @@ use Rattle.func_types.proofs.workers.+read_pieces.Goals as goal
 
 -- the units before the cut and those behind it
 pub returns : goal.returns
-returns g c =
+returns g t c =
     let us = c.args.units.now in
     let k = c.cut_of-cut.result in
     let left = c.split_at.result.0.now in
