@@ -1,10 +1,13 @@
 /* Refuses memory to a program that loads this before the C library (LD_PRELOAD). Requests are counted from 1. The request of number REFUSE is
  * refused, and with REFUSE_ALL each later one, too. At the program's end the file that REFUSE_COUNT names holds how many there were. */
+#define _GNU_SOURCE
 #include <errno.h>
 #include <stdatomic.h>
 #include <stddef.h>
 #include <stdio.h>
 #include <stdlib.h>
+#include <sys/syscall.h>
+#include <unistd.h>
 
 void *__libc_malloc(size_t size);
 void *__libc_calloc(size_t count, size_t size);
@@ -59,4 +62,12 @@ __attribute__((destructor)) static void end(void)
 		fprintf(file, "%lu\n", count);
 		fclose(file);
 	}
+}
+
+/* A program that ends so runs no destructors. */
+void _exit(int status)
+{
+	end();
+	syscall(SYS_exit_group, status);
+	__builtin_unreachable();
 }
