@@ -20,7 +20,8 @@ test:
 	bash .ci/run
 
 # PAHOLE=path measures another program, RUNS=n times each row so often, VMLINUX=path names a kernel, REAL=folder one of other programs
-# (tools/real-programs.sh builds some), WRITE=1 writes docs/SPEED.md's table
+# (tools/real-programs.sh builds some), WRITE=1 writes docs/SPEED.md's table, LARGE=1 also runs the checks of damage (10,000 runs) and of growth
+# (files five times as large), which it leaves out otherwise
 measure:
 	bash tools/measure.sh $(VMLINUX)
 

@@ -1,8 +1,8 @@
 """growth.py PROGRAM FOLDER SIZE: runs PROGRAM over small files of each kind of KINDS that could make its work grow faster than its input, at
 the sizes n, 2n and 4n, and fails a kind where a doubling multiplies the processor time by more than MOST once it passes ENOUGH seconds.
 A kind of SQUARES is told as known in its place.
-SIZE is `small` or `large`; a kind's large sizes are those times LARGER. The files are ELF files of 64 bits with units of DWARF 5, and
-files of BTF."""
+SIZE is `small`, as the gate has it, or `large`, as `make measure` has it where LARGE=1 is given; a kind's large sizes are those times LARGER.
+The files are ELF files of 64 bits with units of DWARF 5, and files of BTF."""
 import os
 import resource
 import struct
