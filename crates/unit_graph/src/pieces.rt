@@ -24,7 +24,8 @@ fn bytes_of_all(units: &[UnitAt<'_>]) -> u64 {
 /// least one unit, and leaves one, where there are two.
 pub fn cut_of(units: &[UnitAt<'_>], half: u32, jobs: u32) -> usize
     requires { half < jobs }
-    ensures { result ≤ length units.now }
+    ensures within { result ≤ length units.now }
+    ensures parted { 1 < length units.now → (0 < result) × (result < length units.now) }
 {
     let count = units.len();
     if count < 2 {
