@@ -1,8 +1,9 @@
 -- The sections that are known to be apart from what is read while relocations are written: the last one of each kind.
-use Rattle.std.specs.Prelude.{◌≡◌, ℕ, ◌==◌, Bool, false, List, Option, Some, None}
+use Rattle.std.specs.Prelude.{◌≡◌, ℕ, ◌==◌, Bool, false, List, Option, Some, None, if◌then◌else◌}
 use Rattle.elf_sections.specs.declared.fault.Kind.{Kind}
 use Rattle.elf_sections.specs.declared.fault.Kind.TheVariants.{Info, Abbrev, Str, LineStr, StrOffsets}
-use Rattle.elf_reloc.specs.Tables.{target_met}
+use Rattle.elf_sections.specs.Sections.{kind_at}
+use Rattle.elf_reloc.specs.Tables.{is_relocation, target_of, target_met}
 use Rattle.elf_reloc.specs.declared.targets.Targets.{Targets}
 
 abbrev pub target_at : Targets → Kind → Option ℕ
@@ -18,6 +19,14 @@ with_number t Abbrev n = record t { abbreviations = Some n }
 with_number t Str n = record t { text = Some n }
 with_number t LineStr n = record t { line_text = Some n }
 with_number t StrOffsets n = record t { text_offsets = Some n }
+
+abbrev pub with_section : Targets → Option Kind → ℕ → Targets
+with_section t None n = t
+with_section t (Some kind) n = with_number t kind n
+
+-- what is known behind a section: the one that it is for in place of the last one of that kind, and all else as before
+unfoldable pub known_after : List ℕ → Targets → ℕ → Targets
+known_after file t i = if is_relocation file i then with_section t (kind_at file (target_of file i)) (target_of file i) else t
 
 abbrev pub is_number : Option ℕ → ℕ → Bool
 is_number None n = false

@@ -3,7 +3,7 @@
 ghost use Rattle.std.specs.Prelude.{◌≡◌, None, false};
 ghost use Rattle.elf_sections.specs.Checks.{refusal_of};
 ghost use Rattle.elf_reloc.specs.Tables.{target_met};
-ghost use Rattle.elf_reloc.specs.Clear.{target_at, with_number, is_known, AreClear};
+ghost use Rattle.elf_reloc.specs.Clear.{target_at, with_number, known_after, is_known, AreClear};
 ghost use Rattle.elf_reloc.specs.Checks.{first, section_checks};
 
 use crate::tables::{is_relocation, target_met};
@@ -97,11 +97,13 @@ pub fn is_met(file: &File<'_>, clear: &Targets, i: u64) -> bool
 }
 
 /// The known sections after the checks of a section have passed: where it is a relocation section, with the
-/// one that it is for.
+/// one that it is for. All others that were known stay so.
+#[tactic(auto, unfolding(crate::specs::Clear::known_after))]
 pub fn with_target(file: &File<'_>, clear: Targets, i: u64) -> Targets
     requires clear { AreClear file.now.bytes.now clear }
     requires passed { None ≡ first (section_checks file.now.bytes.now i) }
-    ensures { AreClear file.now.bytes.now result }
+    ensures clear { AreClear file.now.bytes.now result }
+    ensures known { result ≡ known_after file.now.bytes.now clear i }
 {
     if !is_relocation(file, i) {
         return clear;

@@ -1,5 +1,5 @@
 -- The whole text of what is shown, and why nothing is. A place is a type's number from 0; its id is one more.
-use Rattle.std.specs.Prelude.{ℕ, suc, ◌≡◌, ◌++◌, ◌||◌, nat_eq, nat_le, is_none, Bool, List, [], ◌∷◌, length, map, All, ⊤, slice_get, find, Option, None, Some, Result, Ok, Err, if◌then◌else◌}
+use Rattle.std.specs.Prelude.{ℕ, suc, ◌≡◌, ◌++◌, ◌||◌, codes, decimal, nat_eq, nat_le, is_none, Bool, List, [], ◌∷◌, length, map, All, ⊤, slice_get, find, Option, None, Some, Result, Ok, Err, if◌then◌else◌}
 use Rattle.std.specs.Global.{Vec}
 use Rattle.std.specs.List.{filter, flat_map, range_with_len}
 use Rattle.std.specs.Map.{lookup}
@@ -11,6 +11,7 @@ use Rattle.layout_printer.specs.Layout.{bits_of, IsLayout}
 use Rattle.layout_printer.specs.Text as layout
 use Rattle.layout_printer.specs.declared.slots.TypeLayout.{TypeLayout}
 use Rattle.shown_types.specs.Listed.{structure_at, chosen, missing}
+use Rattle.shown_types.specs.declared.counting.Counted.{Counted}
 use Rattle.shown_types.specs.declared.fault.ShowFault.{ShowFault}
 use Rattle.shown_types.specs.declared.fault.ShowFault.TheVariants.{NoName, NoSize, Memory}
 use Rattle.shown_types.specs.declared.showing.Style.{Style}
@@ -101,9 +102,26 @@ ShowsPlace types pointer style x started old new (Err (NoName k)) = ⊥
 ShowsPlace types pointer style x started old new (Err (NoSize n)) = no_size types pointer x ≡ Some n
 ShowsPlace types pointer style x started old new (Err Memory) = ⊤
 
--- the layouts that are kept, by the places of their structures
-abbrev pub AreKept : List CType → ℕ → List (ℕ × TypeLayout) → Type 0
-AreKept types pointer entries = (s : ℕ) (shown : TypeLayout) → lookup (nat_eq s) entries ≡ Some shown → IsLayout types pointer (suc s) shown
+-- the line of a layout from behind the name on, where lines are shown
+abbrev pub line_end : Style → TypeLayout → List ℕ
+line_end style shown =
+    if style.sizes then
+    layout.joined (codes "\t" ∷ decimal shown.size ∷ codes "\t" ∷ decimal (layout.byte_holes shown.slots) ∷ codes "\n" ∷ [])
+    else []
+
+-- what is counted of a layout is so
+pub record IsCounted (style : Style) (shown : Counted) : Type 0 where
+  pub holes : shown.holes ≡ layout.byte_holes shown.layout.slots
+  pub line_end : shown.line_end ≡ line_end style shown.layout
+
+-- what is kept for the structure in a place: its layout, counted
+pub record IsKept (types : List CType) (pointer : ℕ) (style : Style) (s : ℕ) (shown : Counted) : Type 0 where
+  pub layout : IsLayout types pointer (suc s) shown.layout
+  pub counted : IsCounted style shown
+
+-- so with each that is kept, by the places of their structures
+abbrev pub AreKept : List CType → ℕ → Style → List (ℕ × Counted) → Type 0
+AreKept types pointer style entries = (s : ℕ) (shown : Counted) → lookup (nat_eq s) entries ≡ Some shown → IsKept types pointer style s shown
 
 -- what showing some places answers
 abbrev pub ShowsPlaces : List CType → ℕ → Style → List ℕ → Result (List ℕ) ShowFault → Type 0

@@ -54,7 +54,7 @@ fn add<'a>(
 }
 
 /// The name of the type in a place.
-fn name_at<'a>(types: &[CType<'a>], x: u32) -> &'a [u8]
+pub fn name_at<'a>(types: &[CType<'a>], x: u32) -> &'a [u8]
     ensures { result.now ≡ name_at types.now x }
 {
     match types.get(x as usize) {

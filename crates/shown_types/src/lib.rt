@@ -5,6 +5,7 @@
 
 pub mod by_name;
 pub mod choosing;
+mod counting;
 pub mod fault;
 pub mod listed;
 mod shared;

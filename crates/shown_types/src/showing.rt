@@ -1,19 +1,22 @@
 //! The text of the types that are shown.
-ghost use Rattle.std.specs.Prelude.{◌≡◌, ◌-◌, ◌⊎◌, ◌<◌, ◌^◌, IsTrue, All, length, IfOk, IfSome, OnOk};
+ghost use Rattle.std.specs.Prelude.{◌≡◌, ◌++◌, ◌-◌, ◌⊎◌, ◌<◌, ◌^◌, IsTrue, All, length, IfOk, IfSome, OnOk};
 ghost use Rattle.std.specs.Option.{option_copied};
 ghost use Rattle.c_model.specs.Graph.{RefersWithin};
 ghost use Rattle.layout_printer.specs.Sizes.{AreSizes};
-ghost use Rattle.shown_types.specs.Listed.{is_listed};
-ghost use Rattle.shown_types.specs.Shown.{separator, piece, PutsPiece, AreKept, LaysOut, ShowsPlace, ShowsPlaces, Shows};
+ghost use Rattle.shown_types.specs.Listed.{is_listed, name_at};
+ghost use Rattle.shown_types.specs.Shown.{separator, piece, PutsPiece, IsCounted, AreKept, LaysOut, ShowsPlace, ShowsPlaces, Shows};
 
+use crate::by_name::name_at;
 use crate::choosing::choose;
+use crate::counting::{Counted, with_counts};
 use crate::fault::ShowFault;
 use crate::listed::structure_at;
 use btf_codec::Table;
+use c_model::CType;
 use command_line::Text;
 use dw_base::Bytes;
 use indexmap::IndexMap;
-use layout_printer::{LayoutFault, Sizes, TypeLayout, layout, sizes_line, sizes_of, text};
+use layout_printer::{LayoutFault, Sizes, TypeLayout, layout, sizes_of, text};
 use std::alloc::{AllocError, Global};
 
 /// How types are shown.
@@ -78,14 +81,14 @@ fn show_places(
 }
 
 /// Adds the text of the type in a place as `put_shown` does. Layouts are kept by the places of their structures, so that each
-/// structure is laid out once.
+/// structure is laid out once and its members are counted once.
 fn show_place(
     alloc: Global,
     out: &mut Vec<u8>,
     table: &Table<'_>,
     sizes: &Sizes,
     style: Style,
-    kept: &mut IndexMap<u32, TypeLayout>,
+    kept: &mut IndexMap<u32, Counted>,
     x: u32,
     started: bool,
 ) -> Result<bool, ShowFault>
@@ -94,15 +97,16 @@ fn show_place(
     requires sizes { AreSizes table.now.types sizes.now }
     requires line { 0 < style.line }
     requires listed { IsTrue (is_listed table.now.types x) }
-    requires kept { AreKept table.now.types sizes.now.pointer kept.old.entries }
+    requires kept { AreKept table.now.types sizes.now.pointer style kept.old.entries }
     ensures shows { ShowsPlace table.now.types sizes.now.pointer style x started out.old.items out.new.items result }
-    ensures kept { OnOk result (AreKept table.now.types sizes.now.pointer kept.new.entries) }
+    ensures kept { OnOk result (AreKept table.now.types sizes.now.pointer style kept.new.entries) }
 {
     let structure = structure_at(table.types.items(), x).unwrap();
     if let Some(shown) = kept.get(&structure) {
         return Ok(put_shown(alloc, out, table, style, x, shown, started)?);
     }
-    let shown = layout_at(alloc, table, sizes, x)?;
+    let layout = layout_at(alloc, table, sizes, x)?;
+    let shown = with_counts(alloc, table, style, layout)?;
     let now = put_shown(alloc, out, table, style, x, &shown, started)?;
     kept.insert(structure, shown)?;
     Ok(now)
@@ -143,39 +147,55 @@ fn put_shown(
     table: &Table<'_>,
     style: Style,
     x: u32,
-    shown: &TypeLayout,
+    shown: &Counted,
     started: bool,
 ) -> Result<bool, AllocError>
     requires line { 0 < style.line }
     requires few { x < 2 ^ 32 - 1 }
-    ensures { IfOk result (λ now. PutsPiece table.now.types style (x, shown.now) started out.old.items out.new.items now) }
+    requires counted { IsCounted style shown.now }
+    ensures { IfOk result (λ now. PutsPiece table.now.types style (x, shown.now.layout) started out.old.items out.new.items now) }
 {
-    if shown.byte_holes() < style.holes as usize {
+    if shown.holes < style.holes as usize {
         return Ok(started);
     }
     if started {
         out.extend_from_slice(separator(style))?;
     }
-    let piece = piece(alloc, table, style, x, shown)?;
-    out.extend_from_slice(piece.items())?;
+    put_piece(alloc, out, table, style, x, shown)?;
     Ok(true)
 }
 
-/// The text of a type.
+/// Adds the text of a type.
 #[tactic(auto, unfolding(crate::specs::Shown::piece))]
-fn piece(
+fn put_piece(
     alloc: Global,
+    out: &mut Vec<u8>,
     table: &Table<'_>,
     style: Style,
     x: u32,
-    shown: &TypeLayout,
-) -> Result<Bytes, AllocError>
+    shown: &Counted,
+) -> Result<(), AllocError>
     requires line { 0 < style.line }
     requires few { x < 2 ^ 32 - 1 }
-    ensures { IfOk result (λ b. b ≡ piece table.now.types style (x, shown.now)) }
+    requires counted { IsCounted style shown.now }
+    ensures { OnOk result (out.new.items ≡ out.old.items ++ piece table.now.types style (x, shown.now.layout)) }
 {
     if style.sizes {
-        return sizes_line(alloc, table, x + 1, shown);
+        return put_line(out, table.types.items(), x, shown);
     }
-    text(alloc, table, x + 1, shown, style.line)
+    let text = text(alloc, table, x + 1, &shown.layout, style.line)?;
+    out.extend_from_slice(text.items())
+}
+
+/// Adds the line of a type.
+fn put_line(
+    out: &mut Vec<u8>,
+    types: &[CType<'_>],
+    x: u32,
+    shown: &Counted,
+) -> Result<(), AllocError>
+    ensures { OnOk result (out.new.items ≡ out.old.items ++ (name_at types.now x ++ shown.now.line_end)) }
+{
+    out.extend_from_slice(name_at(types, x))?;
+    out.extend_from_slice(shown.line_end.items())
 }
