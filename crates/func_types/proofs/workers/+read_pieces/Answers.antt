@@ -12,6 +12,6 @@ returns g t c =
     let left = c.split_at.result.0.now in
     let right = c.split_at.result.1.now in
     let whole : left ++ right ≡ us = ap₂ (λ (a b : List FileUnit). a ++ b) c.split_at.ensures.front c.split_at.ensures.back ∙ take-append-drop k us in
-    let size : length left ≡ k = ap length c.split_at.ensures.front ∙ length-take-le k us c.cut_of-cut.ensures in
+    let size : length left ≡ k = ap length c.split_at.ensures.front ∙ length-take-le k us c.cut_of-cut.ensures.within in
     subst (λ (vs : List FileUnit). GivesFound c.args.from vs c.put_together.result) whole
     (c.put_together.ensures c.args.from (c.args.from + k) left right (omega (arith, size)) c.join_mut-first.ensures.0.met.1 c.join_mut-first.ensures.1.met.1)
