@@ -7,11 +7,14 @@ ghost use Rattle.c_model.specs.Forwards.{HasFittingForwards};
 ghost use Rattle.c_model.specs.Graph.{RefersWithin};
 ghost use Rattle.c_model.specs.Kinds.{HasNoNul, IsWellFormed};
 ghost use Rattle.func_merge.specs.Choosing.{AreChosenOver, AreTheChosen, RefusesChoice};
+ghost use Rattle.split_base.specs.Merged.{IsPartedBy};
 
+use crate::parted::parted_classes;
 use base_merge::merge::{base_classes, classes_over};
 use btf_codec::Table;
 use c_model::{Classes, Numbers, TypeGraph};
 use dw_base::Steps;
+use func_types::graph::chosen_with_places;
 use func_types::nodes::first_nodes;
 use func_types::{Protos, chosen_packed};
 use packed_graph::PackedGraph;
@@ -21,8 +24,18 @@ use std::marker::Brand;
 use std::sync::ledger::{Blank, Ledger};
 use std::thread::Threads;
 
+/// The graph of the chosen functions, and its classes where they are known from those of the prototypes.
+#[derive(Debug, Drop)]
+pub struct Chosen<'a> {
+    pub graph: PackedGraph<'a>,
+    pub classes: Option<Classes>,
+}
+
 /// The graph of the chosen functions: a name is chosen by the classes of the graph of prototypes, which stands behind
 /// the types of a base, where there is one. The graph itself has no base nodes.
+///
+/// Its classes are known where there is no base, nothing but prototypes stands behind the first nodes of the graph of
+/// prototypes, and those of the functions among these.
 ///
 /// It is refused by `NodesTooMany` exactly where there is a base, and the base and the graph of prototypes have more
 /// than `most` nodes together.
@@ -32,7 +45,7 @@ pub fn choose_over<'a, R: Threads + Sync>(
     base: Option<&Table<'a>>,
     most: u32,
     protos: Protos<'a, PackedGraph<'a>>,
-) -> Result<PackedGraph<'a>, TableFault>
+) -> Result<Chosen<'a>, TableFault>
     requires base { IfSome base (λ b. CanBeBase b.now) }
     requires alone { protos.graph.base ≡ 0 }
     requires plain { protos.plain ≤ length protos.graph.nodes }
@@ -42,10 +55,11 @@ pub fn choose_over<'a, R: Threads + Sync>(
     requires well { All IsWellFormed protos.graph.nodes }
     requires fitting { HasFittingForwards protos.graph }
     requires names { All (λ f. HasNoNul f.name) protos.funcs }
-    ensures chosen { IfOk result (λ g. AreTheChosen (option_map (λ b. before_of b.now) base.entry) protos.entry g.nodes) }
-    ensures alone { IfOk result (λ g. g.base ≡ 0) }
-    ensures well { IfOk result (λ g. All IsWellFormed g.nodes) }
-    ensures fitting { IfOk result HasFittingForwards }
+    ensures chosen { IfOk result (λ c. AreTheChosen (option_map (λ b. before_of b.now) base.entry) protos.entry c.graph.nodes) }
+    ensures parted { IfOk result (λ c. IfSome c.classes (λ p. IsPartedBy c.graph p)) }
+    ensures alone { IfOk result (λ c. c.graph.base ≡ 0) }
+    ensures well { IfOk result (λ c. All IsWellFormed c.graph.nodes) }
+    ensures fitting { IfOk result (λ c. HasFittingForwards c.graph) }
     ensures limit { IfOk result (λ _. KeepsLimit most (option_map (λ b. before_of b.now) base.entry) protos.entry.graph.nodes) }
     ensures refusal { IfErr result (RefusesChoice most (option_map (λ b. before_of b.now) base.entry) protos.entry.graph.nodes) }
 {
@@ -60,7 +74,7 @@ fn choose_alone<'a, L: Ledger>(
     alloc: Global,
     protos: &Protos<'a, PackedGraph<'a>>,
     blank: Blank,
-) -> Result<PackedGraph<'a>, AllocError>
+) -> Result<Chosen<'a>, AllocError>
     requires name { blank.name ≡ L.name }
     requires parts { blank.parts ≡ L.parts }
     requires some { 0 < L.parts }
@@ -72,17 +86,20 @@ fn choose_alone<'a, L: Ledger>(
     requires well { All IsWellFormed protos.now.graph.nodes }
     requires fitting { HasFittingForwards protos.now.graph }
     requires names { All (λ f. HasNoNul f.name) protos.now.funcs }
-    ensures chosen { IfOk result (λ g. AreChosenOver None protos.now g.nodes) }
-    ensures alone { IfOk result (λ g. g.base ≡ 0) }
-    ensures well { IfOk result (λ g. All IsWellFormed g.nodes) }
-    ensures fitting { IfOk result HasFittingForwards }
+    ensures chosen { IfOk result (λ c. AreChosenOver None protos.now c.graph.nodes) }
+    ensures parted { IfOk result (λ c. IfSome c.classes (λ p. IsPartedBy c.graph p)) }
+    ensures alone { IfOk result (λ c. c.graph.base ≡ 0) }
+    ensures well { IfOk result (λ c. All IsWellFormed c.graph.nodes) }
+    ensures fitting { IfOk result (λ c. HasFittingForwards c.graph) }
 {
     let mut steps = Steps::<L>::new(blank);
     let none = Classes::new(Numbers::new(Vec::new(alloc)));
     let found = classes_over(alloc, &protos.graph, &none, &mut steps)?;
     // What holds of every graph is known once this is asked for.
     let _ = protos.graph.len();
-    chosen_packed(alloc, 0, protos, &found)
+    let (graph, places) = chosen_with_places(alloc, 0, protos, &found)?;
+    let classes = parted_classes(alloc, protos, &places, &found)?;
+    Ok(Chosen { graph, classes })
 }
 
 /// The graph of the chosen functions behind a base.
@@ -93,7 +110,7 @@ fn choose_behind<'a, R: Threads + Sync, L: Ledger>(
     most: u32,
     protos: &Protos<'a, PackedGraph<'a>>,
     blank: Blank,
-) -> Result<PackedGraph<'a>, TableFault>
+) -> Result<Chosen<'a>, TableFault>
     requires name { blank.name ≡ L.name }
     requires parts { blank.parts ≡ L.parts }
     requires some { 0 < L.parts }
@@ -106,10 +123,11 @@ fn choose_behind<'a, R: Threads + Sync, L: Ledger>(
     requires well { All IsWellFormed protos.now.graph.nodes }
     requires fitting { HasFittingForwards protos.now.graph }
     requires names { All (λ f. HasNoNul f.name) protos.now.funcs }
-    ensures chosen { IfOk result (λ g. AreChosenOver (Some (before_of base.now)) protos.now g.nodes) }
-    ensures alone { IfOk result (λ g. g.base ≡ 0) }
-    ensures well { IfOk result (λ g. All IsWellFormed g.nodes) }
-    ensures fitting { IfOk result HasFittingForwards }
+    ensures chosen { IfOk result (λ c. AreChosenOver (Some (before_of base.now)) protos.now c.graph.nodes) }
+    ensures parted { IfOk result (λ c. IfSome c.classes (λ p. IsPartedBy c.graph p)) }
+    ensures alone { IfOk result (λ c. c.graph.base ≡ 0) }
+    ensures well { IfOk result (λ c. All IsWellFormed c.graph.nodes) }
+    ensures fitting { IfOk result (λ c. HasFittingForwards c.graph) }
     ensures limit { IfOk result (λ _. length base.now.types + length protos.now.graph.nodes ≤ most) }
     ensures refusal { IfErr result (RefusesChoice most (Some (before_of base.now)) protos.now.graph.nodes) }
 {
@@ -117,7 +135,11 @@ fn choose_behind<'a, R: Threads + Sync, L: Ledger>(
     let kept = base_classes(rt, alloc, base, &mut steps)?;
     let whole = with_base_packed(alloc, base, most, copy_of(alloc, &protos.graph)?)?;
     let found = classes_over(alloc, &whole, &kept, &mut steps)?;
-    Ok(chosen_packed(alloc, whole.base(), protos, &found)?)
+    let graph = chosen_packed(alloc, whole.base(), protos, &found)?;
+    Ok(Chosen {
+        graph,
+        classes: None,
+    })
 }
 
 /// A second copy of a graph without base nodes.

@@ -5,9 +5,10 @@ pub mod choose;
 #[cfg(test)]
 mod fitting;
 pub mod laws;
+mod parted;
 #[cfg(test)]
 mod prototype_tests;
 #[cfg(test)]
 mod tests;
 
-pub use choose::choose_over;
+pub use choose::{Chosen, choose_over};

@@ -3,14 +3,14 @@ ghost use Rattle.std.specs.Prelude.{◌≡◌, All, IfOk, IfSome};
 ghost use Rattle.base_merge.specs.Merging.{CanBeBase};
 ghost use Rattle.c_model.specs.Kinds.{IsWellFormed};
 
-use crate::choose_over;
 use crate::fitting::{are_named, have_protos, is_fitting, refer_below};
+use crate::{Chosen, choose_over};
 use base_merge::read_base;
 use btf_codec::Table;
 use c_model::{CType, Graph, Ref};
 use dw_base::Name;
 use func_types::{Func, Funcs, Protos};
-use packed_graph::{PackedGraph, packed};
+use packed_graph::packed;
 use split_base::TableFault;
 use std::alloc::{AllocError, Global};
 use std::test::Fail;
@@ -153,7 +153,7 @@ fn choose<'a, R: Threads + Sync>(
     most: u32,
     graph: &Graph<'a>,
     files: &Files<'_>,
-) -> Result<Result<PackedGraph<'a>, TableFault>, Fail>
+) -> Result<Result<Chosen<'a>, TableFault>, Fail>
     requires base { IfSome base (λ b. CanBeBase b.now) }
     requires alone { graph.now.base ≡ 0 }
     requires well { All IsWellFormed graph.now.nodes }
@@ -222,7 +222,8 @@ fn bytes_of_base(alloc: Global, base: &[Type]) -> Result<Vec<u8>, AllocError> {
     btf(alloc, base)
 }
 
-/// Whether the functions of these rows are chosen of the types that bytes spell, behind a base, where it has bytes.
+/// Whether the functions of these rows are chosen of the types that bytes spell, behind a base, where it has bytes, and the
+/// classes of their graph are known exactly where there is no base.
 fn chooses_from<'a, R: Threads + Sync>(
     rt: &R,
     alloc: Global,
@@ -236,9 +237,12 @@ fn chooses_from<'a, R: Threads + Sync>(
     let graph = graph_of(alloc, bytes)?;
     match choose(rt, alloc, base.as_ref(), most, &graph, files)? {
         Ok(chosen) => {
-            let chosen = chosen.unpack(alloc)?;
+            let graph_of_chosen = chosen.graph.unpack(alloc)?;
             let plain = files.plain as usize;
-            Ok(has_funcs(chosen.nodes(), graph.nodes(), plain, rows))
+            Ok(
+                chosen.classes.is_some() == base.is_none()
+                    && has_funcs(graph_of_chosen.nodes(), graph.nodes(), plain, rows),
+            )
         }
         Err(_) => Ok(false),
     }

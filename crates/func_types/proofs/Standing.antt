@@ -14,12 +14,12 @@ use Rattle.func_types.proofs.Choice.{chosen_choice, chosen_name, name_chosen}
 use Rattle.func_types.proofs.Shaping.{all_chosen, all_prototypes}
 
 module _ {X : Type 0} where
-  append_left : (xs ys : List X) (k : ℕ) → k < length xs → slice_get (xs ++ ys) k ≡ slice_get xs k
+  pub append_left : (xs ys : List X) (k : ℕ) → k < length xs → slice_get (xs ++ ys) k ≡ slice_get xs k
   append_left [] ys k h = absurd (omega arith)
   append_left (x ∷ xs) ys zero h = refl
   append_left (x ∷ xs) ys (suc k) h = append_left xs ys k (omega arith)
 
-  append_right : (xs ys : List X) (n k : ℕ) → n ≡ length xs + k → slice_get (xs ++ ys) n ≡ slice_get ys k
+  pub append_right : (xs ys : List X) (n k : ℕ) → n ≡ length xs + k → slice_get (xs ++ ys) n ≡ slice_get ys k
   append_right [] ys n k e = ap (slice_get ys) (omega (arith, e))
   append_right (x ∷ xs) ys zero k e = absurd (omega arith)
   append_right (x ∷ xs) ys (suc n) k e = append_right xs ys n k (omega arith)
@@ -33,7 +33,7 @@ module _ {X : Type 0} where
         | inr h ↦ inr (h.0, omega (arith, h.1), h.2)
       ]
 
-func_at : (first : ℕ) (fs : List Func) (k : ℕ) → slice_get (funcs_from first fs) k ≡ option_map (func_type (first + k)) (slice_get fs k)
+pub func_at : (first : ℕ) (fs : List Func) (k : ℕ) → slice_get (funcs_from first fs) k ≡ option_map (func_type (first + k)) (slice_get fs k)
 func_at first [] k = refl
 func_at first (f ∷ fs) zero = ap (λ (n : ℕ). Some (func_type n f)) (omega arith)
 func_at first (f ∷ fs) (suc k) = func_at (first + 1) fs k ∙ ap (λ (n : ℕ). option_map (func_type n) (slice_get fs k)) (omega arith)
@@ -53,7 +53,7 @@ protos_there nodes f h = by nodes f.proto h
     by (t ∷ ts) zero h = (t, refl)
     by (t ∷ ts) (suc i) h = by ts i (omega arith)
 
-protos_are : (nodes : List CType) (fs : List Func) → All (λ (f : Func). f.proto < length nodes) fs
+pub protos_are : (nodes : List CType) (fs : List Func) → All (λ (f : Func). f.proto < length nodes) fs
     → (length (prototypes_of nodes fs) ≡ length fs) × ((k : ℕ) → slice_get (prototypes_of nodes fs) k ≡ option_and_then (λ (f : Func). slice_get nodes f.proto) (slice_get fs k))
 protos_are nodes [] all = (refl, λ (k : ℕ). refl)
 protos_are nodes (f ∷ fs) all =

@@ -18,6 +18,6 @@ pub mod units;
 pub mod workers;
 
 pub use fault::FuncFault;
-pub use graph::{chosen, chosen_packed};
+pub use graph::{chosen, chosen_packed, chosen_with_places};
 pub use protos::{Func, Funcs, Protos};
 pub use units::{FuncUnit, prototypes, prototypes_packed};

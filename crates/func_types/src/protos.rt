@@ -67,7 +67,7 @@ pub struct Protos<'a, G = Graph<'a>> {
 
 /// The entry in a place.
 #[inline(always)]
-pub(crate) fn func_at<'b, 'a>(funcs: &'b [Func<'a>], i: usize) -> &'b Func<'a>
+pub fn func_at<'b, 'a>(funcs: &'b [Func<'a>], i: usize) -> &'b Func<'a>
     requires { i < length funcs.now }
     ensures { slice_get funcs.now i ≡ Some result.now }
 {

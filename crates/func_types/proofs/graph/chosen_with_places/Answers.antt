@@ -1,13 +1,15 @@
 use Rattle.std.proofs.Common.{◌≡◌, ℕ, List, length, sym, subst, ◌∙◌, ap, arith}
 use Rattle.std.specs.Prelude.{All}
+use Rattle.std.specs.List.{filter_map, slice_get}
 use Rattle.c_model.specs.declared.graph.CType.{CType}
 use Rattle.c_model.specs.Graph.{RefersWithin, Shape}
 use Rattle.c_model.specs.Forwards.{HasFittingForwards}
 use Rattle.c_model.specs.Kinds.{IsWellFormed}
-use Rattle.func_types.specs.Chosen.{chosen_nodes, class_behind}
+use Rattle.func_types.specs.Chosen.{chosen_funcs, chosen_nodes, class_behind}
+use Rattle.func_types.specs.declared.protos.Func.{Func}
 use Rattle.func_types.proofs.Building.{built}
 use Rattle.func_types.proofs.Shaping.{chosen_few, chosen_fits, chosen_formed, chosen_within, length_chosen}
-use Rattle.func_types.proofs.graph.chosen_packed.Goals as goal
+use Rattle.func_types.proofs.graph.chosen_with_places.Goals as goal
 
 pub new-requires-clause-few : goal.new-requires-clause-few
 new-requires-clause-few g c =
@@ -49,3 +51,8 @@ pub returns-clause-fitting : goal.returns-clause-fitting
 returns-clause-fitting g c fits =
     subst HasFittingForwards (sym (returns-clause-graph g c))
     (chosen_fits (class_behind c.args.base c.args.classes.now) c.args.protos.now.plain (g.G.TypeGraph.shape c.args.protos.now.graph) c.args.protos.now.funcs c.requires.alone fits)
+
+pub returns-clause-places : goal.returns-clause-places
+returns-clause-places g c =
+    subst (λ (funcs : List Func). filter_map (slice_get funcs) c.in_ok-places.places.items ≡ chosen_funcs (class_behind c.args.base c.args.classes.now) funcs)
+    c.items-funcs.ensures c.in_ok-places.ensures.places
