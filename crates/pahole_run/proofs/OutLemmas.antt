@@ -1,69 +1,14 @@
--- One store, and one print.
-use Rattle.std.proofs.Common.{◌≡◌, ◌≢◌, ◌++◌, ◌∷◌, List, [], ℕ, Ok, Err, ap, sym, subst, arith, refl, Option, None, Some}
+-- One print.
+use Rattle.std.proofs.Common.{◌≡◌, ◌≢◌, ◌++◌, ◌∷◌, List, [], ℕ, Result, Ok, Err, ap, sym, subst, arith, refl, Option, None, Some}
 use Rattle.std.proofs.lemmas.List.{append-nil}
 use Rattle.std.specs.Option.{option_map}
 use Rattle.world_io.specs.Meaning.{Meaning}
-use Rattle.world_io.specs.Calls.{Stores, Prints, raised}
+use Rattle.world_io.specs.Calls.{Prints, raised}
 use Rattle.world_io.specs.declared.fault.OutFault.{OutFault}
 use Rattle.world_io.specs.declared.fault.OutFault.TheVariants.{Failed as OutFailed, Memory as OutMemory}
-use Rattle.pahole_run.specs.Layers.{of_store, of_print}
-use Rattle.pahole_run.specs.Steps.{Counted, StoresOut, Printed, PrintsOut, prints_for}
+use Rattle.pahole_run.specs.Layers.{of_print}
+use Rattle.pahole_run.specs.Steps.{Counted, PrintCause, PrintKept, Printed, PrintsOut, ended_as, prints_for}
 use Rattle.pahole_run.proofs.LoadLemmas.{called_once, counted_once, none_counted}
-
--- one store
-
-store_rest :
-    (before after : Meaning)
-    → after ≡ record before { stored = after.stored; calls = option_map raised before.calls; stores = after.stores }
-    → after ≡ record before { stored = after.stored; calls = after.calls; stores = after.stores }
-store_rest before after rest =
-    subst (λ (k : Option ℕ). after ≡ record before { stored = after.stored; calls = k; stores = after.stores })
-    (sym (ap (λ (w : Meaning). w.calls) rest)) rest
-
-pub store_ok :
-    (out bytes : List ℕ) (before after : Meaning)
-    → Stores before after out bytes (Ok tt)
-    → StoresOut out bytes before after (Ok tt)
-store_ok out bytes before after s =
-    record {
-      rest = store_rest before after s.rest;
-      later = s.later;
-      calls = called_once before.calls after.calls (ap (λ (w : Meaning). w.calls) s.rest);
-      exact = counted_once before.calls after.calls (ap (λ (w : Meaning). w.calls) s.rest);
-      cause = (ap (λ (w : Meaning). w.loads) s.rest, s.still (λ e. cc));
-      others = s.others;
-      kept = s.ok;
-      ends = tt;
-    }
-
-pub store_err :
-    (out bytes : List ℕ) (before after : Meaning) (f : OutFault)
-    → Stores before after out bytes (Err f)
-    → StoresOut out bytes before after (Err (of_store f))
-store_err out bytes before after OutFailed s =
-    record {
-      rest = store_rest before after s.rest;
-      later = s.later;
-      calls = called_once before.calls after.calls (ap (λ (w : Meaning). w.calls) s.rest);
-      exact = counted_once before.calls after.calls (ap (λ (w : Meaning). w.calls) s.rest);
-      cause = (ap (λ (w : Meaning). w.loads) s.rest, s.failed refl);
-      others = s.others;
-      kept = s.part refl;
-      ends = tt;
-    }
-store_err out bytes before after OutMemory s =
-    record {
-      rest = store_rest before after s.rest;
-      later = s.later;
-      calls = called_once before.calls after.calls (ap (λ (w : Meaning). w.calls) s.rest);
-      exact = counted_once before.calls after.calls (ap (λ (w : Meaning). w.calls) s.rest);
-      cause = (ap (λ (w : Meaning). w.loads) s.rest, s.still (λ e. cc));
-      others = s.others;
-      kept = s.memory refl;
-      ends = tt;
-    }
-
--- one print
 
 append_none : (o : Option (List ℕ)) → o ≡ option_map (λ (xs : List ℕ). xs ++ []) o
 append_none None = refl
@@ -95,34 +40,28 @@ printed_once :
 printed_once [] before after some once = absurd (some refl)
 printed_once (b ∷ bs) before after some once = counted_once before after once
 
-pub print_ok :
-    (text : List ℕ) (before after : Meaning)
-    → text ≢ [] → Prints before after text (Ok tt) → PrintsOut text before after (Ok tt)
-print_ok text before after some p =
-    record {
-      rest = print_rest before after p.rest;
-      calls = called_once before.calls after.calls (ap (λ (w : Meaning). w.calls) p.rest);
-      exact = printed_once text before.calls after.calls some (ap (λ (w : Meaning). w.calls) p.rest);
-      cause = p.still (λ e. cc);
-      kept = p.ok;
-    }
+print_cause :
+    (text : List ℕ) (before after : Meaning) (r : Result (Unit {0}) OutFault)
+    → Prints before after text r → PrintCause before after (ended_as of_print r)
+print_cause text before after (Ok u) p = p.still (λ e. cc)
+print_cause text before after (Err OutFailed) p = p.failed refl
+print_cause text before after (Err OutMemory) p = p.still (λ e. cc)
 
-pub print_err :
-    (text : List ℕ) (before after : Meaning) (f : OutFault)
-    → text ≢ [] → Prints before after text (Err f) → PrintsOut text before after (Err (of_print f))
-print_err text before after OutFailed some p =
+print_kept :
+    (text : List ℕ) (before after : Meaning) (r : Result (Unit {0}) OutFault)
+    → Prints before after text r → PrintKept text before after r
+print_kept text before after (Ok u) p = p.ok
+print_kept text before after (Err OutFailed) p = p.part refl
+print_kept text before after (Err OutMemory) p = p.memory refl
+
+pub print_some :
+    (text : List ℕ) (before after : Meaning) (r : Result (Unit {0}) OutFault)
+    → text ≢ [] → Prints before after text r → PrintsOut text before after r
+print_some text before after r some p =
     record {
       rest = print_rest before after p.rest;
       calls = called_once before.calls after.calls (ap (λ (w : Meaning). w.calls) p.rest);
       exact = printed_once text before.calls after.calls some (ap (λ (w : Meaning). w.calls) p.rest);
-      cause = p.failed refl;
-      kept = p.part refl;
-    }
-print_err text before after OutMemory some p =
-    record {
-      rest = print_rest before after p.rest;
-      calls = called_once before.calls after.calls (ap (λ (w : Meaning). w.calls) p.rest);
-      exact = printed_once text before.calls after.calls some (ap (λ (w : Meaning). w.calls) p.rest);
-      cause = p.still (λ e. cc);
-      kept = p.memory refl;
+      cause = print_cause text before after r p;
+      kept = print_kept text before after r p;
     }

@@ -17,6 +17,7 @@ ghost use Rattle.pahole_run.specs.Refusals.{first, funcs_checks, over_check};
 ghost use Rattle.pahole_run.specs.Steps.{Tells, IsOwn};
 ghost use Rattle.pahole_run.specs.Tables.{AreNodesOf, AreTheOnly};
 
+use crate::context::Context;
 use crate::faults::{ended_of_funcs, ended_of_table};
 use crate::merging::Sources;
 use crate::refusal::Ended;
@@ -24,20 +25,16 @@ use btf_codec::Table;
 use func_merge::choose_over;
 use func_types::{Protos, prototypes_packed};
 use packed_graph::PackedGraph;
-use std::alloc::Global;
 use std::thread::Threads;
 use unit_encoder::UnitAt;
 
 /// Adds the functions of files to the graph of their types, where that is asked for: the chosen ones, each with its prototype.
-pub fn add_functions<'a, R: Threads + Sync>(
-    rt: &R,
-    alloc: Global,
-    jobs: u32,
-    most: u32,
+pub fn add_functions<'a, R: Threads + Sync, G>(
+    context: &Context<'_, R, G>,
     funcs: bool,
     sources: Sources<'a>,
 ) -> Result<Sources<'a>, Ended>
-    requires jobs { 1 ≤ jobs }
+    requires jobs { 1 ≤ context.now.jobs }
     requires few { length sources.units.items < 2 ^ 32 }
     requires readable { All IsReadable sources.units.items }
     requires files { AreOfFiles sources.units.items }
@@ -46,10 +43,11 @@ pub fn add_functions<'a, R: Threads + Sync>(
     requires alone { sources.graph.base ≡ 0 }
     requires well { All IsWellFormed sources.graph.nodes }
     requires fitting { HasFittingForwards sources.graph }
-    ensures told { Tells (first (funcs_checks funcs most (option_map before_of sources.entry.base)
-        (prototypes_of_units most sources.entry.units.items sources.entry.graph.nodes)))
+    ensures told { Tells (first (funcs_checks funcs context.now.limits.nodes (option_map before_of sources.entry.base)
+        (prototypes_of_units context.now.limits.nodes sources.entry.units.items sources.entry.graph.nodes)))
         (λ s. AreTheOnly (AreNodesOf funcs (option_map before_of sources.entry.base) sources.entry.graph.nodes
-        (prototypes_of_units most sources.entry.units.items sources.entry.graph.nodes)) s.graph.nodes) result }
+        (prototypes_of_units context.now.limits.nodes sources.entry.units.items sources.entry.graph.nodes))
+        s.graph.nodes) result }
     ensures units { IfOk result (λ s. s.units.items ≡ sources.entry.units.items) }
     ensures same { IfOk result (λ s. s.base ≡ sources.entry.base) }
     ensures alone { IfOk result (λ s. s.graph.base ≡ 0) }
@@ -61,29 +59,18 @@ pub fn add_functions<'a, R: Threads + Sync>(
         return Ok(sources);
     }
     let Sources { units, base, graph } = sources;
-    let graph = with_functions(
-        rt,
-        alloc,
-        jobs,
-        most,
-        base.as_ref(),
-        units.as_slice(),
-        graph,
-    )?;
+    let graph = with_functions(context, base.as_ref(), units.as_slice(), graph)?;
     Ok(Sources { units, base, graph })
 }
 
 /// The graph of the chosen functions, over the base, where there is one.
-fn with_functions<'a, R: Threads + Sync>(
-    rt: &R,
-    alloc: Global,
-    jobs: u32,
-    most: u32,
+fn with_functions<'a, R: Threads + Sync, G>(
+    context: &Context<'_, R, G>,
     base: Option<&Table<'a>>,
     units: &[UnitAt<'a>],
     graph: PackedGraph<'a>,
 ) -> Result<PackedGraph<'a>, Ended>
-    requires jobs { 1 ≤ jobs }
+    requires jobs { 1 ≤ context.now.jobs }
     requires few { length units.now < 2 ^ 32 }
     requires readable { All IsReadable units.now }
     requires files { AreOfFiles units.now }
@@ -92,29 +79,26 @@ fn with_functions<'a, R: Threads + Sync>(
     requires alone { graph.base ≡ 0 }
     requires well { All IsWellFormed graph.nodes }
     requires fitting { HasFittingForwards graph }
-    ensures told { Tells (first (funcs_checks true most (option_map (λ b. before_of b.now) base.entry)
-        (prototypes_of_units most units.now graph.entry.nodes)))
+    ensures told { Tells (first (funcs_checks true context.now.limits.nodes
+        (option_map (λ b. before_of b.now) base.entry) (prototypes_of_units context.now.limits.nodes units.now graph.entry.nodes)))
         (λ g. AreTheOnly (AreNodesOf true (option_map (λ b. before_of b.now) base.entry) graph.entry.nodes
-        (prototypes_of_units most units.now graph.entry.nodes)) g.nodes) result }
+        (prototypes_of_units context.now.limits.nodes units.now graph.entry.nodes)) g.nodes) result }
     ensures alone { IfOk result (λ g. g.base ≡ 0) }
     ensures well { IfOk result (λ g. All IsWellFormed g.nodes) }
     ensures fitting { IfOk result (λ g. HasFittingForwards g) }
     ensures own { IsOwn result }
 {
-    let protos = read_prototypes(rt, alloc, jobs, most, units, graph)?;
-    choose(rt, alloc, base, most, protos)
+    let protos = read_prototypes(context, units, graph)?;
+    choose(context, base, protos)
 }
 
 /// The graph of the prototypes of all functions.
-fn read_prototypes<'a, R: Threads + Sync>(
-    rt: &R,
-    alloc: Global,
-    jobs: u32,
-    most: u32,
+fn read_prototypes<'a, R: Threads + Sync, G>(
+    context: &Context<'_, R, G>,
     units: &[UnitAt<'a>],
     graph: PackedGraph<'a>,
 ) -> Result<Protos<'a, PackedGraph<'a>>, Ended>
-    requires jobs { 1 ≤ jobs }
+    requires jobs { 1 ≤ context.now.jobs }
     requires few { length units.now < 2 ^ 32 }
     requires readable { All IsReadable units.now }
     requires files { AreOfFiles units.now }
@@ -122,8 +106,9 @@ fn read_prototypes<'a, R: Threads + Sync>(
     requires alone { graph.base ≡ 0 }
     requires well { All IsWellFormed graph.nodes }
     requires fitting { HasFittingForwards graph }
-    ensures told { Tells (seen_as of_funcs (result_err (prototypes_of_units most units.now graph.entry.nodes)))
-        (λ p. prototypes_of_units most units.now graph.entry.nodes ≡ Ok p) result }
+    ensures told { Tells
+        (seen_as of_funcs (result_err (prototypes_of_units context.now.limits.nodes units.now graph.entry.nodes)))
+        (λ p. prototypes_of_units context.now.limits.nodes units.now graph.entry.nodes ≡ Ok p) result }
     ensures alone { IfOk result (λ p. p.graph.base ≡ 0) }
     ensures plain { IfOk result (λ p. p.plain ≤ length p.graph.nodes) }
     ensures within { IfOk result (λ p. RefersWithin p.plain p.graph.nodes) }
@@ -134,18 +119,23 @@ fn read_prototypes<'a, R: Threads + Sync>(
     ensures names { IfOk result (λ p. All (λ f. HasNoNul f.name) p.funcs) }
     ensures own { IsOwn result }
 {
-    match prototypes_packed(rt, alloc, jobs, most, graph, units) {
+    match prototypes_packed(
+        context.rt,
+        context.alloc,
+        context.jobs,
+        context.limits.nodes,
+        graph,
+        units,
+    ) {
         Ok(protos) => Ok(protos),
         Err(fault) => Err(ended_of_funcs(fault)),
     }
 }
 
 /// The graph of the functions that are chosen among prototypes.
-fn choose<'a, R: Threads + Sync>(
-    rt: &R,
-    alloc: Global,
+fn choose<'a, R: Threads + Sync, G>(
+    context: &Context<'_, R, G>,
     base: Option<&Table<'a>>,
-    most: u32,
     protos: Protos<'a, PackedGraph<'a>>,
 ) -> Result<PackedGraph<'a>, Ended>
     requires base { IfSome base (λ b. CanBeBase b.now) }
@@ -157,14 +147,16 @@ fn choose<'a, R: Threads + Sync>(
     requires well { All IsWellFormed protos.graph.nodes }
     requires fitting { HasFittingForwards protos.graph }
     requires names { All (λ f. HasNoNul f.name) protos.funcs }
-    ensures told { Tells (over_check most (option_map (λ b. before_of b.now) base.entry) protos.entry.graph.nodes)
+    ensures told { Tells (over_check context.now.limits.nodes (option_map (λ b. before_of b.now) base.entry)
+        protos.entry.graph.nodes)
         (λ g. AreTheChosen (option_map (λ b. before_of b.now) base.entry) protos.entry g.nodes) result }
     ensures alone { IfOk result (λ g. g.base ≡ 0) }
     ensures well { IfOk result (λ g. All IsWellFormed g.nodes) }
     ensures fitting { IfOk result (λ g. HasFittingForwards g) }
     ensures own { IsOwn result }
 {
-    match choose_over(rt, alloc, base, most, protos) {
+    let most = context.limits.nodes;
+    match choose_over(context.rt, context.alloc, base, most, protos) {
         Ok(graph) => Ok(graph),
         Err(fault) => Err(ended_of_table(fault)),
     }

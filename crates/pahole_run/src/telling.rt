@@ -6,10 +6,11 @@ ghost use Rattle.pahole_run.specs.Line.{counts_line};
 ghost use Rattle.pahole_run.specs.Steps.{Tells, IsOwn, Makes, bytes_in, inputs_from};
 ghost use Rattle.pahole_run.specs.Tasks.Output.{Told};
 
+use crate::context::Context;
 use crate::images::order_in;
 use crate::refusal::Ended;
 use crate::table::{Made, make_table, write_table};
-use dw_base::{Bytes, Limits};
+use dw_base::Bytes;
 use itoa::Buffer;
 use std::alloc::{AllocError, Global};
 use std::thread::Threads;
@@ -18,22 +19,18 @@ use world_io::Gate;
 /// The steps from patched ELF files to the line that tells how many units they have, how many nodes their graph, and how many
 /// types and bytes their table.
 pub fn make_line<R: Threads + Sync, G: Gate>(
-    rt: &R,
-    alloc: Global,
-    gate: &G,
-    jobs: u32,
-    limits: Limits,
+    context: &Context<'_, R, G>,
     files: &[Bytes],
 ) -> Result<Bytes, Ended>
-    requires jobs { 1 ≤ jobs }
+    requires jobs { 1 ≤ context.now.jobs }
     requires few { length files.now < 2 ^ 32 }
     requires size { bytes_in files.now < 2 ^ 32 }
     requires images { All HasImage files.now }
-    ensures { Makes Dwarf Told limits (inputs_from files.now None false) result }
+    ensures { Makes Dwarf Told context.now.limits (inputs_from files.now None false) result }
 {
-    let made = make_table(rt, alloc, gate, jobs, limits, files, None, false)?;
-    let bytes = write_table(alloc, &made.table, order_in(files))?;
-    line_of(alloc, &made, bytes.items().len() as u64)
+    let made = make_table(context, files, None, false)?;
+    let bytes = write_table(context.alloc, &made.table, order_in(files))?;
+    line_of(context.alloc, &made, bytes.items().len() as u64)
 }
 
 /// The line of a table that has so many bytes.

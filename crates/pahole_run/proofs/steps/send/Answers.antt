@@ -1,19 +1,22 @@
-use Rattle.std.proofs.Common.{ap, subst, sym}
-use Rattle.pahole_run.specs.Tasks.{Task, task_of}
+use Rattle.std.proofs.Common.{◌∙◌, ap, subst, sym}
+use Rattle.pahole_run.specs.Asked.{output_of}
 use Rattle.pahole_run.proofs.SentLemmas.{IsPrinted, done_sent_stored, done_sent_printed}
 use Rattle.pahole_run.proofs.steps.send.Goals as goal
 
-pub returns-in-Encode : goal.returns-in-Encode
-returns-in-Encode g c limits before made =
-    done_sent_stored limits (task_of c.args.job.now) c.in-Encode.out c.in-Encode.files c.in-Encode.base c.in-Encode.funcs before _ _ c.args.bytes.now
-    c.store_out.result (ap task_of c.in-Encode.is) made (rw c.as_str.ensures at c.store_out.ensures)
+pub returns-in-Stored : goal.returns-in-Stored
+returns-in-Stored g c limits task before is made =
+    rw c.done_of_store.ensures
+    (done_sent_stored limits task c.in-Stored.out.now before _ _ c.args.bytes.now c.store.result (is ∙ ap output_of c.in-Stored.is)
+    made c.store.ensures)
 
-pub returns-in-Show : goal.returns-in-Show
-returns-in-Show g c limits before made =
-    done_sent_printed limits (task_of c.args.job.now) before _ _ c.args.bytes.now c.print_out.result
-    (subst (λ (t : Task). IsPrinted t.output) (sym (ap task_of c.in-Show.is)) tt) made c.print_out.ensures
+pub returns-in-Shown : goal.returns-in-Shown
+returns-in-Shown g c limits task before is made =
+    rw c.done_of_print.ensures
+    (done_sent_printed limits task before _ _ c.args.bytes.now c.print_out.result
+    (subst IsPrinted (sym (is ∙ ap output_of c.in-Shown.is)) tt) made c.print_out.ensures)
 
-pub returns-in-Selfmade : goal.returns-in-Selfmade
-returns-in-Selfmade g c limits before made =
-    done_sent_printed limits (task_of c.args.job.now) before _ _ c.args.bytes.now c.print_out-in-Selfmade.result
-    (subst (λ (t : Task). IsPrinted t.output) (sym (ap task_of c.in-Selfmade.is)) tt) made c.print_out-in-Selfmade.ensures
+pub returns-in-Told : goal.returns-in-Told
+returns-in-Told g c limits task before is made =
+    rw c.done_of_print-in-Told.ensures
+    (done_sent_printed limits task before _ _ c.args.bytes.now c.print_out-in-Told.result
+    (subst IsPrinted (sym (is ∙ ap output_of c.in-Told.is)) tt) made c.print_out-in-Told.ensures)

@@ -9,7 +9,8 @@ returns-in-Ok g c limits before p =
     let made : IsMade limits (task_of c.args.job.now) before now c.in-Ok.bytes =
     subst (Prepares limits (task_of c.args.job.now) before now) c.in-Ok.is p in
     c.end_job.ensures limits before
-    (c.send-done.ensures limits before (subst (IsMade limits (task_of c.args.job.now) before now) (sym c.items.ensures) made))
+    (c.send-done.ensures limits (task_of c.args.job.now) before (sym c.output_of.ensures)
+    (subst (IsMade limits (task_of c.args.job.now) before now) (sym c.items.ensures) made))
 
 pub returns-in-Err : goal.returns-in-Err
 returns-in-Err g c limits before p =
