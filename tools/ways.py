@@ -79,14 +79,13 @@ def main():
     with tempfile.TemporaryDirectory() as scratch:
         for one, folder in built:
             linked, start = f"{folder}/{one}", f"| {one} | {way(folder)} |"
-            if not os.path.exists(linked):
-                print(f"skipped ways {linked}: it was not built", file=sys.stderr, flush=True)
-                continue
-            whole, single, objects = Tally(names), Tally(names), sorted(glob.glob(f"{linked}.o.d/*.o"))
-            found = whole.add(program, linked, scratch, ["--funcs"])
+            objects = sorted(glob.glob(f"{linked}.o.d/*.o"))
+            whole, single = Tally(names), Tally(names)
+            found = os.path.exists(linked) and whole.add(program, linked, scratch, ["--funcs"])
             for path in objects:
                 single.add(program, path, scratch)
-            types.append(f"{start} {whole.cells()} | {len(objects)} | {single.cells()} |")
+            cells = whole.cells() if os.path.exists(linked) else "not built | "
+            types.append(f"{start} {cells} | {len(objects)} | {single.cells()} |")
             if found:
                 functions.append(f"{start} {cells_of_functions(linked, *found)} |")
     print_table(TYPES, types)
