@@ -59,12 +59,15 @@ postgres() {
     make -C src/backend generated-headers && make -j"$jobs" -C src/backend
 }
 
-# Copies the program, and its largest objects, whose names are their paths with `_` for `/`.
+# Copies the program, and its largest objects, whose names are their paths with `_` for `/`. Those of tools that a build
+# makes for itself (scripts/) have no debugging information.
 keep() {
   local path
   cp "$built" "$folder/$1" && mkdir -p "$folder/$1.o.d" || return 1
-  find . -name '*.o' ! -name 'built-in.o' -printf '%s %P\n' | sort -rn | head -n "${OBJECTS:-100}" | cut -d' ' -f2- |
-    while read -r path; do cp "$path" "$folder/$1.o.d/${path//\//_}"; done
+  find . -name '*.o' ! -name 'built-in.o' ! -path './scripts/*' -printf '%s %P\n' | sort -rn |
+    head -n "${OBJECTS:-100}" | cut -d' ' -f2- | while read -r path; do
+    cp "$path" "$folder/$1.o.d/${path//\//_}"
+  done
 }
 
 for program in ${PROGRAMS:-sqlite3 redis busybox git postgres}; do
