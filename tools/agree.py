@@ -6,6 +6,7 @@ With --funcs a second line tells how many names of functions both have with one 
 or are in one alone."""
 import collections
 import os
+import re
 import subprocess
 import sys
 import tempfile
@@ -16,6 +17,8 @@ from described import Described
 PEER = ["pahole", "--skip_encoding_btf_vars", "--btf_gen_floats", "--btf_encode_detached=o"]
 DECLARABLE = ("STRUCT", "UNION")
 INDEX, ATOMIC, DECLARED = "the type of indices", "`_Atomic`", "declarations beside several definitions"
+# what differs on purpose, and what shows a fault of one of the two
+MEANT, BITS = (INDEX, ATOMIC, DECLARED), "places of bit fields"
 # how many types that differ are shown, and how many names of functions
 SHOWN, FEW = 20, 8
 
@@ -38,6 +41,11 @@ def cause(told, often):
     return None
 
 
+def without_places(told):
+    """A type's text, where each bit field has its size alone: the word of a member has that in its first byte."""
+    return re.sub(r"@0x([0-9a-f]{1,2})[0-9a-f]{6}\b", r"@\1 bits", told)
+
+
 def head(told):
     """The kind and the name of a type, by its text."""
     return tuple(told.split(" ", 2)[:2])
@@ -50,7 +58,9 @@ def differing(ours, theirs):
     alone = [("here", told) for told in sorted(here - there)] + [("there", told) for told in sorted(there - here)]
     often = defined_often(ours)
     of_name = {head(told): why for _, told in alone if (why := cause(told, often))}
-    return len(here & there), [(where, told, of_name.get(head(told))) for where, told in alone]
+    moved = {without_places(told) for told in here - there} & {without_places(told) for told in there - here}
+    whys = [of_name.get(head(told)) or (BITS if without_places(told) in moved else None) for _, told in alone]
+    return len(here & there), [(where, told, why) for (where, told), why in zip(alone, whys)]
 
 
 def differing_functions(ours, theirs):
@@ -95,19 +105,19 @@ def line_of_functions(name, ours, theirs):
 
 
 def compare(program, path, folder, options):
-    """Lines on a file, and whether a type differs without a known cause."""
+    """Lines on a file, and whether a type differs that isn't meant to."""
     ours, theirs, complaint = tables(program, path, folder, options)
     name = os.path.basename(path)
     if ours is None or theirs is None:
         return [f"failed agree {name}: {complaint}"], True
     same, alone = differing(ours, theirs)
-    unknown = [f"  {where} {told[:300]}" for where, told, why in alone if why is None]
-    known = told_causes(why for _, _, why in alone if why)
-    counts = "; ".join([f"{same} types are the same, {len(unknown)} are not", *known])
-    lines = [f"{'failed' if unknown else 'passed'} agree {name}: {counts}"]
+    wrong = [f"  {where} {told[:300]}" for where, told, why in alone if why not in MEANT]
+    meant = told_causes(why for _, _, why in alone if why in MEANT)
+    counts = "; ".join([f"{same} types are the same, {len(wrong)} are not", *meant])
+    lines = [f"{'failed' if wrong else 'passed'} agree {name}: {counts}"]
     if options:
         lines.append(line_of_functions(name, ours, theirs))
-    return [*lines, *unknown[:SHOWN]], bool(unknown)
+    return [*lines, *wrong[:SHOWN]], bool(wrong)
 
 
 def main():

@@ -59,8 +59,8 @@ postgres() {
     make -C src/backend generated-headers && make -j"$jobs" -C src/backend
 }
 
-# Copies the program, and its largest objects, whose names are their paths with `_` for `/`. Those of tools that a build
-# makes for itself (scripts/) have no debugging information.
+# Copies the program, and its largest objects, whose names are their paths with `_` for `/`. Those of a build's own
+# tools (scripts/) have no debugging information.
 keep() {
   local path
   cp "$built" "$folder/$1" && mkdir -p "$folder/$1.o.d" || return 1
