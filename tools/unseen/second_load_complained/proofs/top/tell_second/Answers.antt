@@ -1,4 +1,4 @@
-use Rattle.std.proofs.Common.{◌≡◌, ◌+◌, ◌-◌, ◌^◌, ◌<◌, ◌≤◌, ◌⊎◌, ◌∙◌, List, ℕ, Bool, Option, Some, Result, Err, ap, sym, subst, refl, length, inl, inr, arith}
+use Rattle.std.proofs.Common.{◌≡◌, ◌+◌, ◌-◌, ◌^◌, ◌<◌, ◌≤◌, ◌⊎◌, ◌∙◌, List, ℕ, Bool, Option, Some, Result, Err, ap, sym, subst, length, inl, inr, arith, rules}
 use Rattle.std.specs.Option.{option_map}
 use Rattle.std.proofs.lemmas.Bool.{cases_lt}
 use Rattle.dw_base.specs.declared.places.Limits.{Limits}
@@ -6,9 +6,9 @@ use Rattle.world_io.specs.Meaning.{Meaning}
 use Rattle.world_io.specs.Calls.{Loads, Rose, raised, under}
 use Rattle.world_io.specs.declared.fault.LoadFault.{LoadFault}
 use Rattle.pahole_run.specs.declared.refusal.Ended.TheVariants.{Read}
-use Rattle.pahole_run.specs.Steps.{CalledAtMost, Counted, Done}
-use Rattle.pahole_run.specs.Tasks.{Task, encode_task, loads_of}
-use Rattle.pahole_run.proofs.LoadLemmas.{and_base_more, counted_once, counted_sum}
+use Rattle.pahole_run.specs.Steps.{CalledAtMost, Counted, Done, Prepares}
+use Rattle.pahole_run.specs.Tasks.{Task, encode_task, loads_of, task_of}
+use Rattle.pahole_run.proofs.LoadLemmas.{and_base_more}
 use Rattle.pahole_run.proofs.top.tell_second.Goals as goal
 
 -- a count one higher, of at most two more than before
@@ -78,3 +78,18 @@ told_second limits out names base funcs before now after name into most result m
       table = λ held is. tt;
       spelled = tt;
     }
+
+pub returns-in-Err-Read-eq0 : goal.returns-in-Err-Read-eq0
+returns-in-Err-Read-eq0 g c limits before p =
+    let meaning = g.W.World.meaning in
+    let made : c.args.made ≡ Err (Read 0) = search rules in
+    let task : task_of c.args.job.now ≡ encode_task c.in-Encode.out c.in-Encode.files c.in-Encode.base c.in-Encode.funcs =
+    ap task_of c.in-Encode.is in
+    let done : Done limits (task_of c.args.job.now) before (meaning c.args.world.now) (Err (Read 0)) =
+    subst (Prepares limits (task_of c.args.job.now) before (meaning c.args.world.now)) made p in
+    let more : 1 < length c.in-Encode.files =
+    omega (arith, c.if-len-gt1.true, c.len.ensures, ap (λ (ns : List (List ℕ)). length ns) c.items.ensures) in
+    subst (λ (t : Task). Done limits t before (meaning c.load.new.self) (Err (Read 1))) (sym task)
+    (told_second limits c.in-Encode.out c.in-Encode.files c.in-Encode.base c.in-Encode.funcs before
+    (meaning c.args.world.now) (meaning c.load.new.self) c.as_str.result.now _ 0 c.load.result more
+    (subst (λ (t : Task). Done limits t before (meaning c.args.world.now) (Err (Read 0))) task done) c.load.ensures)
