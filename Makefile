@@ -1,6 +1,7 @@
 # pahole, proved. `make pahole` builds the proved program, `make demo` encodes a file with it, `make test` is
 # the gate and the repository's own checks. The pages' other numbers come from scripts that no check runs, for they take long (tools/):
-# `make measure` (docs/SPEED.md), `make agree` and `make ways` (docs/AGREEMENT.md), `make plants`, `make edits`, `make unseen` and `make memory` (docs/AUDIT.md).
+# `make measure` (docs/SPEED.md), `make agree` and `make ways` (docs/AGREEMENT.md), `make plants`, `make edits`,
+# `make unseen` and `make memory` (docs/AUDIT.md).
 PROGRAM = crates/pahole/out/pahole
 
 SHELL = bash
@@ -29,8 +30,8 @@ measure:
 agree:
 	python3 -B tools/agree.py $(PROGRAM) $(if $(FUNCS),--funcs) $(FILES)
 
-# the same of five real programs, by gcc and clang, with DWARF 4 and 5, and of their objects: builds them in the folder REAL where they aren't there,
-# and with WRITE=1 writes docs/AGREEMENT.md's tables
+# the same of five real programs, by gcc and clang, with DWARF 4 and 5, and of their objects: builds them in the folder
+# REAL where they aren't there, and with WRITE=1 writes docs/AGREEMENT.md's tables
 ways:
 	bash tools/ways.sh $(REAL)
 
