@@ -17,6 +17,8 @@ from described import Described
 PEER = ["pahole", "--skip_encoding_btf_vars", "--btf_gen_floats", "--btf_encode_detached=o"]
 DECLARABLE = ("STRUCT", "UNION")
 INDEX, ATOMIC, DECLARED = "the type of indices", "`_Atomic`", "declarations beside several definitions"
+# the type of indices there, also where a file has no `int`
+INDEX_THERE = "INT int 4 0x1000020"
 # what differs on purpose, and what shows a fault of one of the two
 MEANT, BITS = (INDEX, ATOMIC, DECLARED), "places of bit fields"
 # how many types that differ are shown, and how many names of functions
@@ -29,9 +31,9 @@ def defined_often(table):
     return {each for each, count in counts.items() if count > 1}
 
 
-def cause(told, often):
+def cause(where, told, often):
     """Why a type may be in one of the tables alone, by its text and by what has several definitions."""
-    if "__ARRAY_SIZE_TYPE__" in told:
+    if "__ARRAY_SIZE_TYPE__" in told or (where, told) == ("there", INDEX_THERE):
         return INDEX
     if "_Atomic" in told:
         return ATOMIC
@@ -57,7 +59,7 @@ def differing(ours, theirs):
     here, there = ({told for told in each.named() if not told.startswith("FUNC ")} for each in (ours, theirs))
     alone = [("here", told) for told in sorted(here - there)] + [("there", told) for told in sorted(there - here)]
     often = defined_often(ours)
-    of_name = {head(told): why for _, told in alone if (why := cause(told, often))}
+    of_name = {head(told): why for where, told in alone if (why := cause(where, told, often))}
     moved = {without_places(told) for told in here - there} & {without_places(told) for told in there - here}
     whys = [of_name.get(head(told)) or (BITS if without_places(told) in moved else None) for _, told in alone]
     return len(here & there), [(where, told, why) for (where, told), why in zip(alone, whys)]
