@@ -1,11 +1,12 @@
 # pahole, proved. `make pahole` builds the proved program, `make demo` encodes a file with it, `make test` is
 # the gate and the repository's own checks. The pages' other numbers come from scripts that no check runs, for they take long (tools/):
-# `make measure` and `make agree` (docs/SPEED.md), `make plants`, `make edits`, `make unseen` and `make memory` (docs/AUDIT.md).
+# `make measure` (docs/SPEED.md), `make agree` and `make ways` (docs/AGREEMENT.md), `make plants`, `make edits`,
+# `make unseen` and `make memory` (docs/AUDIT.md).
 PROGRAM = crates/pahole/out/pahole
 
 SHELL = bash
 
-.PHONY: pahole demo test measure agree plants unseen edits memory
+.PHONY: pahole demo test measure agree ways plants unseen edits memory
 
 pahole:
 	@. checks/lib/toolchain.sh
@@ -28,6 +29,11 @@ measure:
 # whether Debian's tool pahole writes the same types for FILES='a b', compared by what they are; FUNCS=1 looks at functions, too
 agree:
 	python3 -B tools/agree.py $(PROGRAM) $(if $(FUNCS),--funcs) $(FILES)
+
+# the same of five real programs, by gcc and clang, with DWARF 4 and 5, and of their objects: builds them in the folder
+# REAL where they aren't there, and with WRITE=1 writes docs/AGREEMENT.md's tables
+ways:
+	bash tools/ways.sh $(REAL)
 
 # CRATES='a b' plants in these alone, WRITE=1 writes docs/AUDIT.md's rows
 plants:

@@ -1,8 +1,9 @@
 #!/usr/bin/env bash
 # unseen.sh [NAME..]: applies each edit of tools/unseen (or those named) to a copy of the repository, and proves the edited crate. Each
 # is a wrong program, or an equal one, that docs/AUDIT.md says no clause refuses. An edit has the form of a must-fail edit, behind a line
-# `crate: NAME`; it may change several files, each behind a line `file: PATH` of its own. `passed` is what is proved. No check runs this, for
-# each edit costs a check of its crate: `make unseen`.
+# `crate: NAME`; it may change several files, each behind a line `file: PATH` of its own, and a line `and: TEXT` adds one
+# behind the new one. What its proof needs besides lies in a folder of the edit's name, and is put beside the crate's.
+# `passed` is what is proved. No check runs this, for each edit costs a check of its crate: `make unseen`.
 set -u
 export LC_ALL=C.UTF-8
 root=$(cd "$(dirname "$0")/.." && pwd) || exit 2
@@ -29,13 +30,15 @@ with open(edit) as lines:
             path = f"{folder}/{text.strip()}"
         elif word == "old":
             old = text.strip()
-        elif word == "new":
+        elif word in ("new", "and"):
+            new = text.strip() if word == "new" else f"{old}\n{text}"
             with open(path) as file:
                 whole = file.read()
             if whole.count(old) != 1:
                 sys.exit(f"{old!r} stands {whole.count(old)} times in {path.removeprefix(folder + '/')}")
             with open(path, "w") as file:
-                file.write(whole.replace(old, text.strip()))
+                file.write(whole.replace(old, new))
+            old = new
 PY
 }
 
@@ -46,6 +49,7 @@ for name in "${edits[@]}"; do
   edit=$root/tools/unseen/$name.edit
   crate=$(sed -n 's/^crate: //p' "$edit")
   folder=$scratch/copy/crates/$crate
+  if [ -d "$root/tools/unseen/$name" ]; then cp -r "$root/tools/unseen/$name/." "$folder"; fi
   if ! why=$(apply "$edit" "$folder" 2>&1); then
     echo "failed $name: $why"
     failed=1

@@ -108,14 +108,29 @@ def check_cases():
     return faults, ", ".join(f"{count} in {program}" for program, count in lying.items())
 
 
+def misplaced(edit):
+    """The texts that an edit of tools/unseen changes and that don't stand once in their file."""
+    faults, crate, path = [], None, None
+    for line in read(f"tools/unseen/{edit}.edit").splitlines():
+        word, _, text = line.partition(": ")
+        if word == "crate":
+            crate = text.strip()
+        elif word == "file":
+            path = f"crates/{crate}/{text.strip()}"
+        elif word == "old" and read(path).count(text.strip()) != 1:
+            faults.append(f"{edit} changes a text that does not stand once in {path}")
+    return faults
+
+
 def check_unseen():
-    """The page on the audit names each edit that no clause refuses, and no other."""
+    """The page on the audit names each edit that no clause refuses, and no other, and each finds what it changes."""
     page = read("docs/AUDIT.md")
     words = CODE.findall(page[page.index("## What no clause can refuse"):])
     told = {word for word in words if re.fullmatch(r"[a-z]+(_[a-z]+)+", word)} - set(crates())
     there = {os.path.basename(path)[:-5] for path in glob.glob(f"{ROOT}/tools/unseen/*.edit")}
     faults = [f"{name} is not named" for name in sorted(there - told)]
-    return faults + [f"{name} is named and not there" for name in sorted(told - there)], f"{len(there)} edits"
+    faults += [f"{name} is named and not there" for name in sorted(told - there)]
+    return faults + [fault for name in sorted(there) for fault in misplaced(name)], f"{len(there)} edits"
 
 
 def check_speed():
