@@ -20,6 +20,7 @@ use Rattle.func_types.specs.Prototypes.{prototypes_of_units}
 use Rattle.func_types.specs.declared.fault.FuncFault.{FuncFault}
 use Rattle.func_types.specs.declared.protos.Protos.{Protos}
 use Rattle.func_merge.specs.Choosing.{AreTheChosen, RefusesChoice}
+use Rattle.func_merge.specs.declared.choose.Chosen.{Chosen}
 use Rattle.pahole_run.specs.declared.refusal.Refusal.{Refusal}
 use Rattle.pahole_run.specs.declared.refusal.Ended.{Ended}
 use Rattle.pahole_run.specs.Layers.{of_funcs, of_table, refusal_in, seen_as}
@@ -164,12 +165,12 @@ module _ (most : ℕ) (before : Option Before) (nodes : List CType) (found : Res
 
 pub chosen_told :
     (most : ℕ) (before : Option Before) (nodes : List CType) (found : Result (Protos Shape) FuncFault) (protos : Protos Shape)
-    (result : Result Shape Ended)
+    (result : Result Chosen Ended)
     → found ≡ Ok protos
-    → Tells (over_check most before protos.graph.nodes) (λ (g : Shape). AreTheChosen before protos g.nodes) result
-    → Tells (first (funcs_checks true most before found)) (λ (g : Shape). AreTheOnly (AreNodesOf true before nodes found) g.nodes) result
+    → Tells (over_check most before protos.graph.nodes) (λ (c : Chosen). AreTheChosen before protos c.graph.nodes) result
+    → Tells (first (funcs_checks true most before found)) (λ (c : Chosen). AreTheOnly (AreNodesOf true before nodes found) c.graph.nodes) result
 chosen_told most before nodes found protos result is h =
-    chosen_step most before nodes found protos Shape (λ (g : Shape). g.nodes) result is h
+    chosen_step most before nodes found protos Chosen (λ (c : Chosen). c.graph.nodes) result is h
 
 -- functions after the graph of files
 module _ (limits : Limits) (inputs : Inputs) (units : List FileUnit) (before : Option Before) (nodes : List CType)

@@ -16,13 +16,14 @@ ghost use Rattle.pahole_run.specs.Layers.{of_funcs, seen_as};
 ghost use Rattle.pahole_run.specs.Refusals.{first, funcs_checks, over_check};
 ghost use Rattle.pahole_run.specs.Steps.{Tells, IsOwn};
 ghost use Rattle.pahole_run.specs.Tables.{AreNodesOf, AreTheOnly};
+ghost use Rattle.split_base.specs.Merged.{IsPartedBy};
 
 use crate::context::Context;
 use crate::faults::{ended_of_funcs, ended_of_table};
 use crate::merging::Sources;
 use crate::refusal::Ended;
 use btf_codec::Table;
-use func_merge::choose_over;
+use func_merge::{Chosen, choose_over};
 use func_types::{Protos, prototypes_packed};
 use packed_graph::PackedGraph;
 use std::thread::Threads;
@@ -43,6 +44,7 @@ pub fn add_functions<'a, R: Threads + Sync, G>(
     requires alone { sources.graph.base ≡ 0 }
     requires well { All IsWellFormed sources.graph.nodes }
     requires fitting { HasFittingForwards sources.graph }
+    requires parted { IfSome sources.classes (λ p. IsPartedBy sources.graph p) }
     ensures told { Tells (first (funcs_checks funcs context.now.limits.nodes (option_map before_of sources.entry.base)
         (prototypes_of_units context.now.limits.nodes sources.entry.units.items sources.entry.graph.nodes)))
         (λ s. AreTheOnly (AreNodesOf funcs (option_map before_of sources.entry.base) sources.entry.graph.nodes
@@ -53,23 +55,39 @@ pub fn add_functions<'a, R: Threads + Sync, G>(
     ensures alone { IfOk result (λ s. s.graph.base ≡ 0) }
     ensures well { IfOk result (λ s. All IsWellFormed s.graph.nodes) }
     ensures fitting { IfOk result (λ s. HasFittingForwards s.graph) }
+    ensures parted { IfOk result (λ s. IfSome s.classes (λ p. IsPartedBy s.graph p)) }
     ensures own { IsOwn result }
 {
     if !funcs {
         return Ok(sources);
     }
-    let Sources { units, base, graph } = sources;
-    let graph = with_functions(context, base.as_ref(), units.as_slice(), graph)?;
-    Ok(Sources { units, base, graph })
+    let Sources {
+        units,
+        base,
+        graph,
+        ..
+    } = sources;
+    let Chosen { graph, classes } = with_functions(
+        context,
+        base.as_ref(),
+        units.as_slice(),
+        graph,
+    )?;
+    Ok(Sources {
+        units,
+        base,
+        graph,
+        classes,
+    })
 }
 
-/// The graph of the chosen functions, over the base, where there is one.
+/// The graph of the chosen functions, over the base, where there is one, and its classes where they are known.
 fn with_functions<'a, R: Threads + Sync, G>(
     context: &Context<'_, R, G>,
     base: Option<&Table<'a>>,
     units: &[UnitAt<'a>],
     graph: PackedGraph<'a>,
-) -> Result<PackedGraph<'a>, Ended>
+) -> Result<Chosen<'a>, Ended>
     requires jobs { 1 ≤ context.now.jobs }
     requires few { length units.now < 2 ^ 32 }
     requires readable { All IsReadable units.now }
@@ -81,11 +99,12 @@ fn with_functions<'a, R: Threads + Sync, G>(
     requires fitting { HasFittingForwards graph }
     ensures told { Tells (first (funcs_checks true context.now.limits.nodes
         (option_map (λ b. before_of b.now) base.entry) (prototypes_of_units context.now.limits.nodes units.now graph.entry.nodes)))
-        (λ g. AreTheOnly (AreNodesOf true (option_map (λ b. before_of b.now) base.entry) graph.entry.nodes
-        (prototypes_of_units context.now.limits.nodes units.now graph.entry.nodes)) g.nodes) result }
-    ensures alone { IfOk result (λ g. g.base ≡ 0) }
-    ensures well { IfOk result (λ g. All IsWellFormed g.nodes) }
-    ensures fitting { IfOk result (λ g. HasFittingForwards g) }
+        (λ c. AreTheOnly (AreNodesOf true (option_map (λ b. before_of b.now) base.entry) graph.entry.nodes
+        (prototypes_of_units context.now.limits.nodes units.now graph.entry.nodes)) c.graph.nodes) result }
+    ensures alone { IfOk result (λ c. c.graph.base ≡ 0) }
+    ensures well { IfOk result (λ c. All IsWellFormed c.graph.nodes) }
+    ensures fitting { IfOk result (λ c. HasFittingForwards c.graph) }
+    ensures parted { IfOk result (λ c. IfSome c.classes (λ p. IsPartedBy c.graph p)) }
     ensures own { IsOwn result }
 {
     let protos = read_prototypes(context, units, graph)?;
@@ -137,7 +156,7 @@ fn choose<'a, R: Threads + Sync, G>(
     context: &Context<'_, R, G>,
     base: Option<&Table<'a>>,
     protos: Protos<'a, PackedGraph<'a>>,
-) -> Result<PackedGraph<'a>, Ended>
+) -> Result<Chosen<'a>, Ended>
     requires base { IfSome base (λ b. CanBeBase b.now) }
     requires alone { protos.graph.base ≡ 0 }
     requires plain { protos.plain ≤ length protos.graph.nodes }
@@ -149,15 +168,16 @@ fn choose<'a, R: Threads + Sync, G>(
     requires names { All (λ f. HasNoNul f.name) protos.funcs }
     ensures told { Tells (over_check context.now.limits.nodes (option_map (λ b. before_of b.now) base.entry)
         protos.entry.graph.nodes)
-        (λ g. AreTheChosen (option_map (λ b. before_of b.now) base.entry) protos.entry g.nodes) result }
-    ensures alone { IfOk result (λ g. g.base ≡ 0) }
-    ensures well { IfOk result (λ g. All IsWellFormed g.nodes) }
-    ensures fitting { IfOk result (λ g. HasFittingForwards g) }
+        (λ c. AreTheChosen (option_map (λ b. before_of b.now) base.entry) protos.entry c.graph.nodes) result }
+    ensures alone { IfOk result (λ c. c.graph.base ≡ 0) }
+    ensures well { IfOk result (λ c. All IsWellFormed c.graph.nodes) }
+    ensures fitting { IfOk result (λ c. HasFittingForwards c.graph) }
+    ensures parted { IfOk result (λ c. IfSome c.classes (λ p. IsPartedBy c.graph p)) }
     ensures own { IsOwn result }
 {
     let most = context.limits.nodes;
     match choose_over(context.rt, context.alloc, base, most, protos) {
-        Ok(graph) => Ok(graph),
+        Ok(chosen) => Ok(chosen),
         Err(fault) => Err(ended_of_table(fault)),
     }
 }

@@ -4,6 +4,7 @@ use Rattle.std.specs.Option.{option_map}
 use Rattle.btf_codec.specs.Gives.{before_of}
 use Rattle.btf_codec.specs.declared.table.Table.{Table}
 use Rattle.c_model.specs.Graph.{Shape}
+use Rattle.func_merge.specs.declared.choose.Chosen.{Chosen}
 use Rattle.func_types.specs.Prototypes.{prototypes_of_units}
 use Rattle.func_types.specs.declared.protos.Protos.{Protos}
 use Rattle.pahole_run.specs.Tables.{AreNodesOf, AreTheOnly}
@@ -16,9 +17,9 @@ returns-in_err-protos-clause-told g c =
     let before = option_map (λ (b : Bor Table). before_of b.now) c.args.base in
     let found = prototypes_of_units c.args.context.now.limits.nodes c.args.units.now c.args.graph.nodes in
     rw gone
-    (unread_told c.args.context.now.limits.nodes before c.args.graph.nodes found (Protos Shape) Shape
+    (unread_told c.args.context.now.limits.nodes before c.args.graph.nodes found (Protos Shape) Chosen
     (λ (p : Protos Shape). found ≡ Ok p)
-    (λ (x : Shape). AreTheOnly (AreNodesOf true before c.args.graph.nodes found) x.nodes) c.in_err-protos.field-0.0
+    (λ (x : Chosen). AreTheOnly (AreNodesOf true before c.args.graph.nodes found) x.graph.nodes) c.in_err-protos.field-0.0
     c.in_err-protos.ensures.told)
 
 pub returns-clause-told : goal.returns-clause-told
