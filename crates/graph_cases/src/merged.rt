@@ -1,5 +1,6 @@
 //! The partition that the proved program finds.
-ghost use Rattle.std.specs.Prelude.{◌≡◌, ◌<◌, ◌++◌, take, IfOk};
+ghost use Rattle.std.specs.Prelude.{◌≡◌, ◌<◌, ◌≤◌, ◌+◌, ◌*◌, ◌^◌, ◌++◌, ℕ, length, take, IfOk, OnOk};
+ghost use Rattle.c_model.specs.Graph.{references};
 ghost use Rattle.c_model.specs.Partition.{IsCoarsest};
 ghost use Rattle.c_model.specs.Forwards.{IsIndexOf, HasFittingForwards};
 
@@ -67,7 +68,8 @@ fn joined<'a>(alone: Graph<'a>, own: Vec<CType<'a>>) -> Result<Graph<'a>, Fault>
 /// How many nodes a graph has at most whose classes are compared pair by pair.
 const COMPARED_AT_MOST: u32 = 4_096;
 
-/// Whether classes by halves are the same, of the graph and of the graph packed.
+/// Whether classes by halves are the same over the graph packed, both split from labels on and behind a guess. Where
+/// a graph has fewer than 2^d nodes, each of the two takes at most 2 d steps for each reference.
 fn others_agree<L: Ledger>(
     alloc: Global,
     graph: &Graph<'_>,
@@ -77,12 +79,13 @@ fn others_agree<L: Ledger>(
 ) -> Result<bool, AllocError>
     requires index { IsIndexOf graph.now forwards.now }
     requires fitting { HasFittingForwards graph.now }
+    ensures cost { OnOk result ((d : ℕ) → length graph.now.nodes < 2 ^ d → steps.new ≤ steps.old + 2 * (2 * (references graph.now.nodes * d))) }
 {
     if graph.len() > COMPARED_AT_MOST {
         return Ok(true);
     }
-    let split = split_by_halves(alloc, graph, forwards, steps)?;
     let kept_once = packed(alloc, graph)?;
+    let split = split_by_halves(alloc, &kept_once, forwards, steps)?;
     let halves = classes_by_halves(alloc, &kept_once, forwards, steps)?;
     Ok(
         is_one_relation(split.numbers(), wanted.numbers())
