@@ -2,7 +2,8 @@
 # unseen.sh [NAME..]: applies each edit of tools/unseen (or those named) to a copy of the repository, and proves the edited crate. Each
 # is a wrong program, or an equal one, that docs/AUDIT.md says no clause refuses. An edit has the form of a must-fail edit, behind a line
 # `crate: NAME`; it may change several files, each behind a line `file: PATH` of its own, and a line `and: TEXT` adds one
-# behind the new one. What its proof needs besides lies in a folder of the edit's name, and is put beside the crate's.
+# behind the new one. What its proof needs besides lies in a folder of the edit's name, each file with `.txt` behind its name, and is put beside
+# the crate's.
 # `passed` is what is proved. No check runs this, for each edit costs a check of its crate: `make unseen`.
 set -u
 export LC_ALL=C.UTF-8
@@ -49,7 +50,10 @@ for name in "${edits[@]}"; do
   edit=$root/tools/unseen/$name.edit
   crate=$(sed -n 's/^crate: //p' "$edit")
   folder=$scratch/copy/crates/$crate
-  if [ -d "$root/tools/unseen/$name" ]; then cp -r "$root/tools/unseen/$name/." "$folder"; fi
+  if [ -d "$root/tools/unseen/$name" ]; then
+    cp -r "$root/tools/unseen/$name/." "$folder"
+    find "$folder/proofs" -name '*.txt' -exec sh -c 'mv "$1" "${1%.txt}"' _ {} \;
+  fi
   if ! why=$(apply "$edit" "$folder" 2>&1); then
     echo "failed $name: $why"
     failed=1
