@@ -9,33 +9,39 @@ import sys
 import tempfile
 
 FREQUENCY = 1997
-# each phase, with the crates whose functions do it
+# each phase, with the paths of functions that do it: whole crates, or a function into which others are compiled
 PHASES = {
     "loading the file": ["world_io", "elf_sections", "elf_reloc"],
     "reading entries": ["dw_base", "dwarf_abbrev", "dwarf_forms", "entry_tree", "type_attributes", "c_types", "func_entries", "memchr"],
     "linking, each label once": ["unit_graph", "unit_encoder", "packed_graph", "func_types", "func_merge"],
-    "classes": ["forward_rule", "type_signature", "class_halves", "class_refine"],
+    "classes": ["forward_rule", "type_signature", "class_halves", "class_refine", "base_merge::merge::classes_over"],
     "the table and its bytes": ["split_base", "base_merge", "btf_strings", "btf_codec"],
 }
 LETTING_GO = "letting go"
-CRATES = {crate: phase for phase, crates in PHASES.items() for crate in crates}
+PATHS = {path: phase for phase, paths in PHASES.items() for path in paths}
+
+
+def phase_of(function):
+    """The phase of a function by the longest path that it begins with; None where it is the library's."""
+    parts = function.split("::")
+    return next((PATHS[path] for count in range(len(parts), 0, -1) if (path := "::".join(parts[:count])) in PATHS), None)
 
 
 def samples(program, words):
-    """The functions that were met, sample by sample, in the order of time, and the seconds of processor time of all."""
+    """The functions that were met, sample by sample, in the order of time."""
     with tempfile.TemporaryDirectory() as folder:
         os.chdir(folder)
         said = subprocess.run(["perf", "record", "-q", "-e", "cpu-clock", "-F", str(FREQUENCY), "-o", "samples", program,
                                "--btf_encode_detached=out", "-j1", *words], capture_output=True, text=True, check=False)
         if said.returncode != 0:
             sys.exit(f"failed phases: {said.stderr.strip()}")
-        told = subprocess.run(["perf", "script", "-i", "samples", "-F", "time,sym"], capture_output=True, text=True, check=True)
-    return [line.split(":", 1)[1].strip() for line in told.stdout.splitlines() if ":" in line]
+        told = subprocess.run(["perf", "script", "-i", "samples", "-F", "time,ip,sym"], capture_output=True, text=True, check=True)
+    return [line.split(None, 2)[2].split("::<")[0] for line in told.stdout.splitlines() if len(line.split(None, 2)) == 3]
 
 
 def phases(functions):
     """How many samples each phase has."""
-    met = [CRATES.get(name.split("::", 1)[0].split("<", 1)[-1].split(" ")[-1]) for name in functions]
+    met = [phase_of(name) for name in functions]
     last = max((at for at, phase in enumerate(met) if phase), default=-1)
     counts, now = collections.Counter(), next(iter(PHASES))
     for at, phase in enumerate(met):
