@@ -29,11 +29,12 @@ pub fn attribute<'a>(entry: &Entry<'_, 'a>, name: u64) -> Option<Given<'a>>
     }
 }
 
-/// Whether an entry has an attribute.
+/// Whether an entry has an attribute. Its abbreviation tells, so no value is read.
+#[inline(always)]
 pub fn is_given(entry: &Entry<'_, '_>, name: u64) -> bool
     ensures { result ≡ has name (given_entry entry.now) }
 {
-    attribute(entry, name).is_some()
+    entry.has(name)
 }
 
 /// What a constant says.
