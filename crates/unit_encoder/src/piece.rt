@@ -2,7 +2,7 @@
 //!
 //! Almost all references of a unit stay in it, so a unit is linked right after it is read, and what it refers to is
 //! kept of those nodes alone that refer elsewhere.
-ghost use Rattle.std.specs.Prelude.{◌≡◌, ◌<◌, ◌+◌, ◌-◌, ◌^◌, ◌++◌, ◌∷◌, [], ℕ, List, Some, Ok, All, IsTrue, length, map, OnOk, IfOk, IfSome};
+ghost use Rattle.std.specs.Prelude.{◌≡◌, ◌<◌, ◌+◌, ◌-◌, ◌^◌, ◌++◌, ◌∷◌, [], ℕ, List, Some, Ok, All, IsTrue, true, length, map, OnOk, IfOk, IfSome};
 ghost use Rattle.c_model.specs.Graph.{IsBelow};
 ghost use Rattle.packed_graph.specs.Packed.{moved};
 ghost use Rattle.unit_graph.specs.Sources.{Source, index_label, source_of, made_sources, index_sources, sources_of};
@@ -113,26 +113,27 @@ fn link_within(unit: &UnitNodes, offsets: &[u64], target: &Target) -> Option<Ref
     }
 }
 
-/// The references of a unit's type, where all are to types of the unit.
+/// Whether all targets of a unit's type are types of the unit. Its references are then in the list that is lent.
 fn link_targets_within(
-    alloc: Global,
     unit: &UnitNodes,
     offsets: &[u64],
     targets: &[Target],
-) -> Result<Option<Vec<Ref>>, AllocError>
+    refs: &mut Vec<Ref>,
+) -> Result<bool, AllocError>
     requires entries { unit.now.first + length offsets.now < 2 ^ 32 - 1 }
     requires index { unit.now.index < 2 ^ 32 - 1 }
-    ensures linked { (all : List Source) (n : ℕ) → Finds all n unit.now offsets.now → IfOk result (λ o. IfSome o (λ v. refs_from all unit.now.file (n + unit.now.index) [] targets.now ≡ Ok (map (moved n) v.items))) }
-    ensures small { IfOk result (λ o. IfSome o (λ v. All (IsBelow (2 ^ 32 - 1)) v.items)) }
+    ensures linked { (all : List Source) (n : ℕ) → Finds all n unit.now offsets.now → result ≡ Ok true → refs_from all unit.now.file (n + unit.now.index) [] targets.now ≡ Ok (map (moved n) refs.new.items) }
+    ensures small { result ≡ Ok true → All (IsBelow (2 ^ 32 - 1)) refs.new.items }
 {
-    let mut refs = Vec::with_capacity(alloc, targets.len())?;
+    refs.clear();
+    refs.reserve(targets.len())?;
     for i in 0..targets.len() {
         match link_within(unit, offsets, &targets[i]) {
             Some(found) => refs.push(found)?,
-            None => return Ok(None),
+            None => return Ok(false),
         }
     }
-    Ok(Some(refs))
+    Ok(true)
 }
 
 /// The type of the indices of arrays.
@@ -155,13 +156,14 @@ impl<'a> Piece<'a> {
     ghost use Rattle.unit_graph.specs.Numbers.{PlacesRise};
     ghost use Rattle.unit_encoder.specs.Held.{Stands, Finds, Holds};
 
-    /// Puts the node of a unit's type behind the others. The unit's types begin at these offsets.
+    /// Puts the node of a unit's type behind the others. The unit's types begin at these offsets. `refs` is lent
+    /// for its references.
     fn push_type(
         &mut self,
-        alloc: Global,
         unit: &UnitNodes,
         offsets: &[u64],
         one: SourceType<'a>,
+        refs: &mut Vec<Ref>,
     ) -> Result<(), AllocError>
         requires entries { unit.now.first + length offsets.now < 2 ^ 32 - 1 }
         requires index { unit.now.index < 2 ^ 32 - 1 }
@@ -177,18 +179,17 @@ impl<'a> Piece<'a> {
             number: node,
             at,
         })?;
-        match link_targets_within(alloc, unit, offsets, targets.items())? {
-            Some(refs) => self.nodes.push(label, refs.as_slice())?,
-            None => {
-                self.unlinked.push(Unlinked {
-                    node,
-                    file,
-                    index: u64::from(unit.index),
-                    targets,
-                })?;
-                self.nodes.push(label, &[])?;
-            }
+        if link_targets_within(unit, offsets, targets.items(), refs)? {
+            self.nodes.push(label, refs.as_slice())?;
+            return Ok(());
         }
+        self.unlinked.push(Unlinked {
+            node,
+            file,
+            index: u64::from(unit.index),
+            targets,
+        })?;
+        self.nodes.push(label, &[])?;
         Ok(())
     }
 
@@ -204,8 +205,9 @@ impl<'a> Piece<'a> {
         requires index { unit.now.index < 2 ^ 32 - 1 }
         ensures { OnOk result ((given nodes : ℕ → List Source) → ((all : List Source) (n : ℕ) → Stands all n (given n) → (IsTrue unit.now.local → PlacesRise all) → Finds all n unit.now offsets.now) → Holds unit.now.local given nodes self.old → Holds unit.now.local given (λ n. nodes n ++ made_sources unit.now.file (n + unit.now.index) types.entry.items) self.new) }
     {
+        let mut refs = Vec::new(alloc);
         for one in types {
-            self.push_type(alloc, unit, offsets, one)?;
+            self.push_type(unit, offsets, one, &mut refs)?;
         }
         Ok(())
     }

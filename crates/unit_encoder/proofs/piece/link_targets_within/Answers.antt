@@ -18,6 +18,6 @@ loop-i-preserved c =
     )
 
 pub returns-clause-linked : goal.returns-clause-linked
-returns-clause-linked c all n finds =
+returns-clause-linked c all n finds e =
     let u = c.args.unit.now in
     sym (refs_end all u.file (n + u.index) c.args.targets.now c.loop-i.i (map (moved n) c.loop-i.refs.items) _ c.loop-i-test.false (c.loop-i.invariant.0 all n finds))
