@@ -11,6 +11,7 @@ ghost use Rattle.unit_graph.specs.Numbers.{PlacesRise};
 ghost use Rattle.unit_encoder.specs.Held.{Stands, Finds, Holds};
 ghost use Rattle.type_attributes.specs.declared.source.SourceType.{SourceType};
 
+use crate::starts::Starts;
 use c_model::{Label, Parts, Ref};
 use c_types::{SourceType, Target, Targets, UnitTypes};
 use dw_base::Name;
@@ -73,28 +74,27 @@ pub(crate) fn no_units<'a>(alloc: Global) -> Result<Piece<'a>, AllocError>
     })
 }
 
-/// The number of the type of a unit whose entry begins at an offset. The unit's types begin at these offsets.
-fn find_entry(unit: &UnitNodes, offsets: &[u64], to: u128) -> Option<u32>
-    requires { unit.now.first + length offsets.now < 2 ^ 32 - 1 }
-    ensures found { (all : List Source) (n : ℕ) → Finds all n unit.now offsets.now → IfSome result (λ x. number_of all unit.now.file to ≡ Some (n + x)) }
+/// The number of the type of a unit whose entry begins at an offset. The unit's types begin at `starts`.
+fn find_entry(unit: &UnitNodes, starts: &Starts, to: u128) -> Option<u32>
+    requires { unit.now.first + length starts.now < 2 ^ 32 - 1 }
+    ensures found { (all : List Source) (n : ℕ) → Finds all n unit.now starts.now → IfSome result (λ x. number_of all unit.now.file to ≡ Some (n + x)) }
     ensures small { IfSome result (λ x. x < 2 ^ 32 - 1) }
 {
-    if !unit.local || to > u128::from(u64::MAX) {
+    if !unit.local {
         return None;
     }
-    let k = offsets.partition_point(|at| u128::from(*at) < to);
-    if k < offsets.len() && u128::from(offsets[k]) == to {
-        Some(unit.first + k as u32)
-    } else {
-        None
-    }
+    let Ok(to) = u64::try_from(to) else {
+        return None;
+    };
+    let k = starts.find(to)?;
+    Some(unit.first + k)
 }
 
 /// What a target of a unit's type refers to, where that is a type of the unit.
-fn link_within(unit: &UnitNodes, offsets: &[u64], target: &Target) -> Option<Ref>
-    requires entries { unit.now.first + length offsets.now < 2 ^ 32 - 1 }
+fn link_within(unit: &UnitNodes, starts: &Starts, target: &Target) -> Option<Ref>
+    requires entries { unit.now.first + length starts.now < 2 ^ 32 - 1 }
     requires index { unit.now.index < 2 ^ 32 - 1 }
-    ensures linked { (all : List Source) (n : ℕ) → Finds all n unit.now offsets.now → IfSome result (λ r. ref_of all unit.now.file (n + unit.now.index) target.now ≡ Ok (moved n r)) }
+    ensures linked { (all : List Source) (n : ℕ) → Finds all n unit.now starts.now → IfSome result (λ r. ref_of all unit.now.file (n + unit.now.index) target.now ≡ Ok (moved n r)) }
     ensures small { IfSome result (λ r. IsBelow (2 ^ 32 - 1) r) }
 {
     match *target {
@@ -106,7 +106,7 @@ fn link_within(unit: &UnitNodes, offsets: &[u64], target: &Target) -> Option<Ref
                 None
             }
         }
-        Target::Entry { from: _, to } => match find_entry(unit, offsets, to) {
+        Target::Entry { from: _, to } => match find_entry(unit, starts, to) {
             Some(x) => Some(Ref::Node(x)),
             None => None,
         },
@@ -116,19 +116,19 @@ fn link_within(unit: &UnitNodes, offsets: &[u64], target: &Target) -> Option<Ref
 /// Whether all targets of a unit's type are types of the unit. Its references are then in the list that is lent.
 fn link_targets_within(
     unit: &UnitNodes,
-    offsets: &[u64],
+    starts: &Starts,
     targets: &[Target],
     refs: &mut Vec<Ref>,
 ) -> Result<bool, AllocError>
-    requires entries { unit.now.first + length offsets.now < 2 ^ 32 - 1 }
+    requires entries { unit.now.first + length starts.now < 2 ^ 32 - 1 }
     requires index { unit.now.index < 2 ^ 32 - 1 }
-    ensures linked { (all : List Source) (n : ℕ) → Finds all n unit.now offsets.now → result ≡ Ok true → refs_from all unit.now.file (n + unit.now.index) [] targets.now ≡ Ok (map (moved n) refs.new.items) }
+    ensures linked { (all : List Source) (n : ℕ) → Finds all n unit.now starts.now → result ≡ Ok true → refs_from all unit.now.file (n + unit.now.index) [] targets.now ≡ Ok (map (moved n) refs.new.items) }
     ensures small { result ≡ Ok true → All (IsBelow (2 ^ 32 - 1)) refs.new.items }
 {
     refs.clear();
     refs.reserve(targets.len())?;
     for i in 0..targets.len() {
-        match link_within(unit, offsets, &targets[i]) {
+        match link_within(unit, starts, &targets[i]) {
             Some(found) => refs.push(found)?,
             None => return Ok(false),
         }
@@ -156,18 +156,18 @@ impl<'a> Piece<'a> {
     ghost use Rattle.unit_graph.specs.Numbers.{PlacesRise};
     ghost use Rattle.unit_encoder.specs.Held.{Stands, Finds, Holds};
 
-    /// Puts the node of a unit's type behind the others. The unit's types begin at these offsets. `refs` is lent
+    /// Puts the node of a unit's type behind the others. The unit's types begin at `starts`. `refs` is lent
     /// for its references.
     fn push_type(
         &mut self,
         unit: &UnitNodes,
-        offsets: &[u64],
+        starts: &Starts,
         one: SourceType<'a>,
         refs: &mut Vec<Ref>,
     ) -> Result<(), AllocError>
-        requires entries { unit.now.first + length offsets.now < 2 ^ 32 - 1 }
+        requires entries { unit.now.first + length starts.now < 2 ^ 32 - 1 }
         requires index { unit.now.index < 2 ^ 32 - 1 }
-        ensures { OnOk result ((given nodes : ℕ → List Source) → ((all : List Source) (n : ℕ) → Stands all n (given n) → (IsTrue unit.now.local → PlacesRise all) → Finds all n unit.now offsets.now) → Holds unit.now.local given nodes self.old → Holds unit.now.local given (λ n. nodes n ++ source_of unit.now.file (n + unit.now.index) one.entry ∷ []) self.new) }
+        ensures { OnOk result ((given nodes : ℕ → List Source) → ((all : List Source) (n : ℕ) → Stands all n (given n) → (IsTrue unit.now.local → PlacesRise all) → Finds all n unit.now starts.now) → Holds unit.now.local given nodes self.old → Holds unit.now.local given (λ n. nodes n ++ source_of unit.now.file (n + unit.now.index) one.entry ∷ []) self.new) }
     {
         let Ok(node) = u32::try_from(self.nodes.len()) else {
             return Err(AllocError);
@@ -179,7 +179,7 @@ impl<'a> Piece<'a> {
             number: node,
             at,
         })?;
-        if link_targets_within(unit, offsets, targets.items(), refs)? {
+        if link_targets_within(unit, starts, targets.items(), refs)? {
             self.nodes.push(label, refs.as_slice())?;
             return Ok(());
         }
@@ -198,16 +198,16 @@ impl<'a> Piece<'a> {
         &mut self,
         alloc: Global,
         unit: &UnitNodes,
-        offsets: &[u64],
+        starts: &Starts,
         types: Vec<SourceType<'a>>,
     ) -> Result<(), AllocError>
-        requires entries { unit.now.first + length offsets.now < 2 ^ 32 - 1 }
+        requires entries { unit.now.first + length starts.now < 2 ^ 32 - 1 }
         requires index { unit.now.index < 2 ^ 32 - 1 }
-        ensures { OnOk result ((given nodes : ℕ → List Source) → ((all : List Source) (n : ℕ) → Stands all n (given n) → (IsTrue unit.now.local → PlacesRise all) → Finds all n unit.now offsets.now) → Holds unit.now.local given nodes self.old → Holds unit.now.local given (λ n. nodes n ++ made_sources unit.now.file (n + unit.now.index) types.entry.items) self.new) }
+        ensures { OnOk result ((given nodes : ℕ → List Source) → ((all : List Source) (n : ℕ) → Stands all n (given n) → (IsTrue unit.now.local → PlacesRise all) → Finds all n unit.now starts.now) → Holds unit.now.local given nodes self.old → Holds unit.now.local given (λ n. nodes n ++ made_sources unit.now.file (n + unit.now.index) types.entry.items) self.new) }
     {
         let mut refs = Vec::new(alloc);
         for one in types {
-            self.push_type(unit, offsets, one, &mut refs)?;
+            self.push_type(unit, starts, one, &mut refs)?;
         }
         Ok(())
     }
@@ -254,20 +254,9 @@ impl<'a> Piece<'a> {
             has_array,
             local,
         };
-        let offsets = offsets_of(alloc, types.as_slice())?;
-        self.push_types(alloc, &unit, offsets.as_slice(), types)?;
+        let starts = Starts::new(alloc, types.as_slice())?;
+        self.push_types(alloc, &unit, &starts, types)?;
         self.push_index(alloc, &unit)?;
         Ok(())
     }
-}
-
-/// The offsets at which types begin.
-fn offsets_of(alloc: Global, types: &[SourceType<'_>]) -> Result<Vec<u64>, AllocError>
-    ensures { IfOk result (λ v. v.items ≡ map (λ (t : SourceType). t.at) types.now) }
-{
-    let mut offsets = Vec::with_capacity(alloc, types.len())?;
-    for one in types {
-        offsets.push(one.at)?;
-    }
-    Ok(offsets)
 }

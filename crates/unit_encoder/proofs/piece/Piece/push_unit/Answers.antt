@@ -28,5 +28,5 @@ returns c nodes h =
     (c.in_ok-push_index.ensures w (λ n. nodes n ++ made_sources u.file (n + u.index) t.types)
     (subst (λ (ts : List SourceType). Holds u.local w (λ n. nodes n ++ made_sources u.file (n + u.index) ts) c.push_types.new.self) c.into_items-types.ensures
     (c.in_ok-push_types.ensures w nodes
-    (λ all n stands rise. unit_finds c.args.local nodes p h t u refl first index refl all n stands rise c.as_slice-2.result.now (c.as_slice-2.ensures.value ∙ c.in_ok-offsets.ensures ∙ ap (map (λ (s : SourceType). s.at)) (c.as_slice.ensures.value ∙ c.into_items-types.ensures)))
+    (λ all n stands rise. unit_finds c.args.local nodes p h t u refl first index refl all n stands rise c.in_ok-starts.starts (c.in_ok-starts.ensures ∙ ap (map (λ (s : SourceType). s.at)) (c.as_slice.ensures.value ∙ c.into_items-types.ensures)))
     (holds-wider c.args.local nodes w nodes p (λ all n. stands-left all n (nodes n) (sources_of u.file (n + length p.nodes) t)) h))))
