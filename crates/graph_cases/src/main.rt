@@ -7,6 +7,7 @@ mod fault;
 mod fitting;
 mod made;
 mod merged;
+mod packed;
 mod plain;
 mod rows;
 mod shapes;
@@ -17,6 +18,7 @@ mod worked;
 use anyhow::Error;
 use compared::{Tally, class_count, decided, is_one_relation};
 use made::{Draws, made_table};
+use packed::{labels_are_told, lists_follow};
 use shapes::{SHAPES, shaped};
 use sizes::{
     all_differ, empty_rounds, ints_of_sizes, long_name_table, ring_has_two_classes, table_len,
@@ -37,7 +39,8 @@ fn main(rt: HostRuntime) -> ExitCode {
         .and_then(|first| Ok(shapes_agree(&rt, alloc)? && first))
         .and_then(|first| Ok(joins_hold(&rt, alloc)? && first))
         .and_then(|first| Ok(made_agree(&rt, alloc)? && first))
-        .and_then(|first| Ok(limits_hold(&rt, alloc)? && first));
+        .and_then(|first| Ok(limits_hold(&rt, alloc)? && first))
+        .and_then(|first| Ok(packed_hold(&rt, alloc)? && first));
     match all {
         Ok(true) => ExitCode::SUCCESS,
         Ok(false) => ExitCode::from(1),
@@ -196,4 +199,13 @@ fn limits_hold<R: Print + Threads + Sync>(rt: &R, alloc: Global) -> Result<bool,
             && most == Ok(2)
             && far == Err(TableFault::NamesTooLong(16_777_216)),
     )
+}
+
+/// Packed lists of types.
+fn packed_hold<R: Print>(rt: &R, alloc: Global) -> Result<bool, Error> {
+    let told = labels_are_told(alloc)?;
+    println!(rt; "labels that differ in one thing are told apart: {}", said(told))?;
+    let follow = lists_follow(alloc)?;
+    println!(rt; "packed lists follow one another: {}", said(follow))?;
+    Ok(told && follow)
 }

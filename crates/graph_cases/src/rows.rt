@@ -79,7 +79,7 @@ pub fn parted(kind: u8, name: &'static [u8], size: u32, pieces: &'static [Piece]
 }
 
 /// The label of a row.
-fn label_of(alloc: Global, head: &Head) -> Result<Label<'static>, AllocError> {
+pub fn label_of(alloc: Global, head: &Head) -> Result<Label<'static>, AllocError> {
     let mut parts = Vec::new(alloc);
     for piece in head.pieces {
         parts.push(Part {
