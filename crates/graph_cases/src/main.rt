@@ -18,7 +18,7 @@ mod worked;
 use anyhow::Error;
 use compared::{Tally, class_count, decided, is_one_relation};
 use made::{Draws, made_table};
-use packed::{labels_are_told, lists_follow};
+use packed::labels_are_told;
 use shapes::{SHAPES, shaped};
 use sizes::{
     all_differ, empty_rounds, ints_of_sizes, long_name_table, ring_has_two_classes, table_len,
@@ -205,7 +205,5 @@ fn limits_hold<R: Print + Threads + Sync>(rt: &R, alloc: Global) -> Result<bool,
 fn packed_hold<R: Print>(rt: &R, alloc: Global) -> Result<bool, Error> {
     let told = labels_are_told(alloc)?;
     println!(rt; "labels that differ in one thing are told apart: {}", said(told))?;
-    let follow = lists_follow(alloc)?;
-    println!(rt; "packed lists follow one another: {}", said(follow))?;
-    Ok(told && follow)
+    Ok(told)
 }

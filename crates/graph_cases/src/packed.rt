@@ -1,6 +1,5 @@
-//! Packed lists of types: labels that differ in one thing alone, and lists that follow one another.
-use crate::rows::{Head, Piece, STRUCT, UNION, bare, label_of};
-use c_model::Ref;
+//! Packed lists of types, whose labels differ in one thing alone.
+use crate::rows::{Head, Piece, STRUCT, UNION, label_of};
 use packed_graph::PackedNodes;
 use std::alloc::{AllocError, Global};
 
@@ -98,52 +97,4 @@ pub fn labels_are_told(alloc: Global) -> Result<bool, AllocError> {
         }
     }
     Ok(true)
-}
-
-/// Three types: the first refers to the last, the last to the first, and the one between to nothing.
-fn three(alloc: Global) -> Result<PackedNodes<'static>, AllocError> {
-    let head = bare(STRUCT, b"s", 8);
-    let mut nodes = PackedNodes::new(alloc)?;
-    nodes.push(label_of(alloc, &head)?, &[Ref::Node(2)])?;
-    nodes.push(label_of(alloc, &head)?, &[])?;
-    nodes.push(label_of(alloc, &head)?, &[Ref::Node(0)])?;
-    Ok(nodes)
-}
-
-/// The first type that each type refers to; none where it refers to none.
-fn first_targets(alloc: Global, nodes: &PackedNodes<'_>) -> Result<Vec<Option<Ref>>, AllocError> {
-    let mut targets = Vec::new(alloc);
-    for x in 0..nodes.len() {
-        let x = x as u32;
-        let target = if nodes.target_count(x) > 0 {
-            Some(nodes.target(x, 0))
-        } else {
-            None
-        };
-        targets.push(target)?;
-    }
-    Ok(targets)
-}
-
-/// Whether lists follow one another, an empty one before, behind and beside another empty one, with references to the
-/// first and the last type of each.
-pub fn lists_follow(alloc: Global) -> Result<bool, AllocError> {
-    let once = [Some(Ref::Node(2)), None, Some(Ref::Node(0))];
-    let twice = [
-        Some(Ref::Node(2)),
-        None,
-        Some(Ref::Node(0)),
-        Some(Ref::Node(5)),
-        None,
-        Some(Ref::Node(3)),
-    ];
-    let none = PackedNodes::new(alloc)?;
-    let before = PackedNodes::new(alloc)?.followed_by(alloc, &three(alloc)?)?;
-    let behind = three(alloc)?.followed_by(alloc, &none)?;
-    let empty = PackedNodes::new(alloc)?.followed_by(alloc, &none)?;
-    let both = three(alloc)?.followed_by(alloc, &three(alloc)?)?;
-    Ok(first_targets(alloc, &before)?.as_slice() == once.as_slice()
-        && first_targets(alloc, &behind)?.as_slice() == once.as_slice()
-        && first_targets(alloc, &empty)?.is_empty()
-        && first_targets(alloc, &both)?.as_slice() == twice.as_slice())
 }
