@@ -204,6 +204,9 @@ fn limits_hold<R: Print + Threads + Sync>(rt: &R, alloc: Global) -> Result<bool,
 /// Packed lists of types.
 fn packed_hold<R: Print>(rt: &R, alloc: Global) -> Result<bool, Error> {
     let told = labels_are_told(alloc)?;
-    println!(rt; "labels that differ in one thing are told apart: {}", said(told))?;
+    println!(rt;
+        "labels that differ in one thing are told apart: {}",
+        said(told)
+    )?;
     Ok(told)
 }
