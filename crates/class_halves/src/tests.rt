@@ -13,6 +13,7 @@ use std::alloc::{AllocError, Global};
 use std::marker::Brand;
 use std::sync::ledger::{Blank, Ledger};
 use std::test::Fail;
+use std::thread::Threads;
 
 /// Appends a structure of two members, which are void or of the first four nodes.
 fn push_structure<'n>(
@@ -66,7 +67,8 @@ fn declares_nothing(graph: &Graph<'_>) -> bool
 }
 
 /// The classes of a graph, split from labels on, and behind a guess.
-fn both_ways<L: Ledger>(
+fn both_ways<R: Threads + Sync, L: Ledger>(
+    rt: &R,
     alloc: Global,
     graph: &Graph<'_>,
     blank: Blank,
@@ -81,14 +83,14 @@ fn both_ways<L: Ledger>(
     }
     let fwd = FwdIndex::plain(graph);
     let split = split_by_halves(alloc, graph, &fwd, &mut steps)?;
-    let guessed = classes_by_halves(alloc, graph, &fwd, &mut steps)?;
+    let guessed = classes_by_halves(rt, alloc, 2, graph, &fwd, &mut steps)?;
     Ok((split, guessed))
 }
 
 #[test]
 fn four_nodes_have_three_classes(rt: HostRuntime) -> Result<(), Fail> {
     let graph = four_nodes(rt.alloc())?;
-    let (split, guessed) = both_ways::<Brand>(rt.alloc(), &graph, Blank::new(1))?;
+    let (split, guessed) = both_ways::<HostRuntime, Brand>(&rt, rt.alloc(), &graph, Blank::new(1))?;
     for classes in [split, guessed] {
         let [a, b, c, d] = classes.numbers() else {
             return Err(Fail::from("other nodes"));

@@ -105,9 +105,12 @@ fn rounds_from<R: Threads + Sync, L: Ledger>(
     }
 }
 
+/// How many workers mix hashes.
+const HASHING: u32 = 1;
+
 /// The coarsest agreeing partition of a graph: each pair of one class has a licence, and every partition
 /// of which that is true relates only pairs that it relates. A guess by hashes is compared first; where it
-/// is right there are no rounds. Else rounds split its classes by the classes of their targets, until a
+/// is right there are no rounds. Hashes are mixed by one worker. Else rounds split its classes by the classes of their targets, until a
 /// round splits nothing. Keys are made by as many workers as there are processors, and numbered in node
 /// order; the counter rises by the numbers of all keys that are numbered. After want of memory it has risen
 /// by no more than as many rounds as there are nodes would make it.
@@ -131,7 +134,7 @@ pub fn classes<'a, R: Threads + Sync, G: TypeGraph<'a>, L: Ledger>(
         first,
         classes,
         is_settled,
-    } = guess_classes(alloc, graph, fwd, most)?;
+    } = guess_classes(rt, alloc, HASHING, graph, fwd, most)?;
     if is_settled {
         return Ok(Refined { classes, number: 0 });
     }

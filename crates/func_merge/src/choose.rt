@@ -34,14 +34,15 @@ pub struct Chosen<'a> {
 /// The graph of the chosen functions: a name is chosen by the classes of the graph of prototypes, which stands behind
 /// the types of a base, where there is one. The graph itself has no base nodes.
 ///
-/// Its classes are known where there is no base, nothing but prototypes stands behind the first nodes of the graph of
-/// prototypes, and those of the functions among these.
+/// Classes are found by `jobs` workers at most. Its own are known where there is no base, nothing but prototypes stands
+/// behind the first nodes of the graph of prototypes, and those of the functions among these.
 ///
 /// It is refused by `NodesTooMany` exactly where there is a base, and the base and the graph of prototypes have more
 /// than `most` nodes together.
 pub fn choose_over<'a, R: Threads + Sync>(
     rt: &R,
     alloc: Global,
+    jobs: u32,
     base: Option<&Table<'a>>,
     most: u32,
     protos: Protos<'a, PackedGraph<'a>>,
@@ -64,14 +65,19 @@ pub fn choose_over<'a, R: Threads + Sync>(
     ensures refusal { IfErr result (RefusesChoice most (option_map (λ b. before_of b.now) base.entry) protos.entry.graph.nodes) }
 {
     match base {
-        None => Ok(choose_alone::<Brand>(alloc, &protos, Blank::new(1))?),
-        Some(table) => choose_behind::<R, Brand>(rt, alloc, table, most, &protos, Blank::new(1)),
+        None => Ok(choose_alone::<R, Brand>(rt, alloc, jobs, &protos, Blank::new(1))?),
+        Some(table) => {
+            let blank = Blank::new(1);
+            choose_behind::<R, Brand>(rt, alloc, jobs, table, most, &protos, blank)
+        }
     }
 }
 
 /// The graph of the chosen functions where there is no base.
-fn choose_alone<'a, L: Ledger>(
+fn choose_alone<'a, R: Threads + Sync, L: Ledger>(
+    rt: &R,
     alloc: Global,
+    jobs: u32,
     protos: &Protos<'a, PackedGraph<'a>>,
     blank: Blank,
 ) -> Result<Chosen<'a>, AllocError>
@@ -94,7 +100,7 @@ fn choose_alone<'a, L: Ledger>(
 {
     let mut steps = Steps::<L>::new(blank);
     let none = Classes::new(Numbers::new(Vec::new(alloc)));
-    let found = classes_over(alloc, &protos.graph, &none, &mut steps)?;
+    let found = classes_over(rt, alloc, jobs, &protos.graph, &none, &mut steps)?;
     // What holds of every graph is known once this is asked for.
     let _ = protos.graph.len();
     let (graph, places) = chosen_with_places(alloc, 0, protos, &found)?;
@@ -106,6 +112,7 @@ fn choose_alone<'a, L: Ledger>(
 fn choose_behind<'a, R: Threads + Sync, L: Ledger>(
     rt: &R,
     alloc: Global,
+    jobs: u32,
     base: &Table<'a>,
     most: u32,
     protos: &Protos<'a, PackedGraph<'a>>,
@@ -134,7 +141,7 @@ fn choose_behind<'a, R: Threads + Sync, L: Ledger>(
     let mut steps = Steps::<L>::new(blank);
     let kept = base_classes(rt, alloc, base, &mut steps)?;
     let whole = with_base_packed(alloc, base, most, copy_of(alloc, &protos.graph)?)?;
-    let found = classes_over(alloc, &whole, &kept, &mut steps)?;
+    let found = classes_over(rt, alloc, jobs, &whole, &kept, &mut steps)?;
     let graph = chosen_packed(alloc, whole.base(), protos, &found)?;
     Ok(Chosen {
         graph,

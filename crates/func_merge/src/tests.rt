@@ -173,7 +173,7 @@ fn choose<'a, R: Threads + Sync>(
         plain: files.plain,
         funcs: Funcs::new(funcs),
     };
-    Ok(choose_over(rt, alloc, base, most, protos))
+    Ok(choose_over(rt, alloc, 2, base, most, protos))
 }
 
 /// Whether two nodes have one kind and the same references.

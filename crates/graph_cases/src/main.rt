@@ -21,7 +21,7 @@ use made::{Draws, made_table};
 use packed::labels_are_told;
 use shapes::{SHAPES, shaped};
 use sizes::{
-    all_differ, empty_rounds, ints_of_sizes, long_name_table, ring_has_two_classes, table_len,
+    all_differ, classes_of_fours, empty_rounds, ints_of_sizes, long_name_table, ring_has_two_classes, table_len,
 };
 use split_base::TableFault;
 use std::alloc::Global;
@@ -182,6 +182,10 @@ fn limits_hold<R: Print + Threads + Sync>(rt: &R, alloc: Global) -> Result<bool,
         "ring of 1000 pointers among equal structures, two classes: {}",
         said(ring)
     )?;
+    let fours = classes_of_fours(rt, alloc, 20_000)?;
+    println!(rt;
+        "20000 times a structure, a pointer, a declaration and an INT of its own, by 1 and 7 workers: {fours} classes"
+    )?;
     let ints = ints_of_sizes(rt, alloc, 1 << 20)?;
     let apart = all_differ(alloc, &ints)?;
     println!(rt; "1048576 sizes of INT, all differ: {}", said(apart))?;
@@ -194,6 +198,7 @@ fn limits_hold<R: Print + Threads + Sync>(rt: &R, alloc: Global) -> Result<bool,
     Ok(
         rounds == Some(0)
             && ring
+            && fours == 20_002
             && apart
             && table == Err(TableFault::TooManyTypes(1_048_576))
             && most == Ok(2)

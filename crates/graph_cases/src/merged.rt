@@ -65,12 +65,34 @@ fn joined<'a>(alone: Graph<'a>, own: Vec<CType<'a>>) -> Result<Graph<'a>, Fault>
     }
 }
 
-/// How many nodes a graph has at most whose classes are compared pair by pair.
+/// How many nodes a graph has at most whose classes are compared pair by pair. Those of larger ones are found by
+/// several numbers of workers.
 const COMPARED_AT_MOST: u32 = 4_096;
+
+/// Whether the classes of a large graph, packed, have the same numbers whatever number of workers finds them. Each of
+/// the two ways takes at most 2 d steps for each reference, where there are fewer than 2^d nodes.
+fn workers_agree<R: Threads + Sync, L: Ledger>(
+    rt: &R,
+    alloc: Global,
+    graph: &Graph<'_>,
+    forwards: &FwdIndex,
+    wanted: &Classes,
+    steps: &mut Steps<L>,
+) -> Result<bool, AllocError>
+    requires index { IsIndexOf graph.now forwards.now }
+    requires fitting { HasFittingForwards graph.now }
+    ensures cost { OnOk result ((d : ℕ) → length graph.now.nodes < 2 ^ d → steps.new ≤ steps.old + 2 * (2 * (references graph.now.nodes * d))) }
+{
+    let kept_once = packed(alloc, graph)?;
+    let alone = classes_by_halves(rt, alloc, 1, &kept_once, forwards, steps)?;
+    let together = classes_by_halves(rt, alloc, 7, &kept_once, forwards, steps)?;
+    Ok(alone.numbers() == wanted.numbers() && together.numbers() == wanted.numbers())
+}
 
 /// Whether classes by halves are the same over the graph packed, both split from labels on and behind a guess. Where
 /// a graph has fewer than 2^d nodes, each of the two takes at most 2 d steps for each reference.
-fn others_agree<L: Ledger>(
+fn others_agree<R: Threads + Sync, L: Ledger>(
+    rt: &R,
     alloc: Global,
     graph: &Graph<'_>,
     forwards: &FwdIndex,
@@ -82,11 +104,11 @@ fn others_agree<L: Ledger>(
     ensures cost { OnOk result ((d : ℕ) → length graph.now.nodes < 2 ^ d → steps.new ≤ steps.old + 2 * (2 * (references graph.now.nodes * d))) }
 {
     if graph.len() > COMPARED_AT_MOST {
-        return Ok(true);
+        return workers_agree(rt, alloc, graph, forwards, wanted, steps);
     }
     let kept_once = packed(alloc, graph)?;
     let split = split_by_halves(alloc, &kept_once, forwards, steps)?;
-    let halves = classes_by_halves(alloc, &kept_once, forwards, steps)?;
+    let halves = classes_by_halves(rt, alloc, 2, &kept_once, forwards, steps)?;
     Ok(
         is_one_relation(split.numbers(), wanted.numbers())
             && is_one_relation(halves.numbers(), wanted.numbers()),
@@ -132,7 +154,14 @@ fn merged_over<'a, R: Threads + Sync, L: Ledger>(
     }
     let forwards = FwdIndex::build(alloc, &graph, &kept)?;
     let refined = classes(rt, alloc, &graph, &forwards, &mut steps)?;
-    if !others_agree(alloc, &graph, &forwards, &refined.classes, &mut steps)? {
+    if !others_agree(
+        rt,
+        alloc,
+        &graph,
+        &forwards,
+        &refined.classes,
+        &mut steps,
+    )? {
         return Err(Fault::Differs);
     }
     Ok(Found { graph, refined })

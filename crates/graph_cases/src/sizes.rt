@@ -1,8 +1,8 @@
 //! Graphs at the limits of size.
-use crate::compared::is_one_relation;
+use crate::compared::{class_count, is_one_relation};
 use crate::fault::Fault;
 use crate::merged::{Found, merged};
-use crate::rows::{INT, PTR, Piece, Row, STRUCT, bare, parted, types_of};
+use crate::rows::{FWD, INT, PTR, Piece, Row, STRUCT, bare, parted, types_of};
 use crate::tables::built;
 use c_model::{CType, Label, Parts, Ref, Refs};
 use dw_base::Name;
@@ -48,6 +48,36 @@ pub fn ring_has_two_classes<R: Threads + Sync>(
     }
     let found = merged(rt, alloc, Vec::new(alloc), types_of(alloc, &rows)?)?;
     Ok(is_one_relation(found.refined.classes.numbers(), &want))
+}
+
+/// Four rows: a structure that refers to a pointer, the pointer to a declaration of the structure, that, and an INT
+/// of a size of its own. They begin at number `x`.
+fn push_four(alloc: Global, rows: &mut Vec<Row>, x: u32) -> Result<(), AllocError> {
+    let to = |next: u32| -> Result<Vec<Ref>, AllocError> { vec![in alloc; Ref::Node(next)] };
+    let heads = [
+        (parted(STRUCT, b"ring", 8, NEXT), to(x.saturating_add(1))?),
+        (bare(PTR, b"", 0), to(x.saturating_add(2))?),
+        (bare(FWD, b"ring", 0), Vec::new(alloc)),
+        (bare(INT, b"int", x), Vec::new(alloc)),
+    ];
+    for (head, targets) in heads {
+        rows.push(Row { head, targets })?;
+    }
+    Ok(())
+}
+
+/// How many classes so many times four such types have, which are so many that workers share them.
+pub fn classes_of_fours<R: Threads + Sync>(
+    rt: &R,
+    alloc: Global,
+    fours: u32,
+) -> Result<usize, Fault> {
+    let mut rows = Vec::new(alloc);
+    for number in 0..fours {
+        push_four(alloc, &mut rows, number.saturating_mul(4))?;
+    }
+    let found = merged(rt, alloc, Vec::new(alloc), types_of(alloc, &rows)?)?;
+    Ok(class_count(alloc, found.refined.classes.numbers())?)
 }
 
 /// An INT of a name and a size.

@@ -176,7 +176,14 @@ fn choose<'a, R: Threads + Sync, G>(
     ensures own { IsOwn result }
 {
     let most = context.limits.nodes;
-    match choose_over(context.rt, context.alloc, base, most, protos) {
+    match choose_over(
+        context.rt,
+        context.alloc,
+        context.jobs,
+        base,
+        most,
+        protos,
+    ) {
         Ok(chosen) => Ok(chosen),
         Err(fault) => Err(ended_of_table(fault)),
     }

@@ -10,7 +10,7 @@ guessed-requires b c κs =
     let placed = rw c.deref.ensures.value at c.in_ok-labelled.ensures in
     let above = IsAbove-labels s c.args.fwd.now c.requires.index c.requires.fitting raw c.in_ok-labelled.labelled c.in_ok-start.ensures.numbers placed in
     let coarse = IsCoarse-above s c.args.fwd.now c.requires.index c.requires.fitting raw c.in_ok-labelled.labelled above in
-    (search sendable depth 20, (search sendable depth 20, ((refl, tt), (c.requires.index, (c.requires.fitting, rw c.deref-2.ensures.value coarse)))))
+    (search sendable depth 20, ((refl, tt), (c.requires.index, (c.requires.fitting, rw c.deref-2.ensures.value coarse))))
 
 pub paired-requires-clause-same : goal.paired-requires-clause-same
 paired-requires-clause-same b c =
