@@ -18,7 +18,7 @@ mod worked;
 use anyhow::Error;
 use compared::{Tally, class_count, decided, is_one_relation};
 use made::{Draws, made_table};
-use packed::labels_are_told;
+use packed::{labels_are_told, lists_follow};
 use shapes::{SHAPES, shaped};
 use sizes::{
     all_differ, classes_of_fours, empty_rounds, ints_of_sizes, long_name_table, ring_has_two_classes, table_len,
@@ -213,5 +213,10 @@ fn packed_hold<R: Print>(rt: &R, alloc: Global) -> Result<bool, Error> {
         "labels that differ in one thing are told apart: {}",
         said(told)
     )?;
-    Ok(told)
+    let follow = lists_follow(alloc)?;
+    println!(rt;
+        "lists that follow one another are one, references moved: {}",
+        said(follow)
+    )?;
+    Ok(told && follow)
 }

@@ -1,5 +1,6 @@
-//! Packed lists of types, whose labels differ in one thing alone.
+//! Packed lists of types: labels that differ in one thing alone, and lists that follow one another.
 use crate::rows::{Head, Piece, STRUCT, UNION, label_of};
+use c_model::Ref;
 use packed_graph::PackedNodes;
 use std::alloc::{AllocError, Global};
 
@@ -65,8 +66,14 @@ fn head(
     }
 }
 
-/// A structure of two members, and labels that each differ from it in one thing.
-fn labels() -> [Head; 12] {
+/// A name whose second eight bytes are the multiplier of std's hash: the eight before them make no difference to it.
+const HIDDEN: &[u8] = b"the_name\x15\x7c\x4a\x7f\xb9\x79\x37\x9e_of_both";
+
+/// Another name of the same hash.
+const HIDDEN_TOO: &[u8] = b"an_other\x15\x7c\x4a\x7f\xb9\x79\x37\x9e_of_both";
+
+/// A structure of two members, and labels that each differ from one before in one thing.
+fn labels() -> [Head; 14] {
     [
         head(STRUCT, b"s", false, 8, 0, PAIR),
         head(UNION, b"s", false, 8, 0, PAIR),
@@ -80,6 +87,8 @@ fn labels() -> [Head; 12] {
         head(STRUCT, b"s", false, 8, 0, &[B, A]),
         head(STRUCT, b"s", false, 8, 0, &[A]),
         head(STRUCT, b"s", false, 8, 0, &[A, B, B]),
+        head(STRUCT, HIDDEN, false, 8, 0, PAIR),
+        head(STRUCT, HIDDEN_TOO, false, 8, 0, PAIR),
     ]
 }
 
@@ -97,4 +106,55 @@ pub fn labels_are_told(alloc: Global) -> Result<bool, AllocError> {
         }
     }
     Ok(true)
+}
+
+/// A reference to the first type of a list.
+const TO_FIRST: &[Ref] = &[Ref::Node(0)];
+
+/// A reference to the last of two types.
+const TO_LAST: &[Ref] = &[Ref::Node(1)];
+
+/// Puts two types into an empty list, the first of which refers to the last and the last to the first.
+fn push_pair(
+    alloc: Global,
+    nodes: &mut PackedNodes<'static>,
+    name: &'static [u8],
+) -> Result<(), AllocError> {
+    let head = head(STRUCT, name, false, 8, 0, &[A]);
+    nodes.push(label_of(alloc, &head)?, TO_LAST)?;
+    nodes.push(label_of(alloc, &head)?, TO_FIRST)?;
+    Ok(())
+}
+
+/// Whether each type of a list refers to one node alone, to these in order.
+fn refer_to(nodes: &PackedNodes<'_>, wanted: &[u32]) -> bool {
+    for (place, node) in wanted.iter().enumerate() {
+        let Ok(x) = u32::try_from(place) else {
+            return false;
+        };
+        if place >= nodes.len()
+            || nodes.target_count(x) != 1
+            || nodes.target(x, 0) != Ref::Node(*node)
+        {
+            return false;
+        }
+    }
+    nodes.len() == wanted.len()
+}
+
+/// Whether lists that follow one another are one list, with the references moved: lists of two types with empty ones
+/// before, between and behind them.
+pub fn lists_follow(alloc: Global) -> Result<bool, AllocError> {
+    let none = PackedNodes::new(alloc)?;
+    let mut first = PackedNodes::new(alloc)?;
+    push_pair(alloc, &mut first, b"first")?;
+    let mut second = PackedNodes::new(alloc)?;
+    push_pair(alloc, &mut second, b"second")?;
+    let all = PackedNodes::new(alloc)?
+        .followed_by(alloc, &none)?
+        .followed_by(alloc, &first)?
+        .followed_by(alloc, &none)?
+        .followed_by(alloc, &second)?
+        .followed_by(alloc, &none)?;
+    Ok(refer_to(&all, &[1, 0, 3, 2]) && all.numbers() == [0, 0, 1, 1])
 }
