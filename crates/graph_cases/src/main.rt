@@ -21,7 +21,8 @@ use made::{Draws, made_table};
 use packed::{labels_are_told, lists_follow};
 use shapes::{SHAPES, shaped};
 use sizes::{
-    all_differ, classes_of_fours, empty_rounds, ints_of_sizes, long_name_table, ring_has_two_classes, table_len,
+    all_differ, classes_of_fours, empty_rounds, ints_of_sizes, long_name_table,
+    ring_has_two_classes, table_len,
 };
 use split_base::TableFault;
 use std::alloc::Global;

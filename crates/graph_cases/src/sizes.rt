@@ -50,17 +50,29 @@ pub fn ring_has_two_classes<R: Threads + Sync>(
     Ok(is_one_relation(found.refined.classes.numbers(), &want))
 }
 
-/// Four rows: a structure that refers to a pointer, the pointer to a declaration of the structure, that, and an INT
-/// of a size of its own. They begin at number `x`.
+/// How many of the structures below are declared.
+const DECLARED: u32 = 20;
+
+/// Four rows: a structure that refers to a pointer; the pointer, to a declaration of the structure; that, or behind the
+/// first few a pointer to the structure, as the one before; and an INT of a size of its own. They begin at number `x`.
 fn push_four(alloc: Global, rows: &mut Vec<Row>, x: u32) -> Result<(), AllocError> {
-    let to = |next: u32| -> Result<Vec<Ref>, AllocError> { vec![in alloc; Ref::Node(next)] };
+    let declared = x < 4 * DECLARED;
+    let to = if declared { x.saturating_add(2) } else { x };
     let heads = [
-        (parted(STRUCT, b"ring", 8, NEXT), to(x.saturating_add(1))?),
-        (bare(PTR, b"", 0), to(x.saturating_add(2))?),
-        (bare(FWD, b"ring", 0), Vec::new(alloc)),
-        (bare(INT, b"int", x), Vec::new(alloc)),
+        (parted(STRUCT, b"ring", 8, NEXT), Some(x.saturating_add(1))),
+        (bare(PTR, b"", 0), Some(to)),
+        if declared {
+            (bare(FWD, b"ring", 0), None)
+        } else {
+            (bare(PTR, b"", 0), Some(to))
+        },
+        (bare(INT, b"int", x), None),
     ];
-    for (head, targets) in heads {
+    for (head, target) in heads {
+        let mut targets = Vec::new(alloc);
+        if let Some(node) = target {
+            targets.push(Ref::Node(node))?;
+        }
         rows.push(Row { head, targets })?;
     }
     Ok(())

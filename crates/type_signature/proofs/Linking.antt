@@ -1,5 +1,5 @@
 -- References as words, node by node, and hashes by words.
-use Rattle.std.proofs.Common.{◌≡◌, ◌<◌, ◌≤◌, ◌+◌, ◌-◌, ℕ, zero, suc, Bool, true, false, Some, List, [], ◌∷◌, ◌++◌, ◌⊎◌, All, map, length, get_or, take, drop, refl, sym, ◌∙◌, ap, arith, ⊎_elim}
+use Rattle.std.proofs.Common.{◌≡◌, ◌<◌, ◌≤◌, ◌+◌, ℕ, true, false, Some, List, [], ◌∷◌, ◌++◌, ◌⊎◌, All, map, length, get_or, take, refl, sym, ◌∙◌, ap, arith, ⊎_elim}
 use Rattle.std.specs.List.{fold, slice_get, slice_range, AllByRecursion}
 use Rattle.std.proofs.lemmas.Bool.{cases_lt}
 use Rattle.std.proofs.lemmas.List.{append_assoc, length_push, length-append, map_push, get_or_append_left, get_or_push}
@@ -15,9 +15,9 @@ use Rattle.c_model.proofs.Targets.{targets_at-below}
 use Rattle.packed_graph.specs.Packed.{word_of, ref_of}
 use Rattle.packed_graph.proofs.Pushing.{part-left, part-right, refs_of-words}
 use Rattle.type_signature.specs.Hashing.{mixed, hash_by, IsHashed}
-use Rattle.type_signature.specs.Links.{words_at, AreWords, AreLinks, hash_at, IsHashedBy}
+use Rattle.type_signature.specs.Links.{words_at, AreLinks, hash_at, IsHashedBy}
 use Rattle.type_signature.specs.Signatures.{is_open_at, signature_at}
-use Rattle.type_signature.proofs.Codes.{open-cases, signature-open, signature-closed}
+use Rattle.type_signature.proofs.Codes.{open-cases}
 
 -- one more word of a node
 pub words-read : (ts : List Ref) (i : ℕ) (t : Ref) (before old new : List ℕ) → slice_get ts i ≡ Some t → old ≡ before ++ map word_of (take i ts) → new ≡ old ++ word_of t ∷ [] → new ≡ before ++ map word_of (take (i + 1) ts)
@@ -66,20 +66,20 @@ module _ (nodes : List CType) (r : RefersWithin (length nodes) nodes) (x : ℕ) 
     rises = λ k h. ⊎_elim
         (λ before. rw (old_end k (omega arith), old_end (k + 1) (omega arith)) (l.rises k before))
         (λ after.
-            let same : k ≡ x = omega arith in
-            let a : get_or (ends ++ e ∷ []) k 0 ≡ get_or ends k 0 = old_end k (omega arith) in
-            let b : get_or (ends ++ e ∷ []) (k + 1) 0 ≡ e = new_end (k + 1) (omega arith) in
-            let c : get_or ends k 0 ≡ length words = ap (λ j. get_or ends j 0) same ∙ l.last in
-            omega (arith, longer, end))
+        let same : k ≡ x = omega arith in
+        let a : get_or (ends ++ e ∷ []) k 0 ≡ get_or ends k 0 = old_end k (omega arith) in
+        let b : get_or (ends ++ e ∷ []) (k + 1) 0 ≡ e = new_end (k + 1) (omega arith) in
+        let c : get_or ends k 0 ≡ length words = ap (λ j. get_or ends j 0) same ∙ l.last in
+        omega (arith, longer, end))
         (cases_lt k x);
     within = λ k h. ⊎_elim
         (λ before.
-            let a : get_or (ends ++ e ∷ []) (k + 1) 0 ≡ get_or ends (k + 1) 0 = old_end (k + 1) (omega arith) in
-            let b : get_or ends (k + 1) 0 ≤ length words = l.within k before in
-            omega (arith, longer))
+        let a : get_or (ends ++ e ∷ []) (k + 1) 0 ≡ get_or ends (k + 1) 0 = old_end (k + 1) (omega arith) in
+        let b : get_or ends (k + 1) 0 ≤ length words = l.within k before in
+        omega (arith, longer))
         (λ after.
-            let b : get_or (ends ++ e ∷ []) (k + 1) 0 ≡ e = new_end (k + 1) (omega arith) in
-            omega (arith, end))
+        let b : get_or (ends ++ e ∷ []) (k + 1) 0 ≡ e = new_end (k + 1) (omega arith) in
+        omega (arith, end))
         (cases_lt k x);
     below = rw is (All-append (λ w. w ≤ length nodes) words (map word_of (targets_at nodes x)) l.below (words-below (length nodes) (targets_at nodes x) (targets_at-below (length nodes) nodes r x)));
     at = λ k h. ⊎_elim (before k) (λ after. here k (omega arith)) (cases_lt k x);

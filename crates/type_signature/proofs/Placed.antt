@@ -15,7 +15,7 @@ use Rattle.type_signature.specs.Labels.{mark_at}
 use Rattle.type_signature.specs.Hashing.{hash_by, IsHashed, pair_at}
 use Rattle.type_signature.specs.Placing.{IsPlaced, SharesNames, HaveOneTag, TellsApart, IsAbove, IsCoarse}
 use Rattle.type_signature.proofs.Codes.{open-cases, signatures-same}
-use Rattle.type_signature.proofs.Beside.{PlacesForwards, PlacesForwards-placed, names_placed, beside_placed, raw-from_placed, placed-from_raw}
+use Rattle.type_signature.proofs.Beside.{PlacesForwards-placed, names_placed, beside_placed, raw-from_placed, placed-from_raw}
 
 module _ (g : Shape) (index : List (List ℕ)) (ix : IsIndexOf g index) (fit : HasFittingForwards g) where
   -- numbers by a key that an agreeing partition respects, with the forwards placed, make a coarser partition

@@ -20,11 +20,7 @@ fn mix(hash: u64, now: &[u64], word: u32) -> u64
     requires { word ≤ length now.now }
     ensures { result ≡ mixed hash (class_of now.now (ref_of word)) }
 {
-    let number = if word == 0 {
-        1
-    } else {
-        now[word as usize - 1]
-    };
+    let number = if word == 0 { 1 } else { now[word as usize - 1] };
     hash.wrapping_mul(FACTOR).wrapping_add(number)
 }
 
@@ -53,7 +49,9 @@ struct Hashed<'v> {
 
 impl<'v> NumberAt for Hashed<'v> {
     ghost is_whole = { λ of. AreWords (length of.fwd.now) of.ends.now of.words.now × (length of.now.now ≡ length of.fwd.now) × (length of.fwd.now < 2 ^ 32) };
+
     ghost count = { λ of. length of.fwd.now };
+
     ghost number = { λ of x. hash_at of.fwd.now of.ends.now of.words.now of.now.now x };
 
     #[inline(always)]

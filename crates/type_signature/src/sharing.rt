@@ -7,7 +7,9 @@ use std::thread::Threads;
 /// What has a number for each of some places, where it is whole.
 pub(crate) trait NumberAt {
     ghost is_whole: { Self → Type 0 };
+
     ghost count: { Self → ℕ };
+
     ghost number: { Self → ℕ → ℕ };
 
     /// The number of place `x`.

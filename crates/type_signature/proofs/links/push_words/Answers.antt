@@ -1,4 +1,3 @@
-use Rattle.std.proofs.Common.{ap}
 use Rattle.c_model.specs.Partition.{targets_at}
 use Rattle.type_signature.proofs.Linking.{words-read}
 use Rattle.type_signature.proofs.links.push_words.Goals as goal

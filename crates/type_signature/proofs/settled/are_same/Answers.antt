@@ -1,7 +1,6 @@
 use Rattle.std.proofs.Common.{◌∙◌, sym}
 use Rattle.c_model.specs.Partition.{targets_at}
 use Rattle.type_signature.proofs.Reading.{classes-read}
-use Rattle.type_signature.proofs.Codes.{target_code-injective}
 use Rattle.type_signature.proofs.settled.are_same.Goals as goal
 
 pub loop-i-preserved : goal.loop-i-preserved
