@@ -65,9 +65,11 @@ fn joined<'a>(alone: Graph<'a>, own: Vec<CType<'a>>) -> Result<Graph<'a>, Fault>
     }
 }
 
-/// How many nodes a graph has at most whose classes are compared pair by pair. Those of larger ones are found by
-/// several numbers of workers.
+/// How many nodes a graph has at most whose classes are compared pair by pair.
 const COMPARED_AT_MOST: u32 = 4_096;
+
+/// How many nodes a graph has at most, of those with more, whose classes are found by several numbers of workers.
+const SHARED_AT_MOST: u32 = 100_000;
 
 /// Whether the classes of a large graph, packed, have the same numbers whatever number of workers finds them.
 fn workers_agree<R: Threads + Sync, L: Ledger>(
@@ -156,6 +158,7 @@ fn merged_over<'a, R: Threads + Sync, L: Ledger>(
         return Err(Fault::Differs);
     }
     if graph.len() > COMPARED_AT_MOST
+        && graph.len() <= SHARED_AT_MOST
         && !workers_agree(rt, alloc, &graph, &forwards, &refined.classes, &mut steps)?
     {
         return Err(Fault::Differs);
