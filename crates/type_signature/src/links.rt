@@ -8,7 +8,7 @@ ghost use Rattle.type_signature.specs.Links.{AreLinks};
 use c_model::{Ref, TypeGraph};
 use std::alloc::{AllocError, Global};
 
-/// The references of each node as words, those of a node from its end of the one before to its own.
+/// The references of each node as words: those of a node stand from the end of the node before to its own end.
 #[derive(Debug, Drop)]
 pub struct Links {
     pub ends: Vec<u32>,
@@ -44,7 +44,7 @@ fn push_words<'a, G: TypeGraph<'a>>(
 }
 
 impl Links {
-    /// The references of a graph. More than a word counts are want of memory.
+    /// The references of a graph. More than 2^32 - 1 of them are want of memory.
     pub fn new<'a, G: TypeGraph<'a>>(alloc: Global, graph: &G) -> Result<Links, AllocError>
         ensures { IfOk result (λ l. AreLinks (G.shape graph.now).nodes l.ends.items l.words.items) }
     {
