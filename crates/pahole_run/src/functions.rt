@@ -176,14 +176,7 @@ fn choose<'a, R: Threads + Sync, G>(
     ensures own { IsOwn result }
 {
     let most = context.limits.nodes;
-    match choose_over(
-        context.rt,
-        context.alloc,
-        context.jobs,
-        base,
-        most,
-        protos,
-    ) {
+    match choose_over(context.rt, context.alloc, context.jobs, base, most, protos) {
         Ok(chosen) => Ok(chosen),
         Err(fault) => Err(ended_of_table(fault)),
     }
