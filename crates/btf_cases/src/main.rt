@@ -1,5 +1,5 @@
-//! Reads each case of `data/` and writes what was read again, and compares the answers with what the case says
-//! (`data/README.md`).
+//! Reads each case of `data/` and writes what was read again, and compares the answers with what
+//! the case says (`data/README.md`).
 #![tactic(auto)]
 
 mod case;

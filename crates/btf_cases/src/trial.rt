@@ -14,7 +14,8 @@ use c_model::CType;
 use dw_base::{Bytes, Name};
 use std::alloc::Global;
 
-/// The answer of a case: the fault, or the text of the table, with a line more where it isn't written to the same bytes.
+/// The answer of a case: the fault, or the text of the table, with a line more where it isn't
+/// written to the same bytes.
 pub fn answer_of(alloc: Global, cases: &[Case], case: &Case) -> Result<String, Error> {
     let Some(place) = case.base else {
         return answered(alloc, case, None);

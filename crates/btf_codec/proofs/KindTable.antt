@@ -1,5 +1,6 @@
 -- What the table of kinds says of every kind.
-use Rattle.std.proofs.Common.{◌≡◌, ℕ, ◌<◌, ◌≤◌, ◌^◌, ◌==◌, Bool, true, false, length, Option, None, Some, if◌then◌else◌, refl, ap, subst, arith}
+use Rattle.std.proofs.Common.{◌≡◌, ℕ, ◌<◌, ◌≤◌, ◌^◌, ◌==◌, Bool, true, false, length, Option, None}
+use Rattle.std.proofs.Common.{Some, if◌then◌else◌, refl, ap, subst, arith}
 use Rattle.std.proofs.lemmas.Bool.{eqb-true}
 use Rattle.c_model.specs.Kinds.{IsWellFormed, PartRow, Row, linked_row, row_of}
 use Rattle.c_model.specs.declared.graph.CType.{CType}
@@ -16,12 +17,14 @@ pub IsLimited : ℕ → Option Row → Type 0
 IsLimited k None = Unit {0}
 IsLimited k (Some row) = (k < 20) × AreLimits row
 
-chosen : (k j : ℕ) (row : Row) (o : Option Row) (t : Bool) → (k == j) ≡ t → j < 20 → AreLimits row → IsLimited k o → IsLimited k (if t then Some row else o)
+chosen : (k j : ℕ) (row : Row) (o : Option Row) (t : Bool) → (k == j) ≡ t → j < 20 → AreLimits row
+    → IsLimited k o → IsLimited k (if t then Some row else o)
 unfolding IsLimited
 chosen k j row o true e lt limits rest = (omega (arith, eqb-true k j e), limits)
 chosen k j row o false e lt limits rest = rest
 
-step : (k j : ℕ) (row : Row) (o : Option Row) → j < 20 → AreLimits row → IsLimited k o → IsLimited k (if k == j then Some row else o)
+step : (k j : ℕ) (row : Row) (o : Option Row) → j < 20 → AreLimits row → IsLimited k o
+    → IsLimited k (if k == j then Some row else o)
 step k j row o lt limits rest = chosen k j row o (k == j) refl lt limits rest
 
 none : (k : ℕ) → IsLimited k None
@@ -30,14 +33,17 @@ none k = tt
 
 -- a row without parts
 bare : (row : Row) → row.size ≤ 2 ^ 32 → row.extra ≤ 2 ^ 32 → row.parts ≡ None → AreLimits row
-bare row s x e = record { size = s; extra = x; value = λ (parts : PartRow) (p : row.parts ≡ Some parts). cc }
+bare row s x e =
+    record { size = s; extra = x; value = λ (parts : PartRow) (p : row.parts ≡ Some parts). cc }
 
 -- a row with parts
-with_parts : (row : Row) (r : PartRow) → row.size ≤ 2 ^ 32 → row.extra ≤ 2 ^ 32 → row.parts ≡ Some r → r.value ≤ 2 ^ 64 → AreLimits row
+with_parts : (row : Row) (r : PartRow) → row.size ≤ 2 ^ 32 → row.extra ≤ 2 ^ 32 → row.parts ≡ Some r
+    → r.value ≤ 2 ^ 64 → AreLimits row
 with_parts row r s x e v = record {
   size = s;
   extra = x;
-  value = λ (parts : PartRow) (p : row.parts ≡ Some parts). let q : r ≡ parts = cc in subst (λ (u : PartRow). u.value ≤ 2 ^ 64) q v;
+  value = λ (parts : PartRow) (p : row.parts ≡ Some parts). let q : r ≡ parts = cc in
+      subst (λ (u : PartRow). u.value ≤ 2 ^ 64) q v;
 }
 
 pub limited : (k : ℕ) → IsLimited k (row_of k)
@@ -74,15 +80,18 @@ pub row_limits : (t : CType) (w : IsWellFormed t) → AreLimits w.row
 row_limits t w = (limits_of t.label.kind w.row w.of_kind).1
 
 -- a FUNC's linkage is below 3
-linkage : (row : Row) (k extra : ℕ) → k ≡ 12 → row_of k ≡ Some row → extra < row.extra → extra ≤ 65535
+linkage : (row : Row) (k extra : ℕ) → k ≡ 12 → row_of k ≡ Some row → extra < row.extra
+    → extra ≤ 65535
 linkage row k extra is e lt =
     let s : row_of k ≡ Some (linked_row 3 false) = ap row_of is in
     let q : linked_row 3 false ≡ row = cc in
     let x : 3 ≡ row.extra = ap (λ (r : Row). r.extra) q in
     omega arith
 
-vlen_by : (t : CType) (b : Bool) → (t.label.kind == 12) ≡ b → IsWellFormed t → (if b then t.label.extra else length t.label.parts) ≤ 65535
-vlen_by t true e w = linkage w.row t.label.kind t.label.extra (eqb-true t.label.kind 12 e) w.of_kind w.extra
+vlen_by : (t : CType) (b : Bool) → (t.label.kind == 12) ≡ b → IsWellFormed t
+    → (if b then t.label.extra else length t.label.parts) ≤ 65535
+vlen_by t true e w =
+    linkage w.row t.label.kind t.label.extra (eqb-true t.label.kind 12 e) w.of_kind w.extra
 vlen_by t false e w = w.few
 
 pub vlen_few : (t : CType) → IsWellFormed t → vlen_of t.label ≤ 65535

@@ -1,14 +1,20 @@
--- The fields of each kind of type, in their order (the Linux kernel's BTF documentation, "Type Encoding").
-use Rattle.std.specs.Prelude.{ℕ, ◌+◌, ◌*◌, ◌/◌, ◌%◌, ◌^◌, ◌==◌, Bool, true, false, List, [], ◌∷◌, ◌++◌, length, drop, slice_get, unwrap_or, Option, None, Some, if◌then◌else◌}
+-- The fields of each kind of type, in their order (the Linux kernel's BTF documentation, "Type
+-- Encoding").
+use Rattle.std.specs.Prelude.{ℕ, ◌+◌, ◌*◌, ◌/◌, ◌%◌, ◌^◌, ◌==◌, Bool, true, false, List, [], ◌∷◌}
+use Rattle.std.specs.Prelude.{◌++◌, length, drop, slice_get, unwrap_or, Option, None, Some}
+use Rattle.std.specs.Prelude.{if◌then◌else◌}
 use Rattle.c_model.specs.declared.label.Label.{Label}
 use Rattle.c_model.specs.declared.label.Part.{Part}
 use Rattle.c_model.specs.declared.graph.CType.{CType}
 use Rattle.c_model.specs.declared.graph.Ref.{Ref}
 use Rattle.c_model.specs.declared.graph.Ref.TheVariants.{Void, Node}
 use Rattle.btf_codec.specs.declared.layout.Layout.{Layout}
-use Rattle.btf_codec.specs.declared.layout.Layout.TheVariants.{Int, Link, Array, Forward, TaggedLink, Float, Sized, Prototype}
+use Rattle.btf_codec.specs.declared.layout.Layout.TheVariants.{Int, Link, Array, Forward}
+use Rattle.btf_codec.specs.declared.layout.Layout.TheVariants.{TaggedLink, Float, Sized, Prototype}
 use Rattle.btf_codec.specs.declared.layout.PartLayout.{PartLayout}
-use Rattle.btf_codec.specs.declared.layout.PartLayout.TheVariants.{Member, Enumerator, WideEnumerator, Parameter, Variable}
+use Rattle.btf_codec.specs.declared.layout.PartLayout.TheVariants.{Member, Enumerator}
+use Rattle.btf_codec.specs.declared.layout.PartLayout.TheVariants.{WideEnumerator, Parameter}
+use Rattle.btf_codec.specs.declared.layout.PartLayout.TheVariants.{Variable}
 
 -- a field is one 4-byte word: the offset of a name, the id of a type, or a number
 pub data Field : Type 0 where
@@ -72,7 +78,8 @@ target_at targets i = unwrap_or (slice_get targets i) Void
 abbrev pub part_fields : PartLayout → Part → Ref → List Field
 part_fields Member p r = Named p.name ∷ Refers r ∷ Number (low_of p.value) ∷ []
 part_fields Enumerator p r = Named p.name ∷ Number (low_of p.value) ∷ []
-part_fields WideEnumerator p r = Named p.name ∷ Number (low_of p.value) ∷ Number (high_of p.value) ∷ []
+part_fields WideEnumerator p r =
+    Named p.name ∷ Number (low_of p.value) ∷ Number (high_of p.value) ∷ []
 part_fields Parameter p r = Named p.name ∷ Refers r ∷ []
 part_fields Variable p r = Refers r ∷ Number (low_of p.value) ∷ Number (high_of p.value) ∷ []
 
@@ -85,7 +92,8 @@ parts_fields l (p ∷ ps) rs = part_fields l p (target_at rs 0) ++ parts_fields 
 abbrev pub rest_fields : Layout → Label → List Ref → List Field
 rest_fields Int l rs = Number l.size ∷ Number l.extra ∷ []
 rest_fields Link l rs = Refers (target_at rs 0) ∷ []
-rest_fields Array l rs = Number 0 ∷ Refers (target_at rs 0) ∷ Refers (target_at rs 1) ∷ Number l.extra ∷ []
+rest_fields Array l rs =
+    Number 0 ∷ Refers (target_at rs 0) ∷ Refers (target_at rs 1) ∷ Number l.extra ∷ []
 rest_fields Forward l rs = Number 0 ∷ []
 rest_fields TaggedLink l rs = Refers (target_at rs 0) ∷ Number l.extra ∷ []
 rest_fields Float l rs = Number l.size ∷ []
@@ -98,4 +106,5 @@ rest_by (Some layout) l rs = rest_fields layout l rs
 
 -- the fields of a type
 unfoldable pub fields_of : CType → List Field
-fields_of t = Named t.label.name ∷ Number (info_of t.label) ∷ rest_by (layout_of t.label.kind) t.label t.targets
+fields_of t = Named t.label.name ∷ Number (info_of t.label) ∷ rest_by
+    (layout_of t.label.kind) t.label t.targets

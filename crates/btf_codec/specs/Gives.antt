@@ -1,6 +1,8 @@
 -- What a call of the reader answers, against what reading gives.
-use Rattle.std.specs.Prelude.{◌≡◌, ℕ, ◌*◌, ◌-◌, ◌<◌, ◌^◌, List, length, slice_get, ◌++◌, slice_index, Option, None, Some, Result, Ok, Err, ⊤}
-use Rattle.btf_codec.specs.Reading.{Before, Shown, types_before, layout_in, type_width, vlen_in, word_in}
+use Rattle.std.specs.Prelude.{◌≡◌, ℕ, ◌*◌, ◌-◌, ◌<◌, ◌^◌, List, length, slice_get, ◌++◌}
+use Rattle.std.specs.Prelude.{slice_index, Option, None, Some, Result, Ok, Err, ⊤}
+use Rattle.btf_codec.specs.Reading.{Before, Shown, types_before, layout_in, type_width, vlen_in}
+use Rattle.btf_codec.specs.Reading.{word_in}
 use Rattle.btf_codec.specs.declared.fault.BtfFault.{BtfFault}
 use Rattle.btf_codec.specs.declared.fault.BtfFault.TheVariants.{Memory}
 use Rattle.btf_codec.specs.declared.layout.Layout.{Layout}
@@ -39,7 +41,8 @@ pub record IsPiece (order : Order) (piece : List ℕ) : Type 0 where
 abbrev pub EndsWithNul : List ℕ → Type 0
 EndsWithNul names = 0 < length names → slice_index names (length names - 1) ≡ 0
 
--- a table that can stand before another one: without a base, of few types that refer to one another, with strings that begin and end with NUL
+-- a table that can stand before another one: without a base, of few types that refer to one
+-- another, with strings that begin and end with NUL
 pub record IsBefore (table : Table) : Type 0 where
   pub base : table.base ≡ 0
   pub few : length table.types < 2 ^ 31
@@ -61,4 +64,9 @@ base_seen (Some before) = Some (record { types = length before.types; names = be
 
 -- the table of own types and strings over the one before
 abbrev pub table_over : Option Before → Order → List CType → List ℕ → Shown
-table_over before order own names = record { order = order; base = length (types_before before); types = types_before before ++ own; names = names }
+table_over before order own names = record {
+  order = order;
+  base = length (types_before before);
+  types = types_before before ++ own;
+  names = names;
+}

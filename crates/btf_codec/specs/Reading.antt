@@ -1,6 +1,11 @@
--- Reading a BTF file: the first fault in the order of the checks, or the types that the words show (the Linux kernel's BTF
--- documentation, "BTF Header", "String Encoding" and "Type Encoding"; the order of the checks is this project's own).
-use Rattle.std.specs.Prelude.{ℕ, zero, suc, ◌+◌, ◌*◌, ◌-◌, ◌/◌, ◌%◌, ◌^◌, ◌==◌, ◌&&◌, ◌||◌, nat_lt, nat_le, not, Bool, true, false, List, [], ◌∷◌, ◌++◌, length, take, drop, map, find, is_some, slice_index, unwrap_or, Option, None, Some, Result, Ok, Err, if◌then◌else◌}
+-- Reading a BTF file: the first fault in the order of the checks, or the types that the words show
+-- (the Linux kernel's BTF
+-- documentation, "BTF Header", "String Encoding" and "Type Encoding"; the order of the checks is
+-- this project's own).
+use Rattle.std.specs.Prelude.{ℕ, zero, suc, ◌+◌, ◌*◌, ◌-◌, ◌/◌, ◌%◌, ◌^◌, ◌==◌, ◌&&◌, ◌||◌, nat_lt}
+use Rattle.std.specs.Prelude.{nat_le, not, Bool, true, false, List, [], ◌∷◌, ◌++◌, length, take}
+use Rattle.std.specs.Prelude.{drop, map, find, is_some, slice_index, unwrap_or, Option, None, Some}
+use Rattle.std.specs.Prelude.{Result, Ok, Err, if◌then◌else◌}
 use Rattle.std.specs.Option.{option_map, option_or}
 use Rattle.std.specs.Int.{from_le_bytes, from_be_bytes, w32}
 use Rattle.dw_base.specs.Texts.{text_of}
@@ -12,11 +17,16 @@ use Rattle.c_model.specs.declared.graph.Ref.{Ref}
 use Rattle.c_model.specs.declared.graph.Ref.TheVariants.{Void, Node}
 use Rattle.btf_codec.specs.Fields.{bit_of, layout_of}
 use Rattle.btf_codec.specs.declared.fault.BtfFault.{BtfFault}
-use Rattle.btf_codec.specs.declared.fault.BtfFault.TheVariants.{BtfMagic, BtfHeader, BtfTruncated, BtfKind, BtfInfo, BtfName, BtfRef, BtfStrings}
+use Rattle.btf_codec.specs.declared.fault.BtfFault.TheVariants.{BtfMagic, BtfHeader, BtfTruncated}
+use Rattle.btf_codec.specs.declared.fault.BtfFault.TheVariants.{BtfKind, BtfInfo, BtfName, BtfRef}
+use Rattle.btf_codec.specs.declared.fault.BtfFault.TheVariants.{BtfStrings}
 use Rattle.btf_codec.specs.declared.layout.Layout.{Layout}
-use Rattle.btf_codec.specs.declared.layout.Layout.TheVariants.{Int, Link, Array, Forward, TaggedLink, Float, Sized, Prototype}
+use Rattle.btf_codec.specs.declared.layout.Layout.TheVariants.{Int, Link, Array, Forward}
+use Rattle.btf_codec.specs.declared.layout.Layout.TheVariants.{TaggedLink, Float, Sized, Prototype}
 use Rattle.btf_codec.specs.declared.layout.PartLayout.{PartLayout}
-use Rattle.btf_codec.specs.declared.layout.PartLayout.TheVariants.{Member, Enumerator, WideEnumerator, Parameter, Variable}
+use Rattle.btf_codec.specs.declared.layout.PartLayout.TheVariants.{Member, Enumerator}
+use Rattle.btf_codec.specs.declared.layout.PartLayout.TheVariants.{WideEnumerator, Parameter}
+use Rattle.btf_codec.specs.declared.layout.PartLayout.TheVariants.{Variable}
 
 infixl 10 ◌>>=◌
 abbrev pub ◌>>=◌ : {A B : Type 0} → Result A BtfFault → (A → Result B BtfFault) → Result B BtfFault
@@ -25,7 +35,8 @@ abbrev pub ◌>>=◌ : {A B : Type 0} → Result A BtfFault → (A → Result B 
 
 -- the number of the 4 bytes at a word's place
 abbrev pub four : List ℕ → ℕ → List ℕ
-four bytes at = slice_index bytes at ∷ slice_index bytes (at + 1) ∷ slice_index bytes (at + 2) ∷ slice_index bytes (at + 3) ∷ []
+four bytes at = slice_index bytes at ∷ slice_index bytes (at + 1) ∷ slice_index bytes (at + 2)
+    ∷ slice_index bytes (at + 3) ∷ []
 
 abbrev pub word_in : Order → List ℕ → ℕ → ℕ
 word_in Little bytes i = from_le_bytes w32 (four bytes (4 * i))
@@ -64,7 +75,8 @@ is_third layout third = true
 
 abbrev pub is_info : Layout → ℕ → ℕ → Bool
 is_info layout y third =
-    is_clean y && (not (flag_in y) || may_flag (kind_in y)) && is_vlen layout (kind_in y) (vlen_in y) && is_third layout third
+    is_clean y && (not (flag_in y) || may_flag (kind_in y))
+    && is_vlen layout (kind_in y) (vlen_in y) && is_third layout third
 
 -- how many words a part and a type have
 abbrev pub part_width : PartLayout → ℕ
@@ -89,11 +101,13 @@ abbrev pub checked : ℕ → ℕ → ℕ → ℕ → ℕ → Option Layout → R
 checked place id y third left None = Err (BtfKind place id (kind_in y))
 checked place id y third left (Some layout) =
     if is_info layout y third
-    then (if nat_lt left (type_width layout (vlen_in y)) then Err (BtfTruncated place) else Ok (type_width layout (vlen_in y)))
+    then (if nat_lt left (type_width layout (vlen_in y)) then Err (BtfTruncated place)
+    else Ok (type_width layout (vlen_in y)))
     else Err (BtfInfo place id)
 
 abbrev pub head_of : ℕ → ℕ → (ℕ → ℕ) → ℕ → Result ℕ BtfFault
-head_of place id w left = if nat_lt left 3 then Err (BtfTruncated place) else checked place id (w 1) (w 2) left (layout_of (kind_in (w 1)))
+head_of place id w left = if nat_lt left 3 then Err (BtfTruncated place)
+    else checked place id (w 1) (w 2) left (layout_of (kind_in (w 1)))
 
 -- the bytes of each type, from a place on
 unfoldable pub pieces_of : Order → ℕ → ℕ → ℕ → List ℕ → Result (List (List ℕ)) BtfFault
@@ -101,7 +115,8 @@ pieces_of order zero place id bytes = Ok []
 pieces_of order (suc n) place id [] = Ok []
 pieces_of order (suc n) place id (b ∷ bs) =
     head_of place id (word_in order (b ∷ bs)) (length (b ∷ bs) / 4) >>= λ (size : ℕ).
-    pieces_of order n (place + 4 * size) (id + 1) (drop (4 * size) (b ∷ bs)) >>= λ (rest : List (List ℕ)).
+    pieces_of order n (place + 4 * size) (id + 1) (drop (4 * size) (b ∷ bs))
+    >>= λ (rest : List (List ℕ)).
     Ok (take (4 * size) (b ∷ bs) ∷ rest)
 
 -- so many places, each so many words behind the one before
@@ -143,7 +158,8 @@ names_in w = names_by (layout_in w) w (vlen_in (w 1))
 abbrev pub ids_in : (ℕ → ℕ) → List ℕ
 ids_in w = ids_by (layout_in w) w (vlen_in (w 1))
 
--- the first word of a type that is no offset in the strings, and after it the first that is no id of the table
+-- the first word of a type that is no offset in the strings, and after it the first that is no id
+-- of the table
 abbrev pub words_fault : ℕ → ℕ → ℕ → ℕ → (ℕ → ℕ) → Option BtfFault
 words_fault place id limit count w =
     option_or (option_map (λ (x : ℕ). BtfName place id x) (first_past limit (names_in w)))
@@ -152,7 +168,8 @@ words_fault place id limit count w =
 unfoldable pub pieces_fault : Order → ℕ → ℕ → ℕ → ℕ → List (List ℕ) → Option BtfFault
 pieces_fault order place id limit count [] = None
 pieces_fault order place id limit count (p ∷ ps) =
-    option_or (words_fault place id limit count (word_in order p)) (pieces_fault order (place + length p) (id + 1) limit count ps)
+    option_or (words_fault place id limit count (word_in order p))
+    (pieces_fault order (place + length p) (id + 1) limit count ps)
 
 -- the type that the words show, over the base's strings and the own ones
 abbrev pub name_at : List ℕ → ℕ → List ℕ
@@ -168,7 +185,8 @@ whole_value w at = w (at + 1) + 2 ^ 32 * w (at + 2)
 abbrev pub part_shown : PartLayout → List ℕ → (ℕ → ℕ) → ℕ → Part
 part_shown Member strings w at = record { name = name_at strings (w at); value = w (at + 2) }
 part_shown Enumerator strings w at = record { name = name_at strings (w at); value = w (at + 1) }
-part_shown WideEnumerator strings w at = record { name = name_at strings (w at); value = whole_value w at }
+part_shown WideEnumerator strings w at =
+    record { name = name_at strings (w at); value = whole_value w at }
 part_shown Parameter strings w at = record { name = name_at strings (w at); value = 0 }
 part_shown Variable strings w at = record { name = []; value = whole_value w at }
 
@@ -212,7 +230,8 @@ type_shown strings w = type_by (layout_in w) strings w
 
 -- the byte order that the magic number shows
 abbrev pub magic_order : ℕ → ℕ → Option Order
-magic_order a b = if a == 0x9f && b == 0xeb then Some Little else if a == 0xeb && b == 0x9f then Some Big else None
+magic_order a b = if a == 0x9f && b == 0xeb then Some Little else if a == 0xeb && b == 0x9f
+    then Some Big else None
 
 abbrev pub is_same_order : Order → Order → Bool
 is_same_order Little Little = true
@@ -231,18 +250,24 @@ wanted_order want (Some order) = if is_wanted want order then Ok order else Err 
 abbrev pub order_in : Option Order → List ℕ → Result Order BtfFault
 order_in want bytes = wanted_order want (magic_order (slice_index bytes 0) (slice_index bytes 1))
 
--- version 1, no flags, a header of 24 bytes, types first and in whole words, then the strings and nothing more
+-- version 1, no flags, a header of 24 bytes, types first and in whole words, then the strings and
+-- nothing more
 abbrev pub is_header : Order → List ℕ → Bool
 is_header order bytes =
-    slice_index bytes 2 == 1 && slice_index bytes 3 == 0 && word_in order bytes 1 == 24 && word_in order bytes 2 == 0 && word_in order bytes 3 % 4 == 0
-    && word_in order bytes 4 == word_in order bytes 3 && length bytes == 24 + word_in order bytes 3 + word_in order bytes 5
+    slice_index bytes 2 == 1 && slice_index bytes 3 == 0 && word_in order bytes 1 == 24
+    && word_in order bytes 2 == 0 && word_in order bytes 3 % 4 == 0
+    && word_in order bytes 4 == word_in order bytes 3 && length bytes
+    == 24 + word_in order bytes 3 + word_in order bytes 5
 
 -- the bytes of the types and those of the strings
 abbrev pub sections_of : Order → List ℕ → Result (List ℕ × List ℕ) BtfFault
 sections_of order bytes =
     if nat_lt (length bytes) 24
     then Err BtfHeader
-    else if is_header order bytes then Ok (take (word_in order bytes 3) (drop 24 bytes), drop (24 + word_in order bytes 3) bytes) else Err BtfHeader
+    else if is_header order bytes then Ok (
+      take (word_in order bytes 3) (drop 24 bytes),
+      drop (24 + word_in order bytes 3) bytes,
+    ) else Err BtfHeader
 
 -- the own strings end with NUL, and without a base they begin with one
 abbrev pub is_begun : Bool → List ℕ → Bool
@@ -266,9 +291,11 @@ unfoldable pub file_of : Bool → ℕ → ℕ → Option Order → List ℕ → 
 file_of based types limit want bytes =
     order_in want bytes >>= λ (order : Order).
     sections_of order bytes >>= λ (s : List ℕ × List ℕ).
-    (if is_begun based s.1 && is_ended s.1 then Ok s else Err (BtfStrings (24 + length s.0))) >>= λ (t : List ℕ × List ℕ).
+    (if is_begun based s.1 && is_ended s.1 then Ok s else Err (BtfStrings (24 + length s.0)))
+    >>= λ (t : List ℕ × List ℕ).
     pieces_of order (length t.0) 24 (types + 1) t.0 >>= λ (pieces : List (List ℕ)).
-    accepted order pieces t.1 (pieces_fault order 24 (types + 1) (limit + length t.1) (types + length pieces) pieces)
+    accepted order pieces t.1
+    (pieces_fault order 24 (types + 1) (limit + length t.1) (types + length pieces) pieces)
 
 -- the table that comes before the own types: its types and its strings
 pub record Before : Type 0 where
@@ -283,7 +310,8 @@ abbrev pub names_before : Option Before → List ℕ
 names_before None = []
 names_before (Some b) = b.names
 
--- the table of a file: its byte order, how many types come before the own ones, all types, and the own strings
+-- the table of a file: its byte order, how many types come before the own ones, all types, and the
+-- own strings
 pub record Shown : Type 0 where
   pub order : Order
   pub base : ℕ
@@ -295,7 +323,8 @@ types_of strings order pieces = map (λ (p : List ℕ). type_shown strings (word
 
 unfoldable pub table_of : Option Before → Option Order → List ℕ → Result Shown BtfFault
 table_of before want bytes =
-    file_of (is_some before) (length (types_before before)) (length (names_before before)) want bytes >>= λ (f : File).
+    file_of (is_some before) (length (types_before before))
+    (length (names_before before)) want bytes >>= λ (f : File).
     Ok (record {
       order = f.order;
       base = length (types_before before);

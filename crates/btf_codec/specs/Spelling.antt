@@ -1,5 +1,6 @@
 -- The bytes of a table whose strings give each name its offset.
-use Rattle.std.specs.Prelude.{ℕ, ◌+◌, ◌*◌, ◌<◌, ◌≤◌, ◌^◌, List, ◌++◌, length, map, drop, All, IsSome, unwrap_or, Option, None, Some}
+use Rattle.std.specs.Prelude.{ℕ, ◌+◌, ◌*◌, ◌<◌, ◌≤◌, ◌^◌, List, ◌++◌, length, map, drop, All}
+use Rattle.std.specs.Prelude.{IsSome, unwrap_or, Option, None, Some}
 use Rattle.std.specs.List.{flat_map}
 use Rattle.dw_base.specs.declared.numbers.Order.{Order}
 use Rattle.c_model.specs.Graph.{IsBelow}
@@ -48,7 +49,8 @@ pub record IsReady (types : List CType) (first : ℕ) (strings : Names) : Type 0
   pub few : length types < 2 ^ 32
   pub base : first ≤ length types
   pub each : All (IsReadyType strings (length types)) (drop first types)
-  pub fits : 4 * length (flat_map fields_of (drop first types)) + length (own_section strings) < 2 ^ 32
+  pub fits : 4 * length (flat_map fields_of (drop first types))
+      + length (own_section strings) < 2 ^ 32
 
 -- the base of a table: the types that come first, and the section that its strings go on from
 abbrev pub base_of : ℕ → Option (List ℕ) → Option Base

@@ -1,5 +1,7 @@
--- What the bytes of a BTF file spell (the Linux kernel's BTF documentation, "BTF Header", "String Encoding" and "Type Encoding").
-use Rattle.std.specs.Prelude.{◌≡◌, ℕ, ◌+◌, ◌*◌, ◌-◌, ◌<◌, ◌^◌, List, [], ◌∷◌, ◌++◌, length, All, slice_get, Option, None, Some, ⊤}
+-- What the bytes of a BTF file spell (the Linux kernel's BTF documentation, "BTF Header", "String
+-- Encoding" and "Type Encoding").
+use Rattle.std.specs.Prelude.{◌≡◌, ℕ, ◌+◌, ◌*◌, ◌-◌, ◌<◌, ◌^◌, List, [], ◌∷◌, ◌++◌, length, All}
+use Rattle.std.specs.Prelude.{slice_get, Option, None, Some, ⊤}
 use Rattle.std.specs.List.{AllZip, flat_map}
 use Rattle.std.specs.Int.{to_le_bytes, to_be_bytes, w16, w32}
 use Rattle.dw_base.specs.Texts.{text_of}
@@ -36,7 +38,8 @@ word_bytes Big n = to_be_bytes w32 n
 abbrev pub words_bytes : Order → List ℕ → List ℕ
 words_bytes order words = flat_map (word_bytes order) words
 
--- magic, version 1, no flags, the header's length, and the offsets and lengths of the types and the strings, from the header's end
+-- magic, version 1, no flags, the header's length, and the offsets and lengths of the types and the
+-- strings, from the header's end
 abbrev pub header_bytes : Order → ℕ → ℕ → List ℕ
 header_bytes order types names =
     half_bytes order 0xeb9f ++ 1 ∷ 0 ∷ words_bytes order (24 ∷ 0 ∷ types ∷ types ∷ names ∷ [])
@@ -53,7 +56,8 @@ BeginsEmpty None names = slice_get names 0 ≡ Some 0
 BeginsEmpty (Some b) names = ⊤
 
 -- the bytes are those of the own types and the own strings of a table over a base
-pub record Spells (base : Option Base) (order : Order) (own : List CType) (names bytes : List ℕ) : Type 0 where
+pub record Spells (base : Option Base) (order : Order) (own : List CType)
+    (names bytes : List ℕ) : Type 0 where
   pub formed : All IsWellFormed own
   pub within : RefersWithin (base_types base + length own) own
   pub words : List ℕ
@@ -63,4 +67,5 @@ pub record Spells (base : Option Base) (order : Order) (own : List CType) (names
   pub names_length : length names < 2 ^ 32
   pub begins : BeginsEmpty base names
   pub ends : 0 < length names → slice_get names (length names - 1) ≡ Some 0
-  pub whole : bytes ≡ header_bytes order (4 * length words) (length names) ++ words_bytes order words ++ names
+  pub whole : bytes
+      ≡ header_bytes order (4 * length words) (length names) ++ words_bytes order words ++ names

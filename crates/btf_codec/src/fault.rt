@@ -5,8 +5,8 @@ ghost use Rattle.btf_codec.specs.declared.fault.BtfFault.TheVariants.{Memory};
 use std::alloc::{AllocError, AllocFailed};
 use thiserror::Error;
 
-/// The first fault of the bytes, by the order of the reader's checks. The `u64` is the offset of the faulty piece in
-/// the file, in bytes; the `u32` after it is the id of the type there.
+/// The first fault of the bytes, by the order of the reader's checks. The `u64` is the offset of
+/// the faulty piece in the file, in bytes; the `u32` after it is the id of the type there.
 #[derive(Clone, Copy, Debug, PartialEq, Eq, Error)]
 pub enum BtfFault {
     #[error("the magic number")]

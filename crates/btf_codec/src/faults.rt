@@ -1,8 +1,10 @@
 //! Offsets of names and ids that lead nowhere.
-ghost use Rattle.std.specs.Prelude.{◌≡◌, ◌+◌, ◌*◌, ◌-◌, ◌<◌, ◌≤◌, ◌^◌, ℕ, List, Some, [], ◌∷◌, length, map, find, nat_le};
+ghost use Rattle.std.specs.Prelude.{◌≡◌, ◌+◌, ◌*◌, ◌-◌, ◌<◌, ◌≤◌, ◌^◌, ℕ, List, Some, [], ◌∷◌};
+ghost use Rattle.std.specs.Prelude.{length, map, find, nat_le};
 ghost use Rattle.std.specs.Option.{option_map, option_or};
 ghost use Rattle.btf_codec.specs.Gives.{IsPiece};
-ghost use Rattle.btf_codec.specs.Reading.{first_past, ids_by, ids_in, names_by, names_in, type_width, vlen_in, word_in, words_at, words_fault};
+ghost use Rattle.btf_codec.specs.Reading.{first_past, ids_by, ids_in, names_by, names_in};
+ghost use Rattle.btf_codec.specs.Reading.{type_width, vlen_in, word_in, words_at, words_fault};
 
 use crate::fault::BtfFault;
 use crate::layout::{Layout, PartLayout, layout_of};

@@ -1,7 +1,10 @@
 //! The parts of a file: header, types and strings.
-ghost use Rattle.std.specs.Prelude.{◌≡◌, ◌+◌, ◌*◌, ◌-◌, ◌/◌, ◌<◌, ◌≤◌, ◌^◌, ◌&&◌, ℕ, List, Ok, Err, length, map, slice_index, IfOk};
+ghost use Rattle.std.specs.Prelude.{◌≡◌, ◌+◌, ◌*◌, ◌-◌, ◌/◌, ◌<◌, ◌≤◌, ◌^◌, ◌&&◌, ℕ, List, Ok, Err};
+ghost use Rattle.std.specs.Prelude.{length, map, slice_index, IfOk};
 ghost use Rattle.btf_codec.specs.Gives.{Gives, IsPiece, seen, unless};
-ghost use Rattle.btf_codec.specs.Reading.{is_begun, is_ended, is_header, is_same_order, is_wanted, magic_order, order_in, pieces_fault, pieces_of, sections_of, word_in};
+ghost use Rattle.btf_codec.specs.Reading.{is_begun, is_ended, is_header, is_same_order, is_wanted};
+ghost use Rattle.btf_codec.specs.Reading.{magic_order, order_in, pieces_fault, pieces_of};
+ghost use Rattle.btf_codec.specs.Reading.{sections_of, word_in};
 
 use crate::fault::BtfFault;
 use crate::pieces::{head_of, word_in};
@@ -117,7 +120,8 @@ pub fn pieces_of<'a>(
 ) -> Result<Vec<&'a [u8]>, BtfFault>
     requires first { first ≤ 2 ^ 31 }
     requires few { length types.now < 2 ^ 32 }
-    ensures { Gives (λ v. map (λ p. p.now) v.items) result (pieces_of order (length types.now) 24 first types.now) }
+    ensures { Gives (λ v. map (λ p. p.now) v.items) result
+        (pieces_of order (length types.now) 24 first types.now) }
 {
     let mut pieces = Vec::new(alloc);
     let mut rest = types;

@@ -8,17 +8,23 @@ ghost use Rattle.btf_codec.specs.Reading.{Before, names_before, table_of};
 ghost use Rattle.btf_codec.specs.Spelling.{base_of};
 ghost use Rattle.btf_codec.specs.Spells.{Base, Spells};
 
-/// Bytes spell one table at most over a base, in a byte order: one list of own types and one string section.
+/// Bytes spell one table at most over a base, in a byte order: one list of own types and one string
+/// section.
 pub fn spelled_once()
-    ensures { (base : Option Base) (order : Order) (own others : List CType) (names more bytes : List ℕ) →
-        Spells base order own names bytes → Spells base order others more bytes → (others ≡ own) × (more ≡ names) }
+    ensures { (base : Option Base) (order : Order) (own others : List CType)
+        (names more bytes : List ℕ) →
+        Spells base order own names bytes → Spells base order others more bytes
+        → (others ≡ own) × (more ≡ names) }
 {}
 
-/// What was written is read: of the bytes of own types and strings over a base, as `write` gives them, `read` over that
-/// base makes the same types and strings in the same byte order.
+/// What was written is read: of the bytes of own types and strings over a base, as `write` gives
+/// them, `read` over that base makes the same types and strings in the same byte order.
 pub fn written_is_read()
-    ensures { (before : Option Before) (order : Order) (own : List CType) (strings : Names) (first : ℕ) (bytes : List ℕ) →
-        ((i : ℕ) → slice_index bytes i < 256) → EndsWithNul (names_before before) → base_of first strings.base ≡ base_seen before →
+    ensures { (before : Option Before) (order : Order) (own : List CType) (strings : Names)
+        (first : ℕ) (bytes : List ℕ) →
+        ((i : ℕ) → slice_index bytes i < 256) → EndsWithNul (names_before before)
+        → base_of first strings.base ≡ base_seen before →
         Spells (base_of first strings.base) order own (own_section strings) bytes →
-        table_of before (Some order) bytes ≡ Ok (table_over before order own (own_section strings)) }
+        table_of before (Some order) bytes
+        ≡ Ok (table_over before order own (own_section strings)) }
 {}

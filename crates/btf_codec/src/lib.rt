@@ -1,4 +1,5 @@
-//! BTF files: the table of types that the bytes of a file spell (the Linux kernel's BTF documentation).
+//! BTF files: the table of types that the bytes of a file spell (the Linux kernel's BTF
+//! documentation).
 #![tactic(auto)]
 
 pub mod fault;

@@ -1,8 +1,13 @@
 //! The words of a type in a file.
-ghost use Rattle.std.specs.Prelude.{◌≡◌, ◌+◌, ◌*◌, ◌-◌, ◌/◌, ◌%◌, ◌<◌, ◌≤◌, ◌^◌, ◌&&◌, ◌||◌, ℕ, List, None, Some, Ok, Err, length, map, nat_lt, not, if◌then◌else◌};
+ghost use Rattle.std.specs.Prelude.{◌≡◌, ◌+◌, ◌*◌, ◌-◌, ◌/◌, ◌%◌, ◌<◌, ◌≤◌, ◌^◌, ◌&&◌, ◌||◌, ℕ};
+ghost use Rattle.std.specs.Prelude.{List, None, Some, Ok, Err, length, map, nat_lt, not};
+ghost use Rattle.std.specs.Prelude.{if◌then◌else◌};
 ghost use Rattle.std.specs.Option.{option_map, option_or};
 ghost use Rattle.btf_codec.specs.Fields.{layout_of};
-ghost use Rattle.btf_codec.specs.Reading.{checked, first_past, flag_in, head_of, ids_by, ids_in, is_clean, is_info, is_third, is_vlen, kind_in, may_flag, names_by, names_in, part_width, places, type_width, vlen_in, word_in, words_at, words_fault};
+ghost use Rattle.btf_codec.specs.Reading.{checked, first_past, flag_in, head_of, ids_by, ids_in};
+ghost use Rattle.btf_codec.specs.Reading.{is_clean, is_info, is_third, is_vlen, kind_in, may_flag};
+ghost use Rattle.btf_codec.specs.Reading.{names_by, names_in, part_width, places, type_width};
+ghost use Rattle.btf_codec.specs.Reading.{vlen_in, word_in, words_at, words_fault};
 
 use crate::fault::BtfFault;
 use crate::layout::{Layout, PartLayout, layout_of};

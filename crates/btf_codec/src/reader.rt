@@ -1,8 +1,12 @@
 //! The reader of BTF files.
-ghost use Rattle.std.specs.Prelude.{◌≡◌, ◌+◌, ◌*◌, ◌-◌, ◌/◌, ◌<◌, ◌≤◌, ◌^◌, ◌++◌, ℕ, List, Ok, Err, length, map, take, drop, slice_index_or, is_some, All, IfOk, IsTrue, MatchResult, OnOk, IfSome};
+ghost use Rattle.std.specs.Prelude.{◌≡◌, ◌+◌, ◌*◌, ◌-◌, ◌/◌, ◌<◌, ◌≤◌, ◌^◌, ◌++◌, ℕ, List, Ok, Err};
+ghost use Rattle.std.specs.Prelude.{length, map, take, drop, slice_index_or, is_some, All, IfOk};
+ghost use Rattle.std.specs.Prelude.{IsTrue, MatchResult, OnOk, IfSome};
 ghost use Rattle.std.specs.Option.{option_map};
-ghost use Rattle.btf_codec.specs.Gives.{EndsWithNul, Gives, IsBefore, IsPiece, base_seen, before_of, shown_of, table_over, unless};
-ghost use Rattle.btf_codec.specs.Reading.{file_of, is_wanted, names_before, pieces_fault, table_of, type_shown, types_before, types_of, word_in};
+ghost use Rattle.btf_codec.specs.Gives.{EndsWithNul, Gives, IsBefore, IsPiece, base_seen};
+ghost use Rattle.btf_codec.specs.Gives.{before_of, shown_of, table_over, unless};
+ghost use Rattle.btf_codec.specs.Reading.{file_of, is_wanted, names_before, pieces_fault, table_of};
+ghost use Rattle.btf_codec.specs.Reading.{type_shown, types_before, types_of, word_in};
 ghost use Rattle.btf_codec.specs.Spells.{Spells};
 ghost use Rattle.btf_codec.specs.declared.fault.BtfFault.TheVariants.{Memory};
 ghost use Rattle.btf_codec.specs.declared.table.Table.{Table};
@@ -29,8 +33,10 @@ fn check_words(
 ) -> Result<(), BtfFault>
     requires first { first ≤ 2 ^ 31 }
     requires few { length pieces.now < 2 ^ 30 }
-    requires each { (k : ℕ) (d : Bor (List ℕ)) → k < length pieces.now → IsPiece order (slice_index_or pieces.now k d).now }
-    requires short { (k : ℕ) (d : Bor (List ℕ)) → k < length pieces.now → length (slice_index_or pieces.now k d).now < 2 ^ 32 }
+    requires each { (k : ℕ) (d : Bor (List ℕ)) → k < length pieces.now
+        → IsPiece order (slice_index_or pieces.now k d).now }
+    requires short { (k : ℕ) (d : Bor (List ℕ)) → k < length pieces.now
+        → length (slice_index_or pieces.now k d).now < 2 ^ 32 }
     ensures { result ≡ unless (pieces_fault order 24 first limit count (map (λ p. p.now) pieces.now)) }
 {
     let mut place = 24;
@@ -54,8 +60,10 @@ fn push_types<'a>(
     pieces: &[&[u8]],
 ) -> Result<(), AllocError>
     requires ends { EndsWithNul texts.base.now }
-    requires each { (k : ℕ) (d : Bor (List ℕ)) → k < length pieces.now → IsPiece order (slice_index_or pieces.now k d).now }
-    ensures { OnOk result (all.new.items ≡ all.old.items ++ types_of (texts.entry.base.now ++ texts.entry.own.now) order (map (λ p. p.now) pieces.now)) }
+    requires each { (k : ℕ) (d : Bor (List ℕ)) → k < length pieces.now
+        → IsPiece order (slice_index_or pieces.now k d).now }
+    ensures { OnOk result (all.new.items ≡ all.old.items ++ types_of
+        (texts.entry.base.now ++ texts.entry.own.now) order (map (λ p. p.now) pieces.now)) }
 {
     for piece in pieces {
         all.push(type_shown(alloc, texts, order, piece)?)?;
@@ -81,7 +89,8 @@ struct File<'a> {
     names: &'a [u8],
 }
 
-/// The parts of a file, or its first fault. `types` types come before, and strings of `limit` bytes.
+/// The parts of a file, or its first fault. `types` types come before, and strings of `limit`
+/// bytes.
 fn file_of<'a>(
     alloc: Global,
     based: bool,
@@ -92,7 +101,11 @@ fn file_of<'a>(
 ) -> Result<File<'a>, BtfFault>
     requires types { types < 2 ^ 31 }
     requires limit { limit < 2 ^ 32 }
-    ensures gives { Gives (λ f. record { order = f.order; pieces = map (λ p. p.now) f.pieces.items; names = f.names.now }) result
+    ensures gives { Gives (λ f. record {
+      order = f.order;
+      pieces = map (λ p. p.now) f.pieces.items;
+      names = f.names.now;
+    }) result
         (file_of based types limit want bytes.now) }
     ensures each { IfOk result (λ f. All (λ p. IsPiece f.order p.now) f.pieces.items) }
     ensures few { IfOk result (λ f. length f.pieces.items < 2 ^ 30) }
@@ -136,9 +149,9 @@ fn strings_of<'a>(base: Option<&Table<'a>>) -> &'a [u8]
     }
 }
 
-/// The table that the bytes spell over a base, in the wanted byte order if one is wanted (the kernel's BTF documentation).
-/// Bytes that spell none are refused with their first fault, by the order of the checks, and none are refused that
-/// spell one, unless memory runs out.
+/// The table that the bytes spell over a base, in the wanted byte order if one is wanted (the
+/// kernel's BTF documentation). Bytes that spell none are refused with their first fault, by the
+/// order of the checks, and none are refused that spell one, unless memory runs out.
 pub fn read<'a>(
     alloc: Global,
     bytes: &'a [u8],
@@ -147,17 +160,23 @@ pub fn read<'a>(
 ) -> Result<Table<'a>, BtfFault>
     requires { IfSome base (λ b. IsBefore b.now) }
     // The table, or the first fault by the order of the checks.
-    ensures gives { Gives shown_of result (table_of (option_map (λ b. before_of b.now) base.entry) want bytes.now) }
+    ensures gives { Gives shown_of result
+        (table_of (option_map (λ b. before_of b.now) base.entry) want bytes.now) }
     // The bytes spell the own types and strings over the base.
-    ensures spelled { IfOk result (λ t. Spells (base_seen (option_map (λ b. before_of b.now) base.entry)) t.order (drop t.base t.types) t.names.now bytes.now) }
+    ensures spelled { IfOk result (λ t. Spells (base_seen (option_map
+        (λ b. before_of b.now) base.entry)) t.order (drop t.base t.types) t.names.now bytes.now) }
     // The types of the base come first.
-    ensures first { IfOk result (λ t. take t.base t.types ≡ types_before (option_map (λ b. before_of b.now) base.entry)) }
-    ensures base { IfOk result (λ t. t.base ≡ length (types_before (option_map (λ b. before_of b.now) base.entry))) }
+    ensures first { IfOk result
+        (λ t. take t.base t.types ≡ types_before (option_map (λ b. before_of b.now) base.entry)) }
+    ensures base { IfOk result
+        (λ t. t.base ≡ length (types_before (option_map (λ b. before_of b.now) base.entry))) }
     ensures wanted { IfOk result (λ t. IsTrue (is_wanted want t.order)) }
     // What is spelled in a wanted byte order is read, unless memory runs out.
     ensures complete { (order : Order) (own : List CType) (names : List ℕ) →
-        Spells (base_seen (option_map (λ b. before_of b.now) base.entry)) order own names bytes.now → IsTrue (is_wanted want order) →
-        MatchResult result (λ t. shown_of t ≡ table_over (option_map (λ b. before_of b.now) base.entry) order own names) (λ e. e ≡ Memory) }
+        Spells (base_seen (option_map (λ b. before_of b.now) base.entry)) order own names bytes.now
+        → IsTrue (is_wanted want order) →
+        MatchResult result (λ t. shown_of t ≡ table_over
+        (option_map (λ b. before_of b.now) base.entry) order own names) (λ e. e ≡ Memory) }
 {
     let mut all = types_of(alloc, base)?;
     let before = all.len() as u32;

@@ -1,4 +1,5 @@
-//! What the reader answers of small files, and of files that differ from a good one in a byte or two.
+//! What the reader answers of small files, and of files that differ from a good one in a byte or
+//! two.
 use crate::fault::BtfFault;
 use crate::reader::read;
 use dw_base::Order;

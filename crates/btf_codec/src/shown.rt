@@ -1,8 +1,12 @@
 //! The types that the words of a file show.
-ghost use Rattle.std.specs.Prelude.{◌≡◌, ◌+◌, ◌*◌, ◌-◌, ◌<◌, ◌≤◌, ◌^◌, ◌++◌, ℕ, List, [], ◌∷◌, Some, length, map, OnOk, IfOk, slice_index};
+ghost use Rattle.std.specs.Prelude.{◌≡◌, ◌+◌, ◌*◌, ◌-◌, ◌<◌, ◌≤◌, ◌^◌, ◌++◌, ℕ, List, [], ◌∷◌};
+ghost use Rattle.std.specs.Prelude.{Some, length, map, OnOk, IfOk, slice_index};
 ghost use Rattle.dw_base.specs.Texts.{text_of};
 ghost use Rattle.btf_codec.specs.Gives.{EndsWithNul, IsPiece};
-ghost use Rattle.btf_codec.specs.Reading.{extra_by, ids_by, ids_in, name_at, part_shown, parts_by, parts_shown, part_width, places, ref_of, size_by, type_by, type_shown, type_width, vlen_in, whole_value, word_in, words_at};
+ghost use Rattle.btf_codec.specs.Reading.{extra_by, ids_by, ids_in, name_at, part_shown, parts_by};
+ghost use Rattle.btf_codec.specs.Reading.{parts_shown, part_width, places, ref_of, size_by};
+ghost use Rattle.btf_codec.specs.Reading.{type_by, type_shown, type_width, vlen_in, whole_value};
+ghost use Rattle.btf_codec.specs.Reading.{word_in, words_at};
 
 use crate::layout::{Layout, PartLayout, layout_of};
 use crate::pieces::{flag_in, kind_in, part_width, vlen_in, word_in};
@@ -71,7 +75,8 @@ fn part_shown<'a>(
 ) -> Part<'a>
     requires ends { EndsWithNul texts.base.now }
     requires room { 4 * (at + part_width layout) ≤ length piece.now }
-    ensures { result ≡ part_shown layout (texts.entry.base.now ++ texts.entry.own.now) (word_in order piece.now) at }
+    ensures { result ≡ part_shown layout (texts.entry.base.now ++ texts.entry.own.now)
+        (word_in order piece.now) at }
 {
     match layout {
         PartLayout::Member => Part {
@@ -109,7 +114,8 @@ fn parts_shown<'a>(
     requires ends { EndsWithNul texts.base.now }
     requires few { n < 65536 }
     requires room { 4 * (3 + part_width layout * n) ≤ length piece.now }
-    ensures { IfOk result (λ v. v.items ≡ parts_shown layout (texts.entry.base.now ++ texts.entry.own.now) (word_in order piece.now) n) }
+    ensures { IfOk result (λ v. v.items ≡ parts_shown layout
+        (texts.entry.base.now ++ texts.entry.own.now) (word_in order piece.now) n) }
 {
     let width = part_width(layout);
     let mut parts = Vec::new(alloc);
@@ -134,7 +140,8 @@ fn push_refs(
     requires width { width ≤ 3 }
     requires some { 1 ≤ width }
     requires room { 4 * (at + width * n) ≤ length piece.now + 4 * (width - 1) }
-    ensures { OnOk result (out.new.items ≡ out.old.items ++ map ref_of (words_at (word_in order piece.now) at width n)) }
+    ensures { OnOk result (out.new.items
+        ≡ out.old.items ++ map ref_of (words_at (word_in order piece.now) at width n)) }
 {
     for i in 0..n {
         out.push(ref_of(word_in(order, piece, (at + width * i) as usize)))?;
@@ -180,7 +187,8 @@ fn refs_by(
 ) -> Result<Vec<Ref>, AllocError>
     requires few { vlen < 65536 }
     requires long { length piece.now ≡ 4 * type_width layout vlen }
-    ensures { IfOk result (λ v. v.items ≡ map ref_of (ids_by (Some layout) (word_in order piece.now) vlen)) }
+    ensures { IfOk result
+        (λ v. v.items ≡ map ref_of (ids_by (Some layout) (word_in order piece.now) vlen)) }
 {
     match layout {
         Layout::Int => listed(alloc, &[]),
@@ -217,7 +225,8 @@ fn parts_by<'a>(
     requires ends { EndsWithNul texts.base.now }
     requires few { vlen < 65536 }
     requires long { length piece.now ≡ 4 * type_width layout vlen }
-    ensures { IfOk result (λ v. v.items ≡ parts_by (Some layout) (texts.entry.base.now ++ texts.entry.own.now) (word_in order piece.now) vlen) }
+    ensures { IfOk result (λ v. v.items ≡ parts_by (Some layout)
+        (texts.entry.base.now ++ texts.entry.own.now) (word_in order piece.now) vlen) }
 {
     match layout {
         Layout::Int => Ok(Vec::new(alloc)),
@@ -250,11 +259,12 @@ fn size_by(layout: Layout, order: Order, piece: &[u8]) -> u32
     }
 }
 
-/// What a type has besides: the word of an INT, the linkage of a FUNC or VAR, the elements of an ARRAY, the index of a
-/// DECL_TAG; else 0.
+/// What a type has besides: the word of an INT, the linkage of a FUNC or VAR, the elements of an
+/// ARRAY, the index of a DECL_TAG; else 0.
 fn extra_by(layout: Layout, order: Order, piece: &[u8], vlen: u32) -> u32
     requires { length piece.now ≡ 4 * type_width layout vlen }
-    ensures { vlen ≡ vlen_in (word_in order piece.now 1) → result ≡ extra_by (Some layout) (word_in order piece.now) }
+    ensures { vlen ≡ vlen_in (word_in order piece.now 1)
+        → result ≡ extra_by (Some layout) (word_in order piece.now) }
 {
     match layout {
         Layout::Int => word_in(order, piece, 3),
@@ -285,7 +295,8 @@ fn type_by<'a>(
     requires ends { EndsWithNul texts.base.now }
     requires long { length piece.now ≡ 4 * type_width layout (vlen_in (word_in order piece.now 1)) }
     requires head { 12 ≤ length piece.now }
-    ensures { IfOk result (λ t. t ≡ type_by (Some layout) (texts.entry.base.now ++ texts.entry.own.now) (word_in order piece.now)) }
+    ensures { IfOk result (λ t. t ≡ type_by (Some layout)
+        (texts.entry.base.now ++ texts.entry.own.now) (word_in order piece.now)) }
 {
     let info = word_in(order, piece, 1);
     let vlen = vlen_in(info);
@@ -314,7 +325,8 @@ pub fn type_shown<'a>(
 ) -> Result<CType<'a>, AllocError>
     requires ends { EndsWithNul texts.base.now }
     requires piece { IsPiece order piece.now }
-    ensures { IfOk result (λ t. t ≡ type_shown (texts.entry.base.now ++ texts.entry.own.now) (word_in order piece.now)) }
+    ensures { IfOk result (λ t.
+        t ≡ type_shown (texts.entry.base.now ++ texts.entry.own.now) (word_in order piece.now)) }
 {
     match layout_of(kind_in(word_in(order, piece, 1))) {
         Some(layout) => type_by(alloc, layout, texts, order, piece),

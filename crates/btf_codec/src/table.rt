@@ -3,7 +3,8 @@ use btf_strings::Strings;
 use c_model::Nodes;
 use dw_base::Order;
 
-/// A table as a file spells it. Id 0 is void, and id k is `types[k - 1]`, to which `Ref::Node(k - 1)` refers.
+/// A table as a file spells it. Id 0 is void, and id k is `types[k - 1]`, to which `Ref::Node(k -
+/// 1)` refers.
 #[derive(Debug, Drop)]
 pub struct Table<'a> {
     /// The byte order of the file.

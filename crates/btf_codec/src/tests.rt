@@ -1,4 +1,5 @@
-//! Stored bytes of small tables: worked rows, and each kind written out by hand from the kernel's documentation.
+//! Stored bytes of small tables: worked rows, and each kind written out by hand from the kernel's
+//! documentation.
 ghost use Rattle.std.specs.Prelude.{◌≡◌, ◌<◌, ◌^◌, IsTrue, IfSome, All, length};
 ghost use Rattle.std.specs.List.{flat_map};
 ghost use Rattle.std.specs.Option.{option_copied};

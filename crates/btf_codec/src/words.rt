@@ -1,7 +1,9 @@
 //! Words of 4 bytes.
-ghost use Rattle.std.specs.Prelude.{◌≡◌, ◌<◌, ◌≤◌, ◌+◌, ◌-◌, ◌^◌, ◌%◌, ◌/◌, ◌++◌, ℕ, OnOk, All, drop, unwrap_or};
+ghost use Rattle.std.specs.Prelude.{◌≡◌, ◌<◌, ◌≤◌, ◌+◌, ◌-◌, ◌^◌, ◌%◌, ◌/◌, ◌++◌, ℕ, OnOk, All};
+ghost use Rattle.std.specs.Prelude.{drop, unwrap_or};
 ghost use Rattle.c_model.specs.Graph.{IsBelow};
-ghost use Rattle.btf_codec.specs.Fields.{bit_of, high_of, id_of, info_of, low_of, target_at, vlen_of};
+ghost use Rattle.btf_codec.specs.Fields.{bit_of, high_of, id_of, info_of, low_of, target_at};
+ghost use Rattle.btf_codec.specs.Fields.{vlen_of};
 ghost use Rattle.btf_codec.specs.Spells.{half_bytes, word_bytes, words_bytes};
 ghost use Rattle.btf_strings.specs.Names.{offset_of};
 

@@ -1,9 +1,11 @@
 //! The writer of BTF files.
-ghost use Rattle.std.specs.Prelude.{◌≡◌, ◌<◌, ◌≤◌, ◌+◌, ◌*◌, ◌-◌, ◌^◌, ◌∷◌, ◌++◌, ℕ, List, [], length, drop, None, OnOk, IfOk, All};
+ghost use Rattle.std.specs.Prelude.{◌≡◌, ◌<◌, ◌≤◌, ◌+◌, ◌*◌, ◌-◌, ◌^◌, ◌∷◌, ◌++◌, ℕ, List, []};
+ghost use Rattle.std.specs.Prelude.{length, drop, None, OnOk, IfOk, All};
 ghost use Rattle.std.specs.List.{flat_map};
 ghost use Rattle.c_model.specs.Graph.{IsBelow, RefersWithin};
 ghost use Rattle.c_model.specs.Kinds.{IsWellFormed};
-ghost use Rattle.btf_codec.specs.Fields.{fields_of, id_of, info_of, part_fields, parts_fields, rest_fields, vlen_of};
+ghost use Rattle.btf_codec.specs.Fields.{fields_of, id_of, info_of, part_fields, parts_fields};
+ghost use Rattle.btf_codec.specs.Fields.{rest_fields, vlen_of};
 ghost use Rattle.btf_codec.specs.Spells.{Spells, header_bytes, words_bytes};
 ghost use Rattle.btf_codec.specs.Spelling.{HasOffsets, base_of, spelling_of, types_words, words_of};
 ghost use Rattle.btf_strings.specs.Names.{own_section};
@@ -21,12 +23,12 @@ use c_model::{CType, Part, Ref};
 use dw_base::{Bytes, Order};
 use std::alloc::{AllocError, Global};
 
-/// The bytes of a table's own types and own strings, behind a header (the kernel's BTF documentation, "BTF Header").
-/// Where the own types are well formed, the bytes spell the table, each name at the offset that the strings give it,
-/// and no other table.
+/// The bytes of a table's own types and own strings, behind a header (the kernel's BTF
+/// documentation, "BTF Header"). Where the own types are well formed, the bytes spell the table,
+/// each name at the offset that the strings give it, and no other table.
 ///
-/// Each name of an own type and of its parts has been put into the table's strings, references are below the number
-/// of types, and own types and strings together have fewer than 2^32 bytes.
+/// Each name of an own type and of its parts has been put into the table's strings, references are
+/// below the number of types, and own types and strings together have fewer than 2^32 bytes.
 pub fn write(alloc: Global, table: &TableOut<'_>, order: Order) -> Result<Bytes, AllocError>
     requires few { length table.now.types < 2 ^ 32 }
     requires base { table.now.base ≤ length table.now.types }
@@ -39,11 +41,13 @@ pub fn write(alloc: Global, table: &TableOut<'_>, order: Order) -> Result<Bytes,
     // A table over base types has strings over the base's.
     ensures spells { IfOk result (λ b. All IsWellFormed (drop table.now.base table.now.types) →
         (table.now.strings.base ≡ None → table.now.base ≡ 0) →
-        Spells (base_of table.now.base table.now.strings.base) order (drop table.now.base table.now.types)
+        Spells (base_of table.now.base table.now.strings.base) order
+        (drop table.now.base table.now.types)
         (own_section table.now.strings) b) }
     // The bytes spell no other table over that base.
     ensures only { IfOk result (λ b. All IsWellFormed (drop table.now.base table.now.types) →
-        (table.now.strings.base ≡ None → table.now.base ≡ 0) → (types : List CType) (names : List ℕ) →
+        (table.now.strings.base ≡ None → table.now.base ≡ 0)
+        → (types : List CType) (names : List ℕ) →
         Spells (base_of table.now.base table.now.strings.base) order types names b →
         (types ≡ drop table.now.base table.now.types) × (names ≡ own_section table.now.strings)) }
 {
@@ -57,7 +61,8 @@ pub fn write(alloc: Global, table: &TableOut<'_>, order: Order) -> Result<Bytes,
     Ok(Bytes::new(out))
 }
 
-/// The header: magic, version 1, no flags, its own length, and then the places of types and strings.
+/// The header: magic, version 1, no flags, its own length, and then the places of types and
+/// strings.
 fn put_header(out: &mut Vec<u8>, order: Order, types: u32, names: u32) -> Result<(), AllocError>
     ensures { OnOk result (out.new.items ≡ out.old.items ++ header_bytes order types names) }
 {
@@ -151,7 +156,8 @@ fn put_type(
 ) -> Result<(), AllocError>
     requires { All (IsBelow (2 ^ 32 - 1)) t.now.targets }
     ensures { OnOk result (vlen_of t.now.label ≤ 65535 → t.now.label.kind < 32 →
-        out.new.items ≡ out.old.items ++ words_bytes order (words_of strings.now (fields_of t.now))) }
+        out.new.items
+        ≡ out.old.items ++ words_bytes order (words_of strings.now (fields_of t.now))) }
 {
     let name = offset_in(strings, &t.label.name);
     let info = info(&t.label);

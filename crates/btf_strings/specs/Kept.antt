@@ -1,5 +1,6 @@
 -- What a table of names keeps.
-use Rattle.std.specs.Prelude.{◌≡◌, ℕ, ◌+◌, ◌<◌, ◌≤◌, ◌^◌, List, [], ◌∷◌, length, map, Option, ⊤, IfSome, slice_get, None, Some, if◌then◌else◌}
+use Rattle.std.specs.Prelude.{◌≡◌, ℕ, ◌+◌, ◌<◌, ◌≤◌, ◌^◌, List, [], ◌∷◌, length, map, Option, ⊤}
+use Rattle.std.specs.Prelude.{IfSome, slice_get, None, Some, if◌then◌else◌}
 use Rattle.std.specs.Option.{option_or}
 use Rattle.std.specs.Map.{lookup}
 use Rattle.std.specs.Str.{bytes_eq}
@@ -16,7 +17,8 @@ value_of name entries = lookup (λ (k : Bor (List ℕ)). bytes_eq name k.now) en
 
 -- a string is noted with its place, unless it was noted before
 abbrev pub Notes : List (Bor (List ℕ) × ℕ) → List (Bor (List ℕ) × ℕ) → List ℕ → ℕ → Type 0
-Notes old new text at = (name : List ℕ) → value_of name new ≡ option_or (value_of name old) (if bytes_eq name text then Some at else None)
+Notes old new text at = (name : List ℕ) → value_of name new
+    ≡ option_or (value_of name old) (if bytes_eq name text then Some at else None)
 
 -- the values are the offsets of names that stand one after another, and none is past the last
 abbrev pub ArePlaced : ℕ → List (Bor (List ℕ) × ℕ) → Type 0
@@ -34,7 +36,8 @@ pub record IsSound (t : Names) : Type 0 where
   pub narrow : (name : List ℕ) (at : ℕ) → offset_of t name ≡ Some at → at < 2 ^ 32
 
 -- what holds of the parts of each table of names
-pub record IsKept (base : Option (List ℕ)) (held : List (Bor (List ℕ) × ℕ)) (own : List ℕ) (places : List (Bor (List ℕ) × ℕ)) : Type 0 where
+pub record IsKept (base : Option (List ℕ)) (held : List (Bor (List ℕ) × ℕ)) (own : List ℕ)
+    (places : List (Bor (List ℕ) × ℕ)) : Type 0 where
   pub section : IfSome base IsSection
   pub index : (name : List ℕ) → value_of name held ≡ base_offset base name
   pub bytes : own ≡ own_section (record { base = base; own = names_of places })

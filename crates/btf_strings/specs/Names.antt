@@ -1,11 +1,14 @@
 -- The names of a table and their offsets (the Linux kernel's BTF documentation, "String Encoding").
-use Rattle.std.specs.Prelude.{ℕ, zero, suc, ◌+◌, ◌==◌, ◌≢◌, ◌&&◌, Bool, true, false, List, [], ◌∷◌, ◌++◌, length, filter, All, not, is_none, slice_index_or, is_some, Option, None, Some, if◌then◌else◌}
+use Rattle.std.specs.Prelude.{ℕ, zero, suc, ◌+◌, ◌==◌, ◌≢◌, ◌&&◌, Bool, true, false, List, [], ◌∷◌}
+use Rattle.std.specs.Prelude.{◌++◌, length, filter, All, not, is_none, slice_index_or, is_some}
+use Rattle.std.specs.Prelude.{Option, None, Some, if◌then◌else◌}
 use Rattle.std.specs.List.{flat_map}
 use Rattle.std.specs.Option.{option_or}
 use Rattle.std.specs.Str.{bytes_eq}
 use Rattle.dw_base.specs.Texts.{text_of}
 
--- the base's section, where the table has a base, and the names that have a place in the own section, in order
+-- the base's section, where the table has a base, and the names that have a place in the own
+-- section, in order
 pub record Names : Type 0 where
   pub base : Option (List ℕ)
   pub own : List (List ℕ)
@@ -15,7 +18,8 @@ abbrev pub base_section : Option (List ℕ) → List ℕ
 base_section None = []
 base_section (Some section) = section
 
--- without a base the own section begins with the empty string, one NUL; with one it begins with nothing
+-- without a base the own section begins with the empty string, one NUL; with one it begins with
+-- nothing
 abbrev pub first_string : Option (List ℕ) → List ℕ
 first_string None = 0 ∷ []
 first_string (Some section) = []
@@ -45,7 +49,8 @@ abbrev pub is_text : List ℕ → Option (List ℕ) → Bool
 is_text name None = false
 is_text name (Some text) = bytes_eq name text
 
--- the name is a whole string of the section: a string begins there, and the text up to the next NUL is the name
+-- the name is a whole string of the section: a string begins there, and the text up to the next NUL
+-- is the name
 abbrev pub stands_whole : List ℕ → List ℕ → ℕ → Bool
 stands_whole section name at = begins_string section at && is_text name (text_of section at)
 
@@ -59,19 +64,23 @@ abbrev pub base_offset : Option (List ℕ) → List ℕ → Option ℕ
 base_offset None name = None
 base_offset (Some section) name = least_below (stands_whole section name) (length section)
 
--- the offset of a name among names that stand one after another from an offset on, each with its NUL
+-- the offset of a name among names that stand one after another from an offset on, each with its
+-- NUL
 unfoldable pub offset_among : ℕ → List (List ℕ) → List ℕ → Option ℕ
 offset_among at [] name = None
-offset_among at (n ∷ ns) name = if bytes_eq name n then Some at else offset_among (at + length n + 1) ns name
+offset_among at (n ∷ ns) name =
+    if bytes_eq name n then Some at else offset_among (at + length n + 1) ns name
 
 -- where the own names begin
 abbrev pub first_offset : Option (List ℕ) → ℕ
 first_offset base = length (base_section base) + length (first_string base)
 
--- the empty name has 0, a name that the base holds its least offset there, and an own name the place where it stands
+-- the empty name has 0, a name that the base holds its least offset there, and an own name the
+-- place where it stands
 unfoldable pub offset_of : Names → List ℕ → Option ℕ
 offset_of t [] = Some 0
-offset_of t (b ∷ bs) = option_or (base_offset t.base (b ∷ bs)) (offset_among (first_offset t.base) t.own (b ∷ bs))
+offset_of t (b ∷ bs) =
+    option_or (base_offset t.base (b ∷ bs)) (offset_among (first_offset t.base) t.own (b ∷ bs))
 
 abbrev pub is_empty : List ℕ → Bool
 is_empty [] = true

@@ -1,4 +1,5 @@
-//! The names of a BTF table and their string section (the Linux kernel's BTF documentation, "String Encoding").
+//! The names of a BTF table and their string section (the Linux kernel's BTF documentation, "String
+//! Encoding").
 #![tactic(auto)]
 
 pub mod fault;

@@ -1,7 +1,10 @@
 //! The strings of a table.
-ghost use Rattle.std.specs.Prelude.{◌≡◌, ◌+◌, ◌<◌, ◌≤◌, ◌^◌, ℕ, List, [], ◌∷◌, ◌++◌, None, Some, Ok, Err, length, IfOk, IfSome, OnOk, OnErr, IsErrOf};
+ghost use Rattle.std.specs.Prelude.{◌≡◌, ◌+◌, ◌<◌, ◌≤◌, ◌^◌, ℕ, List, [], ◌∷◌, ◌++◌, None, Some};
+ghost use Rattle.std.specs.Prelude.{Ok, Err, length, IfOk, IfSome, OnOk, OnErr, IsErrOf};
 ghost use Rattle.std.specs.Option.{option_copied};
-ghost use Rattle.btf_strings.specs.Names.{HasNoNul, all_strings, base_offset, first_string, next_offset, offset_of, own_names, own_section, with_name};
+ghost use Rattle.btf_strings.specs.Names.{HasNoNul, all_strings, base_offset, first_string};
+ghost use Rattle.btf_strings.specs.Names.{next_offset, offset_of, own_names, own_section};
+ghost use Rattle.btf_strings.specs.Names.{with_name};
 ghost use Rattle.btf_strings.specs.Kept.{IsSection, IsSound, Notes, value_of};
 ghost use Rattle.dw_base.specs.Texts.{text_of};
 
@@ -11,12 +14,13 @@ use indexmap::IndexMap;
 use std::alloc::{AllocError, Global};
 use std::marker::Model;
 
-/// The last offset that a new name may have, in bytes from the beginning of the base's strings (the kernel's
+/// The last offset that a new name may have, in bytes from the beginning of the base's strings (the
+/// kernel's
 /// `BTF_MAX_NAME_OFFSET`).
 pub const LAST_OFFSET: u64 = 0x00ff_ffff;
 
-/// The names of a table with their string section. Contracts see it as the base's section and the names that have
-/// a place in the own section, in order.
+/// The names of a table with their string section. Contracts see it as the base's section and the
+/// names that have a place in the own section, in order.
 #[derive(Drop)]
 pub struct Strings<'a> {
     base: Option<&'a [u8]>,
@@ -40,8 +44,8 @@ impl<'a> Model for Strings<'a> {
 }
 
 impl<'a> Strings<'a> {
-    /// The strings of a table without names. `base` is the string section of the table that the new one goes on
-    /// from, where there is one: offsets then count on from its length.
+    /// The strings of a table without names. `base` is the string section of the table that the new
+    /// one goes on from, where there is one: offsets then count on from its length.
     pub fn new(alloc: Global, base: Option<&'a [u8]>) -> Result<Strings<'a>, AllocError>
         requires { IfSome (option_copied base) IsSection }
         ensures { IfOk result (λ s. s ≡ record { base = option_copied base.entry; own = [] }) }
@@ -54,15 +58,17 @@ impl<'a> Strings<'a> {
         })
     }
 
-    /// The offset of a name, in bytes from the beginning of the base's strings. A name without one is appended to
-    /// the own section with a NUL. A refused name changes nothing.
+    /// The offset of a name, in bytes from the beginning of the base's strings. A name without one
+    /// is appended to the own section with a NUL. A refused name changes nothing.
     pub fn put(&mut self, name: Name<'a>) -> Result<u32, StringsFault>
         ensures ok { OnOk result (self.new ≡ with_name self.old name.entry) }
         ensures offset { IfOk result (λ at. offset_of self.new name.entry ≡ Some at) }
         // A new name's offset doesn't pass the last.
-        ensures room { OnOk result (offset_of self.old name.entry ≡ None → next_offset self.old ≤ LAST_OFFSET) }
+        ensures room { OnOk result (offset_of self.old name.entry ≡ None
+            → next_offset self.old ≤ LAST_OFFSET) }
         ensures full { (at : ℕ) → IsErrOf result (StringsFault.Full at) →
-            (offset_of self.old name.entry ≡ None) × (at ≡ next_offset self.old) × (LAST_OFFSET < at) }
+            (offset_of self.old name.entry ≡ None) × (at ≡ next_offset self.old)
+            × (LAST_OFFSET < at) }
         ensures err { OnErr result (self.new ≡ self.old) }
         // A name keeps its offset.
         ensures kept { (other : List ℕ) (at : ℕ) → offset_of self.old other ≡ Some at →
@@ -83,12 +89,13 @@ impl<'a> Strings<'a> {
         Ok(at as u32)
     }
 
-    /// The offset of a name, in bytes from the beginning of the base's strings. `None` exactly where the name has
-    /// none so far.
+    /// The offset of a name, in bytes from the beginning of the base's strings. `None` exactly
+    /// where the name has none so far.
     pub fn offset_of(&self, name: Name<'_>) -> Option<u32>
         ensures value { result ≡ offset_of self.now name.entry }
         // The text there is the name.
-        ensures text { HasNoNul name.entry → IfSome result (λ at. text_of (all_strings self.now) at ≡ Some name.entry) }
+        ensures text { HasNoNul name.entry
+            → IfSome result (λ at. text_of (all_strings self.now) at ≡ Some name.entry) }
     {
         // A struct's invariant is known once a field is used.
         let _ = &self.base;
@@ -152,7 +159,8 @@ fn begun(alloc: Global, base: Option<&[u8]>) -> Result<Vec<u8>, AllocError>
 /// The least offset of each whole string of the base's section.
 fn held_by<'a>(alloc: Global, base: Option<&'a [u8]>) -> Result<IndexMap<&'a [u8], u32>, AllocError>
     requires { IfSome base (λ b. length b.now < 2 ^ 32) }
-    ensures { IfOk result (λ m. (name : List ℕ) → value_of name m.entries ≡ base_offset (option_copied base.entry) name) }
+    ensures { IfOk result (λ m. (name : List ℕ)
+        → value_of name m.entries ≡ base_offset (option_copied base.entry) name) }
 {
     match base {
         Some(section) => index_of(alloc, section),
@@ -163,7 +171,8 @@ fn held_by<'a>(alloc: Global, base: Option<&'a [u8]>) -> Result<IndexMap<&'a [u8
 /// The least offset of each whole string of a section.
 fn index_of<'a>(alloc: Global, section: &'a [u8]) -> Result<IndexMap<&'a [u8], u32>, AllocError>
     requires { length section.now < 2 ^ 32 }
-    ensures { IfOk result (λ m. (name : List ℕ) → value_of name m.entries ≡ base_offset (Some section.now) name) }
+    ensures { IfOk result
+        (λ m. (name : List ℕ) → value_of name m.entries ≡ base_offset (Some section.now) name) }
 {
     let mut held = IndexMap::new(alloc);
     let mut at: u32 = 0;

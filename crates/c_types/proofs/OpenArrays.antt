@@ -15,16 +15,19 @@ use Rattle.c_types.specs.Opened.{all_lengths, array_by, array_made, array_refuse
 use Rattle.type_attributes.proofs.Noting.{noted_append}
 use Rattle.c_types.proofs.Lengthening.{extends, refused_is, elements_are}
 
-pub made_is : (o : OpenArray) (kids : List Given) → array_made o kids ≡ array_by o (all_lengths o kids)
+pub made_is : (o : OpenArray) (kids : List Given)
+    → array_made o kids ≡ array_by o (all_lengths o kids)
 unfolding array_made
 made_is o kids = refl
 
-pub refused_by_length : (o : OpenArray) (kids : List Given) → array_refused o kids ≡ noted o.least (refuse_if (is_too_long (all_lengths o kids)) (ArrayLength o.at))
+pub refused_by_length : (o : OpenArray) (kids : List Given) → array_refused o kids
+    ≡ noted o.least (refuse_if (is_too_long (all_lengths o kids)) (ArrayLength o.at))
 unfolding array_refused
 refused_by_length o kids = refl
 
 -- a child is met
-module _ (e : Given) (o p : OpenArray) (kids : List Given) (g : p.lengths ≡ extended o.lengths (made_if 0x21 subrange_length e)) (at : p.at ≡ o.at) where
+module _ (e : Given) (o p : OpenArray) (kids : List Given)
+    (g : p.lengths ≡ extended o.lengths (made_if 0x21 subrange_length e)) (at : p.at ≡ o.at) where
   lengths_met : all_lengths p kids ≡ all_lengths o (e ∷ kids)
   lengths_met = extends o.lengths p.lengths (all_lengths o (e ∷ kids)) (e ∷ kids) kids e refl g refl
 
@@ -32,19 +35,24 @@ module _ (e : Given) (o p : OpenArray) (kids : List Given) (g : p.lengths ≡ ex
   array_met target = made_is p kids ∙ rw (lengths_met, at, target) (sym (made_is o (e ∷ kids)))
 
   pub array_met_refused : p.least ≡ o.least → array_refused p kids ≡ array_refused o (e ∷ kids)
-  array_met_refused least = refused_by_length p kids ∙ rw (lengths_met, at, least) (sym (refused_by_length o (e ∷ kids)))
+  array_met_refused least =
+      refused_by_length p kids ∙ rw (lengths_met, at, least) (sym (refused_by_length o (e ∷ kids)))
 
 -- an array begins
 pub record IsFresh (c : Sections) (e : Given) (o : OpenArray) : Type 0 where
   pub at : o.at ≡ e.at
   pub target : o.target ≡ target_of_type e.at (target_asked c e)
   pub lengths : o.lengths ≡ start
-  pub least : o.least ≡ noted None ((target_asked c e).refused ++ refuse_if (not (has 0x49 e)) (MissingType e.at))
+  pub least : o.least
+      ≡ noted None ((target_asked c e).refused ++ refuse_if (not (has 0x49 e)) (MissingType e.at))
 
-pub array_comes : (s : Scope) (e : Given) (o : OpenArray) → IsFresh s.sections e o → ComesTo s (Array o) (array_row s.sections e)
+pub array_comes : (s : Scope) (e : Given) (o : OpenArray) → IsFresh s.sections e o
+    → ComesTo s (Array o) (array_row s.sections e)
 array_comes s e o h =
     record {
-      made = λ kids. made_is o kids ∙ rw (h.at, h.target, h.lengths, elements_are (lengths_of kids)) refl;
+      made = λ kids. made_is o kids
+          ∙ rw (h.at, h.target, h.lengths, elements_are (lengths_of kids)) refl;
       refused = λ kids.
-          refused_by_length o kids ∙ rw (h.at, h.lengths, h.least, refused_is (lengths_of kids)) (simp noted_append);
+          refused_by_length o kids
+          ∙ rw (h.at, h.lengths, h.least, refused_is (lengths_of kids)) (simp noted_append);
     }

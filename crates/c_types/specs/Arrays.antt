@@ -1,5 +1,8 @@
--- Arrays (DWARF 5, sections 5.5 and 5.13): the elements of all dimensions, the product of the lengths of the subranges.
-use Rattle.std.specs.Prelude.{ℕ, ◌+◌, ◌*◌, ◌-◌, ◌^◌, nat_lt, ◌==◌, ◌||◌, not, Bool, true, false, ℤ, List, [], ◌∷◌, ◌++◌, map, Option, None, Some, Result, Ok, Err, if◌then◌else◌}
+-- Arrays (DWARF 5, sections 5.5 and 5.13): the elements of all dimensions, the product of the
+-- lengths of the subranges.
+use Rattle.std.specs.Prelude.{ℕ, ◌+◌, ◌*◌, ◌-◌, ◌^◌, nat_lt, ◌==◌, ◌||◌, not, Bool, true, false, ℤ}
+use Rattle.std.specs.Prelude.{List, [], ◌∷◌, ◌++◌, map, Option, None, Some, Result, Ok, Err}
+use Rattle.std.specs.Prelude.{if◌then◌else◌}
 use Rattle.dwarf_forms.specs.declared.fault.FormFault.{FormFault}
 use Rattle.c_model.specs.declared.label.Label.{Label}
 use Rattle.dwarf_forms.specs.Values.{Shown}
@@ -25,21 +28,25 @@ abbrev pub bound_in : ℕ → Option Shown → Option Number
 bound_in attribute None = None
 bound_in attribute (Some v) = bound_by (constant_in attribute v)
 
--- the length that a count gives, None for a negative one; no constant, -1 and 2^64 - 1 stand for a length that is not known, and give 0
+-- the length that a count gives, None for a negative one; no constant, -1 and 2^64 - 1 stand for a
+-- length that is not known, and give 0
 abbrev pub length_of_count : Option Number → Option ℕ
 length_of_count None = Some 0
 length_of_count (Some (Natural n)) = if n == 2 ^ 64 - 1 then Some 0 else Some n
 length_of_count (Some (Negative n)) = if n == 0 then Some 0 else None
 
--- and that an upper bound gives, which is one more; -1, 2^32 - 1 and 2^64 - 1 stand for one that is not known
+-- and that an upper bound gives, which is one more; -1, 2^32 - 1 and 2^64 - 1 stand for one that is
+-- not known
 abbrev pub length_of_bound : Option Number → Option ℕ
 length_of_bound None = Some 0
-length_of_bound (Some (Natural n)) = if n == 2 ^ 32 - 1 || n == 2 ^ 64 - 1 then Some 0 else Some (n + 1)
+length_of_bound (Some (Natural n)) =
+    if n == 2 ^ 32 - 1 || n == 2 ^ 64 - 1 then Some 0 else Some (n + 1)
 length_of_bound (Some (Negative n)) = if n == 0 then Some 0 else None
 
 -- a subrange has the length of its count (0x37), if it has one, or of its upper bound (0x2f)
 abbrev pub subrange_length : Given → Option ℕ
-subrange_length e = if has 0x37 e then length_of_count (bound_in 0x37 (value_with 0x37 e.values)) else length_of_bound (bound_in 0x2f (value_with 0x2f e.values))
+subrange_length e = if has 0x37 e then length_of_count (bound_in 0x37 (value_with 0x37 e.values))
+    else length_of_bound (bound_in 0x2f (value_with 0x2f e.values))
 
 -- a length is negative or passes 32 bits
 abbrev pub is_long : Option ℕ → Bool
@@ -70,7 +77,8 @@ abbrev pub is_refused : List (Option ℕ) → Bool
 is_refused lengths = some_long lengths || not (nat_lt (elements_of lengths) (2 ^ 32))
 
 abbrev pub array_label : ℕ → Label
-array_label elements = record { kind = 3; name = []; flag = false; size = 0; extra = elements; parts = [] }
+array_label elements =
+    record { kind = 3; name = []; flag = false; size = 0; extra = elements; parts = [] }
 
 -- the number of elements where it fits
 abbrev pub elements_in : List (Option ℕ) → ℕ
@@ -82,6 +90,8 @@ array_row c e children =
     let target = target_asked c e in
     let lengths = lengths_of children in
     record {
-      made = type_of e (array_label (elements_in lengths)) (target_of_type e.at target ∷ Index ∷ []);
-      refused = target.refused ++ (refuse_if (not (has 0x49 e)) (MissingType e.at) ++ refuse_if (is_refused lengths) (ArrayLength e.at));
+      made =
+          type_of e (array_label (elements_in lengths)) (target_of_type e.at target ∷ Index ∷ []);
+      refused = target.refused ++ (refuse_if (not (has 0x49 e)) (MissingType e.at)
+          ++ refuse_if (is_refused lengths) (ArrayLength e.at));
     }

@@ -1,5 +1,7 @@
--- Enumerations (DWARF 5, section 5.7): declared ones, and those with a name and no enumerators, are enumerations of 4 bytes without enumerators.
-use Rattle.std.specs.Prelude.{ℕ, ℤ, ◌-◌, ◌%◌, ◌^◌, nat_lt, ◌==◌, ◌&&◌, ◌||◌, not, Bool, true, false, List, [], ◌∷◌, ◌++◌, length, map, Option, None, Some, if◌then◌else◌}
+-- Enumerations (DWARF 5, section 5.7): declared ones, and those with a name and no enumerators, are
+-- enumerations of 4 bytes without enumerators.
+use Rattle.std.specs.Prelude.{ℕ, ℤ, ◌-◌, ◌%◌, ◌^◌, nat_lt, ◌==◌, ◌&&◌, ◌||◌, not, Bool, true, false}
+use Rattle.std.specs.Prelude.{List, [], ◌∷◌, ◌++◌, length, map, Option, None, Some, if◌then◌else◌}
 use Rattle.c_model.specs.declared.label.Label.{Label}
 use Rattle.c_model.specs.declared.label.Part.{Part}
 use Rattle.dwarf_forms.specs.Meanings.{Sections}
@@ -7,10 +9,13 @@ use Rattle.entry_tree.specs.Items.{Given}
 use Rattle.type_attributes.specs.declared.number.Number.{Number}
 use Rattle.type_attributes.specs.declared.number.Number.TheVariants.{Natural, Negative}
 use Rattle.type_attributes.specs.declared.fault.TypeFault.{TypeFault}
-use Rattle.type_attributes.specs.declared.fault.TypeFault.TheVariants.{MissingName, MissingSize, UnnamedForward, EnumSize, EnumValue, TooMany}
+use Rattle.type_attributes.specs.declared.fault.TypeFault.TheVariants.{MissingName, MissingSize}
+use Rattle.type_attributes.specs.declared.fault.TypeFault.TheVariants.{UnnamedForward, EnumSize}
+use Rattle.type_attributes.specs.declared.fault.TypeFault.TheVariants.{EnumValue, TooMany}
 use Rattle.type_attributes.specs.Faults.{refuse_if}
 use Rattle.type_attributes.specs.Numbers.{number_from}
-use Rattle.type_attributes.specs.Attributes.{name_asked, name_in_full, constant_asked, number_said, flag_asked, is_set}
+use Rattle.type_attributes.specs.Attributes.{name_asked, name_in_full, constant_asked, number_said}
+use Rattle.type_attributes.specs.Attributes.{flag_asked, is_set}
 use Rattle.type_attributes.specs.Children.{tagged}
 use Rattle.type_attributes.specs.Labels.{Row, type_of, is_empty, size_in}
 use Rattle.type_attributes.specs.Parts.{part_of, refused_by, some_is, some_tagged, most}
@@ -24,9 +29,11 @@ negative other = false
 abbrev pub is_negative : Given → Bool
 is_negative e = negative (number_said (constant_asked 0x1c e))
 
--- the numbers below which values are, and their opposites at or above which: an eighth byte makes 64 bits of them
+-- the numbers below which values are, and their opposites at or above which: an eighth byte makes
+-- 64 bits of them
 abbrev pub top : Bool → Bool → ℕ
-top wide signed = if wide then (if signed then 2 ^ 63 else 2 ^ 64) else (if signed then 2 ^ 31 else 2 ^ 32)
+top wide signed =
+    if wide then (if signed then 2 ^ 63 else 2 ^ 64) else (if signed then 2 ^ 31 else 2 ^ 32)
 
 abbrev pub is_in_range : Bool → Bool → Number → Bool
 is_in_range wide signed (Natural n) = nat_lt n (top wide signed)
@@ -49,13 +56,15 @@ residue_in wide None = 0
 residue_in wide (Some n) = residue wide n
 
 abbrev pub enumerator_part : Sections → Bool → Given → Part
-enumerator_part c wide e = part_of (name_in_full (name_asked c e)) (residue_in wide (number_said (constant_asked 0x1c e)))
+enumerator_part c wide e =
+    part_of (name_in_full (name_asked c e)) (residue_in wide (number_said (constant_asked 0x1c e)))
 
 abbrev pub enumerator_refused : Sections → Bool → Bool → Given → List TypeFault
 enumerator_refused c wide signed e =
     (name_asked c e).refused
     ++ (refuse_if (is_empty (name_in_full (name_asked c e))) (MissingName e.at)
-    ++ ((constant_asked 0x1c e).refused ++ value_refused e.at wide signed (number_said (constant_asked 0x1c e))))
+    ++ ((constant_asked 0x1c e).refused
+    ++ value_refused e.at wide signed (number_said (constant_asked 0x1c e))))
 
 -- its size is 1, 2, 4 or 8
 abbrev pub is_size : ℕ → Bool
@@ -70,7 +79,14 @@ enum_size_refused at None = MissingSize at ∷ []
 enum_size_refused at (Some z) = refuse_if (not (fits_size (number_from z))) (EnumSize at z)
 
 abbrev pub enumeration_label : Bool → List ℕ → Bool → ℕ → List Part → Label
-enumeration_label wide name signed size parts = record { kind = if wide then 19 else 6; name = name; flag = signed; size = size; extra = 0; parts = parts }
+enumeration_label wide name signed size parts = record {
+  kind = if wide then 19 else 6;
+  name = name;
+  flag = signed;
+  size = size;
+  extra = 0;
+  parts = parts;
+}
 
 -- the size that is given, and one of 8 bytes makes an ENUM64
 abbrev pub enumerated_row : List ℕ → Given → Sections → Bool → List Given → Row
@@ -78,11 +94,13 @@ enumerated_row name e c signed enumerators =
     let size = constant_asked 0x0b e in
     let wide = size_in size.said == 8 in
     record {
-      made = type_of e (enumeration_label wide name signed (size_in size.said) (map (enumerator_part c wide) enumerators)) [];
+      made = type_of e (enumeration_label wide name signed (size_in size.said)
+          (map (enumerator_part c wide) enumerators)) [];
       refused =
           size.refused
           ++ (enum_size_refused e.at size.said
-          ++ (refused_by (enumerator_refused c wide signed) enumerators ++ refuse_if (nat_lt most (length enumerators)) (TooMany e.at (length enumerators))));
+          ++ (refused_by (enumerator_refused c wide signed) enumerators
+          ++ refuse_if (nat_lt most (length enumerators)) (TooMany e.at (length enumerators))));
     }
 
 -- one without enumerators, and in a declaration a name is needed
@@ -95,7 +113,8 @@ bare_row name e declared =
 
 -- it is declared, or has a name and no enumerators
 abbrev pub is_bare : Bool → List ℕ → List Given → Bool
-is_bare declared name children = declared || (not (some_tagged 0x28 children) && not (is_empty name))
+is_bare declared name children =
+    declared || (not (some_tagged 0x28 children) && not (is_empty name))
 
 -- where a value is negative, the enumeration is signed
 abbrev pub enumeration_row : Sections → Given → List Given → Row
@@ -105,4 +124,5 @@ enumeration_row c e children =
     with_refused (declared.refused ++ name.refused)
     (if is_bare (is_set declared) (name_in_full name) children
     then bare_row (name_in_full name) e (is_set declared)
-    else enumerated_row (name_in_full name) e c (some_is is_negative (tagged 0x28 children)) (tagged 0x28 children))
+    else enumerated_row (name_in_full name) e c (some_is is_negative (tagged 0x28 children))
+    (tagged 0x28 children))

@@ -1,4 +1,5 @@
--- What every type of a unit is, once its targets are linked: well formed, and of a declaration no more than it declares.
+-- What every type of a unit is, once its targets are linked: well formed, and of a declaration no
+-- more than it declares.
 use Rattle.std.specs.Prelude.{◌≡◌, ℕ, true, false, List, [], length, Some, All}
 use Rattle.c_model.specs.declared.label.Label.{Label}
 use Rattle.c_model.specs.declared.label.Family.TheVariants.{Structure, Union, Enumeration}
@@ -15,10 +16,13 @@ declaration_label (Structure, name) = forward_label false name
 declaration_label (Union, name) = forward_label true name
 declaration_label (Enumeration, name) = enumeration_label false name false 4 []
 
--- a label with so many targets is of a well-formed type whatever they refer to, and where it declares a tag, it is that declaration's, without targets
+-- a label with so many targets is of a well-formed type whatever they refer to, and where it
+-- declares a tag, it is that declaration's, without targets
 pub record IsFormed (label : Label) (targets : ℕ) : Type 0 where
-  pub well : (refs : List Ref) → length refs ≡ targets → IsWellFormed (record { label = label; targets = refs })
-  pub declares : (tag : Tag) → declared_tag label ≡ Some tag → (label ≡ declaration_label tag) × (targets ≡ 0)
+  pub well : (refs : List Ref) → length refs ≡ targets
+      → IsWellFormed (record { label = label; targets = refs })
+  pub declares : (tag : Tag) → declared_tag label ≡ Some tag
+      → (label ≡ declaration_label tag) × (targets ≡ 0)
 
 -- of the types of a list
 abbrev pub AreFormed : List SourceType → Type 0

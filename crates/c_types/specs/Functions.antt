@@ -1,5 +1,6 @@
 -- Subroutine types (DWARF 5, section 5.7): the type of the result, and the parameters.
-use Rattle.std.specs.Prelude.{nat_lt, not, List, [], ◌∷◌, ◌++◌, length, map, Bool, false, if◌then◌else◌}
+use Rattle.std.specs.Prelude.{nat_lt, not, List, [], ◌∷◌, ◌++◌, length, map, Bool, false}
+use Rattle.std.specs.Prelude.{if◌then◌else◌}
 use Rattle.c_model.specs.declared.label.Label.{Label}
 use Rattle.c_model.specs.declared.label.Part.{Part}
 use Rattle.dwarf_forms.specs.Meanings.{Sections}
@@ -9,7 +10,8 @@ use Rattle.type_attributes.specs.declared.source.Target.TheVariants.{Void}
 use Rattle.type_attributes.specs.declared.fault.TypeFault.{TypeFault}
 use Rattle.type_attributes.specs.declared.fault.TypeFault.TheVariants.{MissingType, TooMany}
 use Rattle.type_attributes.specs.Faults.{refuse_if}
-use Rattle.type_attributes.specs.Attributes.{has, name_asked, name_in_full, target_asked, target_of_type}
+use Rattle.type_attributes.specs.Attributes.{has, name_asked, name_in_full, target_asked}
+use Rattle.type_attributes.specs.Attributes.{target_of_type}
 use Rattle.type_attributes.specs.Children.{tagged}
 use Rattle.type_attributes.specs.Labels.{Row, type_of}
 use Rattle.type_attributes.specs.Parts.{part_of, refused_by, some_tagged, most}
@@ -22,7 +24,8 @@ parameter_target c p = target_of_type p.at (target_asked c p)
 
 -- a parameter has a type
 abbrev pub parameter_refused : Sections → Given → List TypeFault
-parameter_refused c p = (name_asked c p).refused ++ ((target_asked c p).refused ++ refuse_if (not (has 0x49 p)) (MissingType p.at))
+parameter_refused c p = (name_asked c p).refused
+    ++ ((target_asked c p).refused ++ refuse_if (not (has 0x49 p)) (MissingType p.at))
 
 -- an unspecified_parameters entry (0x18) makes one last parameter without name and of void
 abbrev pub rest_part : Bool → List Part
@@ -32,19 +35,24 @@ abbrev pub rest_target : Bool → List Target
 rest_target variadic = if variadic then Void ∷ [] else []
 
 abbrev pub function_label : List Part → Label
-function_label parts = record { kind = 13; name = []; flag = false; size = 0; extra = 0; parts = parts }
+function_label parts =
+    record { kind = 13; name = []; flag = false; size = 0; extra = 0; parts = parts }
 
 abbrev pub function_parts : Sections → List Given → List Part
-function_parts c children = map (parameter_part c) (tagged 0x05 children) ++ rest_part (some_tagged 0x18 children)
+function_parts c children =
+    map (parameter_part c) (tagged 0x05 children) ++ rest_part (some_tagged 0x18 children)
 
 abbrev pub function_targets : Sections → List Given → List Target
-function_targets c children = map (parameter_target c) (tagged 0x05 children) ++ rest_target (some_tagged 0x18 children)
+function_targets c children =
+    map (parameter_target c) (tagged 0x05 children) ++ rest_target (some_tagged 0x18 children)
 
 abbrev pub function_row : Sections → Given → List Given → Row
 function_row c e children =
     let result = target_asked c e in
     let parts = function_parts c children in
     record {
-      made = type_of e (function_label parts) (target_of_type e.at result ∷ function_targets c children);
-      refused = result.refused ++ (refused_by (parameter_refused c) (tagged 0x05 children) ++ refuse_if (nat_lt most (length parts)) (TooMany e.at (length parts)));
+      made = type_of e (function_label parts)
+          (target_of_type e.at result ∷ function_targets c children);
+      refused = result.refused ++ (refused_by (parameter_refused c) (tagged 0x05 children)
+          ++ refuse_if (nat_lt most (length parts)) (TooMany e.at (length parts)));
     }

@@ -1,5 +1,6 @@
 -- What is kept of the lengths of an array's dimensions while they are read.
-use Rattle.std.specs.Prelude.{ℕ, ◌*◌, ◌^◌, min, nat_lt, ◌||◌, ◌&&◌, not, Bool, true, false, List, [], ◌∷◌, Option, if◌then◌else◌}
+use Rattle.std.specs.Prelude.{ℕ, ◌*◌, ◌^◌, min, nat_lt, ◌||◌, ◌&&◌, not, Bool, true, false, List}
+use Rattle.std.specs.Prelude.{[], ◌∷◌, Option, if◌then◌else◌}
 use Rattle.c_types.specs.Arrays.{is_long, or_zero}
 use Rattle.c_types.specs.declared.arrays.Lengths.{Lengths}
 
@@ -10,7 +11,11 @@ start = record { product = 1; any = false; long = false }
 -- and after some more
 abbrev pub extended : Lengths → List (Option ℕ) → Lengths
 extended l [] = l
-extended l (o ∷ os) = extended (record { product = min (l.product * or_zero o) (2 ^ 32); any = true; long = l.long || is_long o }) os
+extended l (o ∷ os) = extended (record {
+  product = min (l.product * or_zero o) (2 ^ 32);
+  any = true;
+  long = l.long || is_long o;
+}) os
 
 abbrev pub is_too_long : Lengths → Bool
 is_too_long l = l.long || (l.any && not (nat_lt l.product (2 ^ 32)))

@@ -1,5 +1,6 @@
 -- What the types that are open come to, given the children that are still to come.
-use Rattle.std.specs.Prelude.{ℕ, ◌≡◌, ◌+◌, ◌*◌, ◌^◌, ◌||◌, ◌&&◌, ◌==◌, nat_lt, not, Bool, true, false, List, [], ◌∷◌, ◌++◌, length, map, Option, None, if◌then◌else◌}
+use Rattle.std.specs.Prelude.{ℕ, ◌≡◌, ◌+◌, ◌*◌, ◌^◌, ◌||◌, ◌&&◌, ◌==◌, nat_lt, not, Bool, true}
+use Rattle.std.specs.Prelude.{false, List, [], ◌∷◌, ◌++◌, length, map, Option, None, if◌then◌else◌}
 use Rattle.c_model.specs.declared.label.Part.{Part}
 use Rattle.dwarf_forms.specs.Meanings.{Sections}
 use Rattle.entry_tree.specs.Items.{Given}
@@ -11,7 +12,8 @@ use Rattle.c_types.specs.declared.open.OpenEnumeration.{OpenEnumeration}
 use Rattle.c_types.specs.declared.open.OpenArray.{OpenArray}
 use Rattle.c_types.specs.declared.open.OpenPointer.{OpenPointer}
 use Rattle.c_types.specs.declared.open.Kept.{Kept}
-use Rattle.c_types.specs.declared.open.Kept.TheVariants.{Structure, Function, Enumeration, Array, Pointer}
+use Rattle.c_types.specs.declared.open.Kept.TheVariants.{Structure, Function, Enumeration, Array}
+use Rattle.c_types.specs.declared.open.Kept.TheVariants.{Pointer}
 use Rattle.type_attributes.specs.declared.source.SourceType.{SourceType}
 use Rattle.type_attributes.specs.declared.source.Target.{Target}
 use Rattle.type_attributes.specs.declared.source.Target.TheVariants.{Index}
@@ -24,9 +26,12 @@ use Rattle.type_attributes.specs.Children.{tagged}
 use Rattle.type_attributes.specs.Labels.{Row, plain_label, is_empty}
 use Rattle.type_attributes.specs.Parts.{part_of, refused_by, some_is, some_tagged, most}
 use Rattle.type_attributes.specs.Positions.{position_of}
-use Rattle.c_types.specs.Structures.{or_zero, bits_in, near, member_target, member_refused, has_fields, structure_label}
-use Rattle.c_types.specs.Functions.{parameter_part, parameter_target, parameter_refused, rest_part, rest_target, function_label}
-use Rattle.c_types.specs.Enumerations.{is_negative, enumerator_part, enumerator_refused, enumeration_label}
+use Rattle.c_types.specs.Structures.{or_zero, bits_in, near, member_target, member_refused}
+use Rattle.c_types.specs.Structures.{has_fields, structure_label}
+use Rattle.c_types.specs.Functions.{parameter_part, parameter_target, parameter_refused, rest_part}
+use Rattle.c_types.specs.Functions.{rest_target, function_label}
+use Rattle.c_types.specs.Enumerations.{is_negative, enumerator_part, enumerator_refused}
+use Rattle.c_types.specs.Enumerations.{enumeration_label}
 use Rattle.c_types.specs.Arrays.{lengths_of, array_label}
 use Rattle.c_types.specs.Lengths.{extended, is_too_long, elements_from}
 use Rattle.c_types.specs.Pointers.{link_to}
@@ -37,7 +42,12 @@ too_many at count = refuse_if (nat_lt most count) (TooMany at count)
 
 -- what is kept of a member, and the part that it is once its structure is complete
 abbrev pub kept_of : Scope → Given → Member
-kept_of s m = record { name = name_in_full (name_asked s.sections m); bits = bits_in (constant_asked 0x0d m).said; near = near false (or_zero (position_of s m).said) }
+kept_of s m = record {
+  name = name_in_full (name_asked s.sections m);
+  bits = bits_in
+      (constant_asked 0x0d m).said;
+  near = near false (or_zero (position_of s m).said);
+}
 
 abbrev pub part_from : Bool → Member → Part
 part_from fields k = part_of k.name (if fields then k.bits * 2 ^ 24 + near true k.near else k.near)
@@ -54,10 +64,16 @@ all_fields o kids = o.fields || has_fields (tagged 0x0d kids)
 
 -- the type that it comes to
 abbrev pub structure_by : OpenStructure → Bool → List Member → List Target → SourceType
-structure_by o fields members targets = record { at = o.at; label = structure_label o.is_union o.name o.size fields (map (part_from fields) members); targets = targets }
+structure_by o fields members targets = record {
+  at = o.at;
+  label = structure_label o.is_union
+      o.name o.size fields (map (part_from fields) members);
+  targets = targets;
+}
 
 unfoldable pub structure_made : Scope → OpenStructure → List Given → SourceType
-structure_made s o kids = structure_by o (all_fields o kids) (all_members s o kids) (all_targets s o kids)
+structure_made s o kids =
+    structure_by o (all_fields o kids) (all_members s o kids) (all_targets s o kids)
 
 -- and the first refusal of its row
 abbrev pub own : OpenStructure → Bool → Option TypeFault
@@ -65,9 +81,11 @@ own o fields = if fields then o.packed else o.plain
 
 unfoldable pub structure_refused : Scope → OpenStructure → List Given → Option TypeFault
 structure_refused s o kids =
-    noted (own o (all_fields o kids)) (refused_by (member_refused s (all_fields o kids)) (tagged 0x0d kids) ++ too_many o.at (length (all_members s o kids)))
+    noted (own o (all_fields o kids)) (refused_by (member_refused s (all_fields o kids))
+    (tagged 0x0d kids) ++ too_many o.at (length (all_members s o kids)))
 
--- of an open subroutine type: the parameters, their types behind that of the result, and whether more may follow
+-- of an open subroutine type: the parameters, their types behind that of the result, and whether
+-- more may follow
 abbrev pub all_parameters : Sections → OpenFunction → List Given → List Part
 all_parameters c o kids = o.parts.items ++ map (parameter_part c) (tagged 0x05 kids)
 
@@ -78,14 +96,21 @@ abbrev pub all_variadic : OpenFunction → List Given → Bool
 all_variadic o kids = o.variadic || some_tagged 0x18 kids
 
 abbrev pub function_by : ℕ → Bool → List Part → List Target → SourceType
-function_by at variadic parts targets = record { at = at; label = function_label (parts ++ rest_part variadic); targets = targets ++ rest_target variadic }
+function_by at variadic parts targets = record {
+  at = at;
+  label = function_label
+      (parts ++ rest_part variadic);
+  targets = targets ++ rest_target variadic;
+}
 
 unfoldable pub function_made : Sections → OpenFunction → List Given → SourceType
-function_made c o kids = function_by o.at (all_variadic o kids) (all_parameters c o kids) (all_results c o kids)
+function_made c o kids =
+    function_by o.at (all_variadic o kids) (all_parameters c o kids) (all_results c o kids)
 
 unfoldable pub function_refused : Sections → OpenFunction → List Given → Option TypeFault
 function_refused c o kids =
-    noted o.least (refused_by (parameter_refused c) (tagged 0x05 kids) ++ too_many o.at (length (all_parameters c o kids ++ rest_part (all_variadic o kids))))
+    noted o.least (refused_by (parameter_refused c) (tagged 0x05 kids)
+    ++ too_many o.at (length (all_parameters c o kids ++ rest_part (all_variadic o kids))))
 
 -- of an open enumeration: whether there is an enumerator, whether one is negative, and all of them
 abbrev pub all_some : OpenEnumeration → List Given → Bool
@@ -103,36 +128,51 @@ ends_bare o kids = not (all_some o kids) && not (is_empty o.name)
 
 abbrev pub enumeration_by : OpenEnumeration → Bool → Bool → List Part → SourceType
 enumeration_by o bare negative parts =
-    record { at = o.at; label = if bare then enumeration_label false o.name false 4 [] else enumeration_label o.wide o.name negative o.size parts; targets = [] }
+    record {
+      at = o.at;
+      label = if bare then enumeration_label false o.name false 4 []
+          else enumeration_label o.wide o.name negative o.size parts;
+      targets = [];
+    }
 
 unfoldable pub enumeration_made : Sections → OpenEnumeration → List Given → SourceType
-enumeration_made c o kids = enumeration_by o (ends_bare o kids) (all_negative o kids) (all_enumerators c o kids)
+enumeration_made c o kids =
+    enumeration_by o (ends_bare o kids) (all_negative o kids) (all_enumerators c o kids)
 
 abbrev pub own_sign : OpenEnumeration → Bool → Option TypeFault
 own_sign o negative = if negative then o.signed else o.unsigned
 
 abbrev pub enumerated : Sections → OpenEnumeration → Bool → ℕ → List Given → Option TypeFault
-enumerated c o negative count kids = noted (own_sign o negative) (refused_by (enumerator_refused c o.wide negative) (tagged 0x28 kids) ++ too_many o.at count)
+enumerated c o negative count kids = noted (own_sign o negative)
+    (refused_by (enumerator_refused c o.wide negative) (tagged 0x28 kids) ++ too_many o.at count)
 
 unfoldable pub enumeration_refused : Sections → OpenEnumeration → List Given → Option TypeFault
-enumeration_refused c o kids = if ends_bare o kids then o.bare else enumerated c o (all_negative o kids) (length (all_enumerators c o kids)) kids
+enumeration_refused c o kids = if ends_bare o kids then o.bare
+    else enumerated c o (all_negative o kids) (length (all_enumerators c o kids)) kids
 
 -- of an open array: the lengths of all dimensions
 abbrev pub all_lengths : OpenArray → List Given → Lengths
 all_lengths o kids = extended o.lengths (lengths_of kids)
 
 abbrev pub array_by : OpenArray → Lengths → SourceType
-array_by o lengths = record { at = o.at; label = array_label (elements_from lengths); targets = o.target ∷ Index ∷ [] }
+array_by o lengths = record {
+  at = o.at;
+  label = array_label (elements_from lengths);
+  targets = o.target ∷ Index ∷ [];
+}
 
 unfoldable pub array_made : OpenArray → List Given → SourceType
 array_made o kids = array_by o (all_lengths o kids)
 
 unfoldable pub array_refused : OpenArray → List Given → Option TypeFault
-array_refused o kids = noted o.least (refuse_if (is_too_long (all_lengths o kids)) (ArrayLength o.at))
+array_refused o kids =
+    noted o.least (refuse_if (is_too_long (all_lengths o kids)) (ArrayLength o.at))
 
--- of an open pointer: the type of its last tag entry so far, or of the pointer itself, which the next one may follow
+-- of an open pointer: the type of its last tag entry so far, or of the pointer itself, which the
+-- next one may follow
 abbrev pub pointer_by : OpenPointer → Target → SourceType
-pointer_by o target = record { at = o.at; label = plain_label o.kind o.name 0; targets = target ∷ [] }
+pointer_by o target =
+    record { at = o.at; label = plain_label o.kind o.name 0; targets = target ∷ [] }
 
 unfoldable pub pointer_made : Sections → OpenPointer → List Given → SourceType
 pointer_made c o kids = pointer_by o (link_to c o.at o.own kids)
@@ -180,8 +220,10 @@ pub record GathersEnumerator (c : Sections) (e : Given) (old new : OpenEnumerati
   pub has_some : new.has_some ≡ (old.has_some || e.tag == 0x28)
   pub has_negative : new.has_negative ≡ (old.has_negative || (e.tag == 0x28 && is_negative e))
   pub parts : new.parts.items ≡ old.parts.items ++ made_if 0x28 (enumerator_part c old.wide) e
-  pub unsigned : new.unsigned ≡ noted old.unsigned (refused_if 0x28 (enumerator_refused c old.wide false) e)
-  pub signed : new.signed ≡ noted old.signed (refused_if 0x28 (enumerator_refused c old.wide true) e)
+  pub unsigned : new.unsigned
+      ≡ noted old.unsigned (refused_if 0x28 (enumerator_refused c old.wide false) e)
+  pub signed : new.signed
+      ≡ noted old.signed (refused_if 0x28 (enumerator_refused c old.wide true) e)
   pub bare : new.bare ≡ old.bare
   pub at : new.at ≡ old.at
   pub name : new.name ≡ old.name

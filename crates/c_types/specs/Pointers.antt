@@ -1,7 +1,10 @@
--- Pointers (DWARF 5, section 5.3), and the annotations under them, which compilers write beside the standard. A tag entry is an
--- annotation (0x6000) whose parent is a pointer and whose name is `btf_type_tag`. A pointer refers to its first tag entry, a tag entry
+-- Pointers (DWARF 5, section 5.3), and the annotations under them, which compilers write beside the
+-- standard. A tag entry is an
+-- annotation (0x6000) whose parent is a pointer and whose name is `btf_type_tag`. A pointer refers
+-- to its first tag entry, a tag entry
 -- to the next one of the same pointer, and the last of these to the pointer's own type.
-use Rattle.std.specs.Prelude.{ℕ, ◌-◌, ◌==◌, ◌&&◌, Bool, List, [], ◌∷◌, ◌++◌, codes, Option, None, Some, is_some, if◌then◌else◌}
+use Rattle.std.specs.Prelude.{ℕ, ◌-◌, ◌==◌, ◌&&◌, Bool, List, [], ◌∷◌, ◌++◌, codes, Option, None}
+use Rattle.std.specs.Prelude.{Some, is_some, if◌then◌else◌}
 use Rattle.std.specs.Str.{bytes_eq}
 use Rattle.dwarf_forms.specs.Meanings.{Sections}
 use Rattle.entry_tree.specs.Items.{Given}
@@ -11,7 +14,8 @@ use Rattle.type_attributes.specs.declared.source.Target.TheVariants.{Entry}
 use Rattle.type_attributes.specs.declared.fault.TypeFault.{TypeFault}
 use Rattle.type_attributes.specs.declared.fault.TypeFault.TheVariants.{MissingName}
 use Rattle.type_attributes.specs.Faults.{refuse_if}
-use Rattle.type_attributes.specs.Attributes.{Asked, text_asked, name_asked, name_in_full, target_asked, target_of_type}
+use Rattle.type_attributes.specs.Attributes.{Asked, text_asked, name_asked, name_in_full}
+use Rattle.type_attributes.specs.Attributes.{target_asked, target_of_type}
 use Rattle.type_attributes.specs.Children.{children_of}
 use Rattle.type_attributes.specs.Labels.{Row, type_of, plain_label, is_empty}
 use Rattle.c_types.specs.Parents.{parent_in}
@@ -24,7 +28,8 @@ is_type_tag c e = e.tag == 0x6000 && bytes_eq (name_in_full (name_asked c e)) (c
 abbrev pub own_target : Sections → Given → Target
 own_target c p = target_of_type p.at (target_asked c p)
 
--- the first type tag among some children of a pointer, which is referred to from a place; without one the pointer's own type
+-- the first type tag among some children of a pointer, which is referred to from a place; without
+-- one the pointer's own type
 abbrev pub link_to : Sections → ℕ → Target → List Given → Target
 link_to c from own [] = own
 link_to c from own (k ∷ kids) = if is_type_tag c k then Entry from k.at else link_to c from own kids
@@ -36,7 +41,8 @@ pointer_row c p children =
       refused = (target_asked c p).refused;
     }
 
--- the own type of the pointer that is the parent of an entry of a depth, where the parent is a pointer
+-- the own type of the pointer that is the parent of an entry of a depth, where the parent is a
+-- pointer
 abbrev pub own_of_pointer : Sections → Option Given → Option Target
 own_of_pointer c None = None
 own_of_pointer c (Some p) = if p.tag == 0x0f then Some (own_target c p) else None
@@ -57,7 +63,8 @@ tag_in c pointed e = if is_tag_entry c pointed e then Some (name_in_full (tag_as
 
 -- its type, given the pointer's own type and the children of the pointer behind it
 abbrev pub tag_type : Sections → Target → Given → List Given → SourceType
-tag_type c own e later = type_of e (plain_label 18 (name_in_full (tag_asked c e)) 0) (link_to c e.at own later ∷ [])
+tag_type c own e later =
+    type_of e (plain_label 18 (name_in_full (tag_asked c e)) 0) (link_to c e.at own later ∷ [])
 
 abbrev pub tag_made : Sections → Option Target → Given → List Given → Option SourceType
 tag_made c None e after = None
@@ -65,7 +72,8 @@ tag_made c (Some own) e after = Some (tag_type c own e (children_of (e.depth - 1
 
 -- it has a tag that is not empty
 abbrev pub tag_refused : Sections → Given → List TypeFault
-tag_refused c e = (tag_asked c e).refused ++ refuse_if (is_empty (name_in_full (tag_asked c e))) (MissingName e.at)
+tag_refused c e = (tag_asked c e).refused
+    ++ refuse_if (is_empty (name_in_full (tag_asked c e))) (MissingName e.at)
 
 -- the name of every annotation of a pointer is read, and the tag of a tag entry
 abbrev pub annotation_refused : Sections → Option Target → Given → List TypeFault

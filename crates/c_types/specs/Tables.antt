@@ -1,4 +1,5 @@
--- The table of abbreviations of a unit (DWARF 5, section 7.5.3), so that it may be read once for all units that name its place.
+-- The table of abbreviations of a unit (DWARF 5, section 7.5.3), so that it may be read once for
+-- all units that name its place.
 use Rattle.std.specs.Prelude.{ℕ, ◌≡◌, List, Result, Ok, Err, ⊤}
 use Rattle.elf_sections.specs.Sections.{section_bytes}
 use Rattle.elf_sections.specs.declared.fault.Kind.TheVariants.{Abbrev as AbbrevSection}
@@ -17,7 +18,8 @@ abbrev pub IsTableAt : List ℕ → ℕ → List Declaration → Type 0
 IsTableAt file at declarations = table_of file at ≡ Ok declarations
 
 -- what a reader of a table answers, unless memory ran out
-abbrev pub GivesTable : Result (List Declaration) TypeFault → Result (List Declaration) AbbrevFault → Type 0
+abbrev pub GivesTable : Result (List Declaration) TypeFault
+    → Result (List Declaration) AbbrevFault → Type 0
 GivesTable (Ok declarations) read = read ≡ Ok declarations
 GivesTable (Err (Abbrev f)) read = read ≡ Err f
 GivesTable (Err Memory) read = ⊤

@@ -1,5 +1,7 @@
--- The types of a unit (DWARF 5, sections 4 and 5): each entry of a tag of the table is a type, by its own attributes and its direct children.
-use Rattle.std.specs.Prelude.{ℕ, ℤ, pos, negsuc, ◌==◌, ◌||◌, Bool, true, false, List, [], ◌∷◌, ◌++◌, Option, None, Some, Result, Ok, Err, if◌then◌else◌, ⊤, ◌≡◌}
+-- The types of a unit (DWARF 5, sections 4 and 5): each entry of a tag of the table is a type, by
+-- its own attributes and its direct children.
+use Rattle.std.specs.Prelude.{ℕ, ℤ, pos, negsuc, ◌==◌, ◌||◌, Bool, true, false, List, [], ◌∷◌, ◌++◌}
+use Rattle.std.specs.Prelude.{Option, None, Some, Result, Ok, Err, if◌then◌else◌, ⊤, ◌≡◌}
 use Rattle.std.specs.Option.{option_map}
 use Rattle.elf_sections.specs.Sections.{section_bytes}
 use Rattle.elf_sections.specs.declared.fault.Kind.TheVariants.{Abbrev as AbbrevSection}
@@ -27,13 +29,15 @@ use Rattle.type_attributes.specs.Labels.{Row}
 use Rattle.type_attributes.specs.Parts.{some_tagged}
 use Rattle.type_attributes.specs.BaseTypes.{base_row, unspecified_row}
 use Rattle.type_attributes.specs.References.{atomic_name, reference_row, typedef_row}
-use Rattle.c_types.specs.Pointers.{pointer_row, pointed_in, is_tag_entry, tag_made, annotation_refused}
+use Rattle.c_types.specs.Pointers.{pointer_row, pointed_in, is_tag_entry, tag_made}
+use Rattle.c_types.specs.Pointers.{annotation_refused}
 use Rattle.c_types.specs.Arrays.{array_row}
 use Rattle.c_types.specs.Functions.{function_row}
 use Rattle.c_types.specs.Structures.{structure_row}
 use Rattle.c_types.specs.Enumerations.{enumeration_row}
 
--- the tags whose rows need no children: typedef, base, const, volatile, restrict and unspecified types, and atomic ones
+-- the tags whose rows need no children: typedef, base, const, volatile, restrict and unspecified
+-- types, and atomic ones
 abbrev pub plain_row_of : Sections → Given → Option Row
 plain_row_of c e =
     if e.tag == 0x16 then Some (typedef_row c e)
@@ -68,21 +72,27 @@ abbrev pub refused_in : Option Row → List TypeFault
 refused_in None = []
 refused_in (Some r) = r.refused
 
--- the type that an entry is, given what its parent points to where that is a pointer, and its refusals
+-- the type that an entry is, given what its parent points to where that is a pointer, and its
+-- refusals
 abbrev pub made_of : Scope → Option Target → Given → List Given → Option SourceType
-made_of s pointed e after = if is_tag_entry s.sections pointed e then tag_made s.sections pointed e after else made_in (row_of s e after)
+made_of s pointed e after = if is_tag_entry s.sections pointed e
+    then tag_made s.sections pointed e after else made_in (row_of s e after)
 
 abbrev pub refused_of : Scope → Option Target → Given → List Given → List TypeFault
-refused_of s pointed e after = annotation_refused s.sections pointed e ++ refused_in (row_of s e after)
+refused_of s pointed e after =
+    annotation_refused s.sections pointed e ++ refused_in (row_of s e after)
 
--- the types of some entries, in order, and all their refusals; those before them come last one first
+-- the types of some entries, in order, and all their refusals; those before them come last one
+-- first
 abbrev pub types_of : Scope → List Given → List Given → List SourceType
 types_of s earlier [] = []
-types_of s earlier (e ∷ es) = listed (made_of s (pointed_in s.sections earlier e.depth) e es) ++ types_of s (e ∷ earlier) es
+types_of s earlier (e ∷ es) =
+    listed (made_of s (pointed_in s.sections earlier e.depth) e es) ++ types_of s (e ∷ earlier) es
 
 abbrev pub refusals_of : Scope → List Given → List Given → List TypeFault
 refusals_of s earlier [] = []
-refusals_of s earlier (e ∷ es) = refused_of s (pointed_in s.sections earlier e.depth) e es ++ refusals_of s (e ∷ earlier) es
+refusals_of s earlier (e ∷ es) =
+    refused_of s (pointed_in s.sections earlier e.depth) e es ++ refusals_of s (e ∷ earlier) es
 
 -- the types where nothing is refused, else the first refusal by place, number and what is kept
 abbrev pub or_least : UnitTypes → Option TypeFault → Result UnitTypes TypeFault
@@ -98,11 +108,14 @@ unit_types has_array types = record { read = true; has_array = has_array; types 
 
 -- of a walk over all entries: its own fault comes before all refusals of types
 abbrev pub types_in : Scope → Option WalkFault → Result UnitTypes TypeFault
-types_in s ending = or_walk ending (or_least (unit_types (some_tagged 0x01 s.entries) (types_of s [] s.entries)) (least (refusals_of s [] s.entries)))
+types_in s ending = or_walk ending (or_least (unit_types (some_tagged 0x01 s.entries)
+    (types_of s [] s.entries)) (least (refusals_of s [] s.entries)))
 
--- the languages (section 7.12) whose units are passed over: C++, Go, C++03, C++11, Rust, C++14 and the assembler of MIPS
+-- the languages (section 7.12) whose units are passed over: C++, Go, C++03, C++11, Rust, C++14 and
+-- the assembler of MIPS
 abbrev pub is_other_language : ℕ → Bool
-is_other_language n = n == 0x04 || n == 0x16 || n == 0x19 || n == 0x1a || n == 0x1c || n == 0x21 || n == 0x8001
+is_other_language n =
+    n == 0x04 || n == 0x16 || n == 0x19 || n == 0x1a || n == 0x1c || n == 0x21 || n == 0x8001
 
 abbrev pub is_passed_over : Option ℤ → Bool
 is_passed_over None = false
@@ -117,17 +130,23 @@ abbrev pub of_abbrev : AbbrevFault → TypeFault
 of_abbrev AbbrevMemory = Memory
 of_abbrev other = Abbrev other
 
-abbrev pub after_root : List ℕ → Unit → List Declaration → Result RootInfo WalkFault → Result UnitTypes TypeFault
+abbrev pub after_root : List ℕ → Unit → List Declaration → Result RootInfo WalkFault
+    → Result UnitTypes TypeFault
 after_root file unit declarations (Err f) = Err (Walk f)
-after_root file unit declarations (Ok root) = if is_passed_over root.language then Ok no_types else types_in (scope_of file unit declarations root.str_base) (entries_of file unit declarations).ending
+after_root file unit declarations (Ok root) =
+    if is_passed_over root.language then Ok no_types else types_in
+    (scope_of file unit declarations root.str_base) (entries_of file unit declarations).ending
 
-abbrev pub after_table : List ℕ → Unit → Result (List Declaration) AbbrevFault → Result UnitTypes TypeFault
+abbrev pub after_table : List ℕ → Unit → Result (List Declaration) AbbrevFault
+    → Result UnitTypes TypeFault
 after_table file unit (Err f) = Err (Abbrev f)
-after_table file unit (Ok declarations) = after_root file unit declarations (root_of (within_of file unit) declarations unit.first)
+after_table file unit (Ok declarations) =
+    after_root file unit declarations (root_of (within_of file unit) declarations unit.first)
 
 -- the types of a unit of a file, or its first refusal
 abbrev pub types_of_unit_of : List ℕ → Unit → Result UnitTypes TypeFault
-types_of_unit_of file unit = after_table file unit (table_at (section_bytes AbbrevSection file) unit.abbrev_at)
+types_of_unit_of file unit =
+    after_table file unit (table_at (section_bytes AbbrevSection file) unit.abbrev_at)
 
 -- what a reader answers, unless memory ran out
 abbrev pub Gives : Result UnitTypes TypeFault → Result UnitTypes TypeFault → Type 0

@@ -5,7 +5,8 @@ ghost use Rattle.entry_tree.specs.Reads.{value_with};
 ghost use Rattle.entry_tree.specs.Walks.{given_entry};
 ghost use Rattle.type_attributes.specs.Scopes.{scope};
 ghost use Rattle.c_types.specs.Taking.{made_if};
-ghost use Rattle.c_types.specs.Arrays.{bound_in, length_of_count, length_of_bound, subrange_length, array_row};
+ghost use Rattle.c_types.specs.Arrays.{bound_in, length_of_count, length_of_bound, subrange_length};
+ghost use Rattle.c_types.specs.Arrays.{array_row};
 ghost use Rattle.c_types.specs.Lengths.{extended, is_too_long, elements_from};
 ghost use Rattle.c_types.specs.Opened.{array_made, array_refused, ComesTo};
 ghost use Rattle.c_types.specs.declared.open.Kept.TheVariants.{Array};
@@ -162,7 +163,8 @@ fn two_targets(alloc: Global, target: Target) -> Result<Targets, AllocError>
 
 /// A child of an open array.
 pub(crate) fn meet_array(child: &Entry<'_, '_>, parent: &mut OpenArray)
-    ensures lengths { parent.new.lengths ≡ extended parent.old.lengths (made_if 0x21 subrange_length (given_entry child.now)) }
+    ensures lengths { parent.new.lengths
+        ≡ extended parent.old.lengths (made_if 0x21 subrange_length (given_entry child.now)) }
     ensures at { parent.new.at ≡ parent.old.at }
     ensures target { parent.new.target ≡ parent.old.target }
     ensures least { parent.new.least ≡ parent.old.least }
@@ -202,7 +204,8 @@ pub(crate) fn complete_array<'a>(
 /// An array begins.
 #[tactic(auto, using(type_attributes::proofs::Noting::noted_append))]
 pub(crate) fn open_array(ctx: &UnitCtx<'_, '_>, entry: &Entry<'_, '_>) -> OpenArray
-    ensures { ComesTo (scope ctx.now) (Array result) (array_row (sections ctx.now.form) (given_entry entry.now)) }
+    ensures { ComesTo (scope ctx.now) (Array result)
+        (array_row (sections ctx.now.form) (given_entry entry.now)) }
 {
     let mut found = None;
     let target = type_target(&ctx.form, entry, &mut found);

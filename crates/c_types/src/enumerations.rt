@@ -1,5 +1,6 @@
 //! Enumerations.
-ghost use Rattle.std.specs.Prelude.{◌≡◌, ◌++◌, [], ◌∷◌, ◌||◌, ◌&&◌, ◌==◌, not, None, true, false, OnOk, IfSome};
+ghost use Rattle.std.specs.Prelude.{◌≡◌, ◌++◌, [], ◌∷◌, ◌||◌, ◌&&◌, ◌==◌, not, None, true, false};
+ghost use Rattle.std.specs.Prelude.{OnOk, IfSome};
 ghost use Rattle.dwarf_forms.specs.Values.{IsContext};
 ghost use Rattle.dwarf_forms.specs.Meanings.{Sections, sections, Fits64};
 ghost use Rattle.entry_tree.specs.Walks.{given_entry};
@@ -7,8 +8,13 @@ ghost use Rattle.type_attributes.specs.Scopes.{scope};
 ghost use Rattle.type_attributes.specs.Faults.{noted};
 ghost use Rattle.type_attributes.specs.Labels.{is_empty};
 ghost use Rattle.type_attributes.specs.Attributes.{name_asked, name_in_full, flag_asked, is_set};
-ghost use Rattle.c_types.specs.Enumerations.{negative, is_negative, top, is_in_range, value_refused, power, residue, residue_in, enumerator_part, enumerator_refused, is_size, fits_size, enum_size_refused, enumeration_label, bare_row, enumeration_row};
-ghost use Rattle.c_types.specs.Opened.{enumeration_made, enumeration_refused, ComesTo, GathersEnumerator};
+ghost use Rattle.c_types.specs.Enumerations.{negative, is_negative, top, is_in_range};
+ghost use Rattle.c_types.specs.Enumerations.{value_refused, power, residue, residue_in};
+ghost use Rattle.c_types.specs.Enumerations.{enumerator_part, enumerator_refused, is_size};
+ghost use Rattle.c_types.specs.Enumerations.{fits_size, enum_size_refused, enumeration_label};
+ghost use Rattle.c_types.specs.Enumerations.{bare_row, enumeration_row};
+ghost use Rattle.c_types.specs.Opened.{enumeration_made, enumeration_refused, ComesTo};
+ghost use Rattle.c_types.specs.Opened.{GathersEnumerator};
 ghost use Rattle.c_types.specs.declared.open.Kept.TheVariants.{Enumeration};
 
 use crate::open::{Complete, OpenEnumeration};
@@ -114,10 +120,14 @@ fn meet_enumerator<'a>(
 ) -> Result<(), AllocError>
     requires { IsContext ctx.now }
     ensures has_some { OnOk result (parent.new.has_some ≡ true) }
-    ensures has_negative { OnOk result (parent.new.has_negative ≡ (parent.old.has_negative || is_negative (given_entry enumerator.now))) }
-    ensures parts { OnOk result (parent.new.parts.items ≡ parent.old.parts.items ++ enumerator_part (sections ctx.now) parent.old.wide (given_entry enumerator.now) ∷ []) }
-    ensures unsigned { OnOk result (parent.new.unsigned ≡ noted parent.old.unsigned (enumerator_refused (sections ctx.now) parent.old.wide false (given_entry enumerator.now))) }
-    ensures signed { OnOk result (parent.new.signed ≡ noted parent.old.signed (enumerator_refused (sections ctx.now) parent.old.wide true (given_entry enumerator.now))) }
+    ensures has_negative { OnOk result (parent.new.has_negative
+        ≡ (parent.old.has_negative || is_negative (given_entry enumerator.now))) }
+    ensures parts { OnOk result (parent.new.parts.items ≡ parent.old.parts.items
+        ++ enumerator_part (sections ctx.now) parent.old.wide (given_entry enumerator.now) ∷ []) }
+    ensures unsigned { OnOk result (parent.new.unsigned ≡ noted parent.old.unsigned (enumerator_refused
+        (sections ctx.now) parent.old.wide false (given_entry enumerator.now))) }
+    ensures signed { OnOk result (parent.new.signed ≡ noted parent.old.signed
+        (enumerator_refused (sections ctx.now) parent.old.wide true (given_entry enumerator.now))) }
     ensures bare { OnOk result (parent.new.bare ≡ parent.old.bare) }
     ensures at { OnOk result (parent.new.at ≡ parent.old.at) }
     ensures name { OnOk result (parent.new.name ≡ parent.old.name) }
@@ -153,7 +163,8 @@ pub(crate) fn meet_enumeration<'a>(
     parent: &mut OpenEnumeration<'a>,
 ) -> Result<(), AllocError>
     requires { IsContext ctx.now }
-    ensures { OnOk result (GathersEnumerator (sections ctx.now) (given_entry child.now) parent.old parent.new) }
+    ensures { OnOk result
+        (GathersEnumerator (sections ctx.now) (given_entry child.now) parent.old parent.new) }
 {
     if child.tag == DW_TAG_enumerator {
         return meet_enumerator(ctx, child, parent);
@@ -265,7 +276,8 @@ pub(crate) fn open_enumeration<'a>(
     requires context { IsContext ctx.now.form }
     requires defined { is_set (flag_asked 0x3c (given_entry entry.now)) ≡ false }
     requires declared { declared ≡ noted None (flag_asked 0x3c (given_entry entry.now)).refused }
-    ensures { ComesTo (scope ctx.now) (Enumeration result) (enumeration_row (sections ctx.now.form) (given_entry entry.now)) }
+    ensures { ComesTo (scope ctx.now) (Enumeration result)
+        (enumeration_row (sections ctx.now.form) (given_entry entry.now)) }
 {
     let mut bare = declared;
     let name = name(&ctx.form, entry, &mut bare);
@@ -296,8 +308,11 @@ pub(crate) fn declared_enumeration<'a>(
     least: &mut Option<TypeFault>,
 ) -> SourceType<'a>
     requires context { IsContext ctx.now }
-    ensures made { result ≡ (bare_row (name_in_full (name_asked (sections ctx.now) (given_entry entry.now))) (given_entry entry.now) true).made }
-    ensures noted { least.new ≡ noted least.old ((name_asked (sections ctx.now) (given_entry entry.now)).refused ++ (bare_row (name_in_full (name_asked (sections ctx.now) (given_entry entry.now))) (given_entry entry.now) true).refused) }
+    ensures made { result ≡ (bare_row (name_in_full (name_asked (sections ctx.now)
+        (given_entry entry.now))) (given_entry entry.now) true).made }
+    ensures noted { least.new ≡ noted least.old ((name_asked (sections ctx.now)
+        (given_entry entry.now)).refused ++ (bare_row (name_in_full (name_asked (sections ctx.now)
+        (given_entry entry.now))) (given_entry entry.now) true).refused) }
 {
     let name = name(ctx, entry, least);
     note_if(

@@ -5,7 +5,8 @@ ghost use Rattle.dwarf_forms.specs.Meanings.{Sections, sections};
 ghost use Rattle.entry_tree.specs.Walks.{given_entry};
 ghost use Rattle.type_attributes.specs.Scopes.{scope};
 ghost use Rattle.type_attributes.specs.Faults.{noted};
-ghost use Rattle.c_types.specs.Functions.{parameter_part, parameter_target, parameter_refused, rest_part, rest_target, function_row};
+ghost use Rattle.c_types.specs.Functions.{parameter_part, parameter_target, parameter_refused};
+ghost use Rattle.c_types.specs.Functions.{rest_part, rest_target, function_row};
 ghost use Rattle.c_types.specs.Opened.{function_made, function_refused, ComesTo, GathersParameter};
 ghost use Rattle.c_types.specs.declared.open.Kept.TheVariants.{Function};
 
@@ -30,10 +31,13 @@ fn meet_parameter<'a>(
     parent: &mut OpenFunction<'a>,
 ) -> Result<(), AllocError>
     requires { IsContext ctx.now }
-    ensures parts { OnOk result (parent.new.parts.items ≡ parent.old.parts.items ++ parameter_part (sections ctx.now) (given_entry child.now) ∷ []) }
-    ensures targets { OnOk result (parent.new.targets.items ≡ parent.old.targets.items ++ parameter_target (sections ctx.now) (given_entry child.now) ∷ []) }
+    ensures parts { OnOk result (parent.new.parts.items ≡ parent.old.parts.items
+        ++ parameter_part (sections ctx.now) (given_entry child.now) ∷ []) }
+    ensures targets { OnOk result (parent.new.targets.items ≡ parent.old.targets.items
+        ++ parameter_target (sections ctx.now) (given_entry child.now) ∷ []) }
     ensures variadic { OnOk result (parent.new.variadic ≡ parent.old.variadic) }
-    ensures least { OnOk result (parent.new.least ≡ noted parent.old.least (parameter_refused (sections ctx.now) (given_entry child.now))) }
+    ensures least { OnOk result (parent.new.least
+        ≡ noted parent.old.least (parameter_refused (sections ctx.now) (given_entry child.now))) }
     ensures at { OnOk result (parent.new.at ≡ parent.old.at) }
 {
     let name = name(ctx, child, &mut parent.least);
@@ -55,7 +59,8 @@ pub(crate) fn meet_function<'a>(
     parent: &mut OpenFunction<'a>,
 ) -> Result<(), AllocError>
     requires { IsContext ctx.now }
-    ensures { OnOk result (GathersParameter (sections ctx.now) (given_entry child.now) parent.old parent.new) }
+    ensures { OnOk result
+        (GathersParameter (sections ctx.now) (given_entry child.now) parent.old parent.new) }
 {
     if child.tag == DW_TAG_formal_parameter {
         return meet_parameter(ctx, child, parent);
@@ -125,7 +130,8 @@ pub fn open_function<'a>(
     entry: &Entry<'_, 'a>,
 ) -> Result<OpenFunction<'a>, AllocError>
     requires { IsContext ctx.now.form }
-    ensures { IfOk result (λ o. ComesTo (scope ctx.now) (Function o) (function_row (sections ctx.now.form) (given_entry entry.now))) }
+    ensures { IfOk result (λ o. ComesTo (scope ctx.now) (Function o)
+        (function_row (sections ctx.now.form) (given_entry entry.now))) }
 {
     let mut found = None;
     let target = type_target(&ctx.form, entry, &mut found);

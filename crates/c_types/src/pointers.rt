@@ -1,12 +1,14 @@
 //! Pointers, and the tag entries under them.
-ghost use Rattle.std.specs.Prelude.{◌≡◌, ◌++◌, ◌==◌, [], codes, None, Some, IfOk, is_some, if◌then◌else◌};
+ghost use Rattle.std.specs.Prelude.{◌≡◌, ◌++◌, ◌==◌, [], codes, None, Some, IfOk, is_some};
+ghost use Rattle.std.specs.Prelude.{if◌then◌else◌};
 ghost use Rattle.std.specs.Str.{bytes_eq};
 ghost use Rattle.dwarf_forms.specs.Values.{IsContext};
 ghost use Rattle.dwarf_forms.specs.Meanings.{Sections, sections};
 ghost use Rattle.entry_tree.specs.Walks.{given_entry};
 ghost use Rattle.type_attributes.specs.Faults.{noted};
 ghost use Rattle.type_attributes.specs.Attributes.{name_asked, name_in_full};
-ghost use Rattle.c_types.specs.Pointers.{is_type_tag, tag_asked, tag_refused, annotation_refused, tag_in};
+ghost use Rattle.c_types.specs.Pointers.{is_type_tag, tag_asked, tag_refused, annotation_refused};
+ghost use Rattle.c_types.specs.Pointers.{tag_in};
 ghost use Rattle.c_types.specs.Opened.{pointer_by, pointer_made};
 ghost use Rattle.c_types.specs.Walking.{AreNested, AreAbove, pointer_in, pointed_at};
 
@@ -43,7 +45,8 @@ pub(crate) fn pointing<'a>(
     })
 }
 
-/// The type of the last tag entry of a pointer whose children have all come, or of the pointer itself.
+/// The type of the last tag entry of a pointer whose children have all come, or of the pointer
+/// itself.
 pub(crate) fn complete_pointer<'a>(
     alloc: Global,
     whole: OpenPointer<'a>,
@@ -100,8 +103,11 @@ fn read_tag<'a>(
 ) -> Option<Name<'a>>
     requires context { IsContext ctx.now }
     requires annotation { (given_entry entry.now).tag ≡ 0x6000 }
-    ensures tag { result ≡ (if is_type_tag (sections ctx.now) (given_entry entry.now) then Some (name_in_full (tag_asked (sections ctx.now) (given_entry entry.now))) else None) }
-    ensures noted { least.new ≡ noted least.old ((name_asked (sections ctx.now) (given_entry entry.now)).refused ++ (if is_type_tag (sections ctx.now) (given_entry entry.now) then tag_refused (sections ctx.now) (given_entry entry.now) else [])) }
+    ensures tag { result ≡ (if is_type_tag (sections ctx.now) (given_entry entry.now)
+        then Some (name_in_full (tag_asked (sections ctx.now) (given_entry entry.now))) else None) }
+    ensures noted { least.new ≡ noted least.old ((name_asked (sections ctx.now) (given_entry
+        entry.now)).refused ++ (if is_type_tag (sections ctx.now) (given_entry entry.now)
+        then tag_refused (sections ctx.now) (given_entry entry.now) else [])) }
 {
     let name = name(ctx, entry, least);
     if !is_of_type_tags(&name) {
@@ -122,8 +128,10 @@ pub(crate) fn type_tag<'a>(
     requires context { IsContext ctx.now }
     requires nested { AreNested opens.now }
     requires above { AreAbove (given_entry entry.now).depth opens.now }
-    ensures tag { result ≡ tag_in (sections ctx.now) (pointed_at opens.now (given_entry entry.now).depth) (given_entry entry.now) }
-    ensures noted { least.new ≡ noted least.old (annotation_refused (sections ctx.now) (pointed_at opens.now (given_entry entry.now).depth) (given_entry entry.now)) }
+    ensures tag { result ≡ tag_in (sections ctx.now)
+        (pointed_at opens.now (given_entry entry.now).depth) (given_entry entry.now) }
+    ensures noted { least.new ≡ noted least.old (annotation_refused (sections ctx.now)
+        (pointed_at opens.now (given_entry entry.now).depth) (given_entry entry.now)) }
 {
     if entry.tag != DW_TAG_GNU_annotation {
         return None;

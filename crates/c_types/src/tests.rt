@@ -409,7 +409,8 @@ fn types_in_lines(rt: HostRuntime) -> Result<(), Fail> {
     Ok(())
 }
 
-/// A unit of a language that is passed over has no types, whatever stands behind its root; one of C is read.
+/// A unit of a language that is passed over has no types, whatever stands behind its root; one of C
+/// is read.
 #[test]
 fn other_languages(rt: HostRuntime) -> Result<(), Fail> {
     for language in [0x04, 0x16, 0x19, 0x1a, 0x1c, 0x21] {

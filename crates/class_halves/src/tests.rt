@@ -1,6 +1,7 @@
-//! A small graph: its classes, the references to its nodes, and the members of its classes. Rings, chains, trees and forwards are
-//! compared with the plain program in `graph_cases`.
-ghost use Rattle.std.specs.Prelude.{◌≡◌, ◌<◌, ◌≤◌, ◌+◌, ◌∷◌, ℕ, Some, [], length, All, IsTrue, IfOk, OnOk};
+//! A small graph: its classes, the references to its nodes, and the members of its classes. Rings,
+//! chains, trees and forwards are compared with the plain program in `graph_cases`.
+ghost use Rattle.std.specs.Prelude.{◌≡◌, ◌<◌, ◌≤◌, ◌+◌, ◌∷◌, ℕ, Some, [], length, All, IsTrue};
+ghost use Rattle.std.specs.Prelude.{IfOk, OnOk};
 ghost use Rattle.c_model.specs.Graph.{IsBelow, RefersWithin};
 ghost use Rattle.c_model.specs.Forwards.{Tag, declaration_at, HasFittingForwards, IsIndexOf};
 
@@ -41,8 +42,8 @@ fn push_structure<'n>(
     Ok(())
 }
 
-/// A node that refers to itself at both positions, one that refers to it at both, one that refers to two nodes, and
-/// one that refers to none.
+/// A node that refers to itself at both positions, one that refers to it at both, one that refers
+/// to two nodes, and one that refers to none.
 fn four_nodes(alloc: Global) -> Result<Graph<'static>, AllocError>
     ensures { IfOk result (λ g. length g.nodes ≡ 4) }
 {
@@ -168,7 +169,8 @@ fn references_in_their_order(rt: HostRuntime) -> Result<(), Fail> {
     Ok(())
 }
 
-/// Members of the classes 0, 0, 1 and 2, of which node 1 goes to a new class, and node 3 to class 0.
+/// Members of the classes 0, 0, 1 and 2, of which node 1 goes to a new class, and node 3 to class
+/// 0.
 fn moved<L: Ledger>(alloc: Global, blank: Blank) -> Result<Members, AllocError>
     requires name { blank.name ≡ L.name }
     requires parts { blank.parts ≡ L.parts }

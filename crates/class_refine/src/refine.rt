@@ -1,7 +1,8 @@
 //! Rounds, until nothing is split any more.
 ghost use Rattle.std.specs.Prelude.{◌≡◌, ◌<◌, ℕ, List, ◌≤◌, ◌+◌, ◌*◌, length, nat_eq, IfOk, OnErr};
 ghost use Rattle.std.specs.Set.{distinct_count};
-ghost use Rattle.c_model.specs.Forwards.{IsIndexOf, HasFittingForwards, IsCoarsestWith, KeepsForwards};
+ghost use Rattle.c_model.specs.Forwards.{IsIndexOf, HasFittingForwards, IsCoarsestWith};
+ghost use Rattle.c_model.specs.Forwards.{KeepsForwards};
 ghost use Rattle.c_model.specs.Graph.{references};
 ghost use Rattle.c_model.specs.Numberings.{IsNumbering};
 ghost use Rattle.type_signature.specs.Placing.{IsAbove};
@@ -48,7 +49,8 @@ fn round<R: Threads + Sync, L: Ledger>(
 ) -> Result<Numbered, AllocError>
     requires index { IsIndexOf graph.now fwd.now }
     requires covers { length now.now ≡ length graph.now.nodes }
-    ensures numbers { IfOk result (λ r. IsNumbering (signature_at graph.now.nodes fwd.now now.now) (length graph.now.nodes) r.numbers.items) }
+    ensures numbers { IfOk result (λ r. IsNumbering (signature_at graph.now.nodes fwd.now now.now)
+        (length graph.now.nodes) r.numbers.items) }
     ensures count { IfOk result (λ r. distinct_count nat_eq r.numbers.items ≡ r.count) }
     ensures cost { steps.new ≤ steps.old + (length graph.now.nodes + references graph.now.nodes) }
 {
@@ -80,12 +82,15 @@ fn rounds_from<R: Threads + Sync, L: Ledger>(
 ) -> Result<Refined, AllocError>
     requires index { IsIndexOf graph.now fwd.now }
     requires fitting { HasFittingForwards graph.now }
-    requires above { (raw : List ℕ) × IsAbove graph.now fwd.now raw classes × (distinct_count nat_eq raw ≡ first) }
+    requires above { (raw : List ℕ) × IsAbove graph.now fwd.now raw classes
+        × (distinct_count nat_eq raw ≡ first) }
     ensures coarsest { IfOk result (λ r. IsCoarsestWith graph.now fwd.now r.classes) }
     ensures forwards { IfOk result (λ r. KeepsForwards graph.now fwd.now r.classes) }
     ensures rounds { IfOk result (λ r. r.number ≤ distinct_count nat_eq r.classes) }
-    ensures cost { IfOk result (λ r. steps.new ≤ steps.old + (length graph.now.nodes + references graph.now.nodes) * (r.number + 1)) }
-    ensures bound { OnErr result (steps.new ≤ steps.old + (length graph.now.nodes + references graph.now.nodes) * (length graph.now.nodes + 1)) }
+    ensures cost { IfOk result (λ r. steps.new
+        ≤ steps.old + (length graph.now.nodes + references graph.now.nodes) * (r.number + 1)) }
+    ensures bound { OnErr result (steps.new ≤ steps.old
+        + (length graph.now.nodes + references graph.now.nodes) * (length graph.now.nodes + 1)) }
 {
     let _nodes = graph.len();
     let mut count = first;
@@ -108,12 +113,13 @@ fn rounds_from<R: Threads + Sync, L: Ledger>(
 /// How many workers mix hashes.
 const HASHING: u32 = 1;
 
-/// The coarsest agreeing partition of a graph: each pair of one class has a licence, and every partition
-/// of which that is true relates only pairs that it relates. A guess by hashes is compared first; where it
-/// is right there are no rounds. Hashes are mixed by one worker. Else rounds split its classes by the classes of their targets, until a
-/// round splits nothing. Keys are made by as many workers as there are processors, and numbered in node
-/// order; the counter rises by the numbers of all keys that are numbered. After want of memory it has risen
-/// by no more than as many rounds as there are nodes would make it.
+/// The coarsest agreeing partition of a graph: each pair of one class has a licence, and every
+/// partition of which that is true relates only pairs that it relates. A guess by hashes is
+/// compared first; where it is right there are no rounds. Hashes are mixed by one worker. Else
+/// rounds split its classes by the classes of their targets, until a round splits nothing. Keys are
+/// made by as many workers as there are processors, and numbered in node order; the counter rises
+/// by the numbers of all keys that are numbered. After want of memory it has risen by no more than
+/// as many rounds as there are nodes would make it.
 pub fn classes<'a, R: Threads + Sync, G: TypeGraph<'a>, L: Ledger>(
     rt: &R,
     alloc: Global,
@@ -126,8 +132,10 @@ pub fn classes<'a, R: Threads + Sync, G: TypeGraph<'a>, L: Ledger>(
     ensures coarsest { IfOk result (λ r. IsCoarsestWith (G.shape graph.now) fwd.now r.classes) }
     ensures forwards { IfOk result (λ r. KeepsForwards (G.shape graph.now) fwd.now r.classes) }
     ensures rounds { IfOk result (λ r. r.number ≤ distinct_count nat_eq r.classes) }
-    ensures cost { let g = G.shape graph.now in IfOk result (λ r. steps.new ≤ steps.old + (length g.nodes + references g.nodes) * (r.number + 1)) }
-    ensures bound { let g = G.shape graph.now in OnErr result (steps.new ≤ steps.old + (length g.nodes + references g.nodes) * (length g.nodes + 1)) }
+    ensures cost { let g = G.shape graph.now in IfOk result
+        (λ r. steps.new ≤ steps.old + (length g.nodes + references g.nodes) * (r.number + 1)) }
+    ensures bound { let g = G.shape graph.now in OnErr result
+        (steps.new ≤ steps.old + (length g.nodes + references g.nodes) * (length g.nodes + 1)) }
 {
     let most = graph.len();
     let Guess {

@@ -1,5 +1,6 @@
 -- What stands behind the spelling of an option.
-use Rattle.std.proofs.Common.{◌≡◌, ℕ, List, drop, length, true, false, Some, None, Option, Bor, ap, ◌∙◌, sym, subst, eqb, ◌∷◌, ◌+◌, ◌<◌, get_or}
+use Rattle.std.proofs.Common.{◌≡◌, ℕ, List, drop, length, true, false, Some, None, Option, Bor, ap}
+use Rattle.std.proofs.Common.{◌∙◌, sym, subst, eqb, ◌∷◌, ◌+◌, ◌<◌, get_or}
 use Rattle.std.proofs.lemmas.List.{at_drop_more}
 use Rattle.std.specs.List.{starts_with}
 use Rattle.std.specs.Option.{MatchOption, option_copied, option_or, option_map}
@@ -26,12 +27,14 @@ prefix_stripped p w (Some x) h =
 
 -- where a word is not spelled as one of the options, those behind it are left
 pub spelled_more :
-    (ss : List Setting) (d : Setting) (i : ℕ) (w : List ℕ) (whole : Option (Setting × List ℕ)) → i < length ss
+    (ss : List Setting) (d : Setting) (i : ℕ) (w : List ℕ) (whole : Option (Setting × List ℕ))
+    → i < length ss
     → None ≡ behind_spelling (row (get_or ss i d)).place (row (get_or ss i d)).spelling w
     → spelled_as (drop i ss) w ≡ whole → spelled_as (drop (i + 1) ss) w ≡ whole
 spelled_more ss d i w whole l none left =
     let here : spelled_as (drop i ss) w ≡ spelled_as (get_or ss i d ∷ drop (i + 1) ss) w =
     at_drop_more (λ (ts : List Setting). spelled_as ts w) ss i d l in
     let past : spelled_as (get_or ss i d ∷ drop (i + 1) ss) w ≡ spelled_as (drop (i + 1) ss) w =
-    ap (λ (o : Option (List ℕ)). option_or (option_map (λ (v : List ℕ). (get_or ss i d, v)) o) (spelled_as (drop (i + 1) ss) w)) (sym none) in
+    ap (λ (o : Option (List ℕ)). option_or (option_map (λ (v : List ℕ). (get_or ss i d, v)) o)
+    (spelled_as (drop (i + 1) ss) w)) (sym none) in
     sym (here ∙ past) ∙ left

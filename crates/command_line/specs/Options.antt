@@ -1,7 +1,9 @@
 -- The table of the options.
 use Rattle.std.specs.Prelude.{ℕ, List, [], ◌∷◌, Bool, true, codes, ◌==◌, is_some}
 use Rattle.command_line.specs.declared.options.Setting.{Setting}
-use Rattle.command_line.specs.declared.options.Setting.TheVariants.{Out, Base, Selfmade, Names, Holes, Line, Format, Sizes, Jobs, Funcs}
+use Rattle.command_line.specs.declared.options.Setting.TheVariants.{Out, Base, Selfmade, Names}
+use Rattle.command_line.specs.declared.options.Setting.TheVariants.{Holes, Line, Format, Sizes}
+use Rattle.command_line.specs.declared.options.Setting.TheVariants.{Jobs, Funcs}
 use Rattle.command_line.specs.declared.options.ValuePlace.{ValuePlace}
 use Rattle.command_line.specs.declared.options.ValuePlace.TheVariants.{Nowhere, NextWord, SameWord}
 use Rattle.command_line.specs.Values.{made_number, holes, line, jobs, file_name, names, format}
@@ -14,7 +16,8 @@ pub record Row : Type 0 where
   pub good : List ℕ → Bool
 
 abbrev pub option : ℕ → List ℕ → ValuePlace → (List ℕ → Bool) → Row
-option rank spelling place good = record { rank = rank; spelling = spelling; place = place; good = good }
+option rank spelling place good =
+    record { rank = rank; spelling = spelling; place = place; good = good }
 
 abbrev pub row : Setting → Row
 row Out = option 0 (codes "--btf_encode_detached=") SameWord (λ v. is_some (file_name v))

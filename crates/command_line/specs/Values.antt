@@ -1,5 +1,6 @@
 -- What the value of each option may be, and what it says.
-use Rattle.std.specs.Prelude.{ℕ, ◌-◌, ◌^◌, List, [], ◌∷◌, length, Bool, if◌then◌else◌, Option, None, Some, codes, ◌==◌, ◌&&◌, nat_le}
+use Rattle.std.specs.Prelude.{ℕ, ◌-◌, ◌^◌, List, [], ◌∷◌, length, Bool, if◌then◌else◌, Option, None}
+use Rattle.std.specs.Prelude.{Some, codes, ◌==◌, ◌&&◌, nat_le}
 use Rattle.std.specs.List.{list_any, slice_split}
 use Rattle.std.specs.Str.{bytes_eq, all_ascii_digits}
 use Rattle.std.specs.Str.Parse.{digits_value}
@@ -13,7 +14,8 @@ is_decimal v = all_ascii_digits v && nat_le 1 (length v) && nat_le (length v) 20
 -- a decimal number between two bounds
 abbrev pub number : ℕ → ℕ → List ℕ → Option ℕ
 number low high v =
-    if is_decimal v && nat_le low (digits_value 10 v) && nat_le (digits_value 10 v) high then Some (digits_value 10 v)
+    if is_decimal v && nat_le low (digits_value 10 v) && nat_le (digits_value 10 v) high
+    then Some (digits_value 10 v)
     else None
 
 abbrev pub made_number : List ℕ → Option ℕ

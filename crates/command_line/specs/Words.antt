@@ -1,5 +1,8 @@
 -- The job of words. Each word has one role, decided by the words before it.
-use Rattle.std.specs.Prelude.{ℕ, ◌≡◌, List, [], ◌∷◌, ◌++◌, drop, length, Bool, true, false, if◌then◌else◌, Option, None, Some, Result, Ok, Err, codes, slice_index, ◌==◌, ◌&&◌, ◌||◌, not, nat_eq, nat_lt, is_some, unwrap_or, option_and_then}
+use Rattle.std.specs.Prelude.{ℕ, ◌≡◌, List, [], ◌∷◌, ◌++◌, drop, length, Bool, true, false}
+use Rattle.std.specs.Prelude.{if◌then◌else◌, Option, None, Some, Result, Ok, Err, codes}
+use Rattle.std.specs.Prelude.{slice_index, ◌==◌, ◌&&◌, ◌||◌, not, nat_eq, nat_lt, is_some}
+use Rattle.std.specs.Prelude.{unwrap_or, option_and_then}
 use Rattle.std.specs.List.{list_any, starts_with}
 use Rattle.std.specs.Option.{option_or, option_map}
 use Rattle.std.specs.Str.{bytes_eq}
@@ -11,13 +14,16 @@ use Rattle.command_line.specs.declared.job.UsageFault.{UsageFault}
 use Rattle.command_line.specs.declared.job.JobFault.{JobFault}
 use Rattle.command_line.specs.declared.job.JobFault.TheVariants.{Usage, Memory}
 use Rattle.command_line.specs.declared.options.Setting.{Setting}
-use Rattle.command_line.specs.declared.options.Setting.TheVariants.{Out, Base, Selfmade, Names, Holes, Line, Format as Shape, Sizes, Jobs, Funcs}
+use Rattle.command_line.specs.declared.options.Setting.TheVariants.{Out, Base, Selfmade, Names}
+use Rattle.command_line.specs.declared.options.Setting.TheVariants.{Holes, Line, Format as Shape}
+use Rattle.command_line.specs.declared.options.Setting.TheVariants.{Sizes, Jobs, Funcs}
 use Rattle.command_line.specs.declared.options.ValuePlace.{ValuePlace}
 use Rattle.command_line.specs.declared.options.ValuePlace.TheVariants.{NextWord, SameWord}
 use Rattle.command_line.specs.Values.{made_number, holes, line, jobs, file_name, names, format}
 use Rattle.command_line.specs.Options.{row, settings, showing, is_same}
 
--- the role of a word: an option of the table, with its value if it is there; another word that begins with `-`;
+-- the role of a word: an option of the table, with its value if it is there; another word that
+-- begins with `-`;
 -- the value of the option before it; the first `--`; a file
 pub data Role : Type 0 where
   option : Setting → Option (List ℕ) → Role
@@ -34,14 +40,16 @@ pub data Before : Type 0 where
 
 -- what stands behind the spelling of an option, where a word is so spelled
 abbrev pub behind_spelling : ValuePlace → List ℕ → List ℕ → Option (List ℕ)
-behind_spelling SameWord spelling w = if starts_with nat_eq w spelling then Some (drop (length spelling) w) else None
+behind_spelling SameWord spelling w =
+    if starts_with nat_eq w spelling then Some (drop (length spelling) w) else None
 behind_spelling _ spelling w = if bytes_eq w spelling then Some [] else None
 
 -- the first of some options as which a word is spelled, with what stands behind the spelling
 abbrev pub spelled_as : List Setting → List ℕ → Option (Setting × List ℕ)
 spelled_as [] w = None
 spelled_as (s ∷ ss) w =
-    option_or (option_map (λ (v : List ℕ). (s, v)) (behind_spelling (row s).place (row s).spelling w)) (spelled_as ss w)
+    option_or (option_map (λ (v : List ℕ). (s, v))
+    (behind_spelling (row s).place (row s).spelling w)) (spelled_as ss w)
 
 -- `-`, and a word that does not begin with `-`
 abbrev pub is_file : List ℕ → Bool
@@ -119,7 +127,8 @@ usage at code = record { word = at; code = code }
 abbrev pub word_fault : List Role → List Role → Option UsageFault
 word_fault before [] = None
 word_fault before (r ∷ rs) =
-    option_or (option_map (usage (length before)) (code_after (uses before) r)) (word_fault (before ++ r ∷ []) rs)
+    option_or (option_map (usage (length before)) (code_after (uses before) r))
+    (word_fault (before ++ r ∷ []) rs)
 
 -- the value of an option as its reader gives it
 abbrev pub read : {A : Type 0} → (List ℕ → Option A) → Setting → List (Setting × List ℕ) → Option A
@@ -145,14 +154,16 @@ abbrev pub whole_fault : List (Setting × List ℕ) → ℕ → Option ℕ
 whole_fault us count =
     if are_apart us then Some 5
     else (if count == 0 && not (is_used us Selfmade) then Some 6
-    else (if (is_used us Selfmade && nat_lt 0 count) || (is_btf (format_of us) && nat_lt 1 count) then Some 7 else None))
+    else (if (is_used us Selfmade && nat_lt 0 count) || (is_btf (format_of us) && nat_lt 1 count)
+    then Some 7 else None))
 
 abbrev pub jobs_wanted : List (Setting × List ℕ) → ℕ
 jobs_wanted us = unwrap_or (read jobs Jobs us) 1
 
 abbrev pub job_by : Option ℕ → Option (List ℕ) → List (Setting × List ℕ) → List (List ℕ) → Job
 job_by (Some number) out us fs = Made number (jobs_wanted us)
-job_by None (Some out) us fs = Encode out (read file_name Base us) (jobs_wanted us) fs (is_used us Funcs)
+job_by None (Some out) us fs =
+    Encode out (read file_name Base us) (jobs_wanted us) fs (is_used us Funcs)
 job_by None None us fs =
     Show (format_of us) (read file_name Base us) (read names Names us) (is_used us Sizes)
     (unwrap_or (read holes Holes us) 0) (unwrap_or (read line Line us) 64) (jobs_wanted us) fs
@@ -168,7 +179,8 @@ job_unless (Some fault) job = Err fault
 -- the first word that has a fault, then what is wrong with all words, then the job
 abbrev pub job_of_roles : ℕ → List Role → Result Job UsageFault
 job_of_roles count rs =
-    job_unless (option_or (word_fault [] rs) (option_map (usage count) (whole_fault (uses rs) (length (files rs)))))
+    job_unless (option_or (word_fault [] rs)
+    (option_map (usage count) (whole_fault (uses rs) (length (files rs)))))
     (job_with (uses rs) (files rs))
 
 unfoldable pub job_of_words : List (List ℕ) → Result Job UsageFault
@@ -191,7 +203,8 @@ jobs_of (Encode _ _ n _ _) = n
 jobs_of (Show _ _ _ _ _ _ n _) = n
 jobs_of (Made _ n) = n
 
--- the names of the types that a job shows, and the size of a cache line; none, and 1, where it shows no layouts
+-- the names of the types that a job shows, and the size of a cache line; none, and 1, where it
+-- shows no layouts
 abbrev pub names_of : Job → List (List ℕ)
 names_of (Encode _ _ _ _ _) = []
 names_of (Show _ _ None _ _ _ _ _) = []

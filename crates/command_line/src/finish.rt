@@ -2,9 +2,13 @@
 ghost use Rattle.std.specs.Prelude.{◌≡◌, ◌==◌, ◌<◌, ◌≤◌, ◌^◌, List, length, IfOk, unwrap_or};
 ghost use Rattle.std.specs.List.{list_any, slice_split};
 ghost use Rattle.std.specs.Option.{option_map};
-ghost use Rattle.command_line.specs.declared.options.Setting.TheVariants.{Out, Base, Selfmade, Names, Holes, Line, Sizes, Jobs};
+ghost use Rattle.command_line.specs.declared.options.Setting.TheVariants.{Out, Base, Selfmade};
+ghost use Rattle.command_line.specs.declared.options.Setting.TheVariants.{Names, Holes, Line};
+ghost use Rattle.command_line.specs.declared.options.Setting.TheVariants.{Sizes, Jobs};
 ghost use Rattle.command_line.specs.Values.{made_number, holes, line, file_name, names};
-ghost use Rattle.command_line.specs.Words.{Gives, read, is_used, is_btf, format_of, are_apart, whole_fault, jobs_wanted, job_with, job_unless, usage, files_of, jobs_of, line_of, names_of};
+ghost use Rattle.command_line.specs.Words.{Gives, read, is_used, is_btf, format_of, are_apart};
+ghost use Rattle.command_line.specs.Words.{whole_fault, jobs_wanted, job_with, job_unless, usage};
+ghost use Rattle.command_line.specs.Words.{files_of, jobs_of, line_of, names_of};
 
 use crate::job::{Format, Job, JobFault, Text, Texts, UsageFault};
 use crate::options::{SHOWING, Setting};
@@ -19,7 +23,8 @@ pub fn finished(
     uses: &[Use<'_>],
     files: Vec<Text>,
 ) -> Result<Job, JobFault>
-    ensures told { Gives result (job_unless (option_map (usage count) (whole_fault uses.now (length files.items))) (job_with uses.now files.items)) }
+    ensures told { Gives result (job_unless (option_map (usage count)
+        (whole_fault uses.now (length files.items))) (job_with uses.now files.items)) }
     ensures few { IfOk result (λ j. length (files_of j) < 2 ^ 32) }
     ensures jobs { IfOk result (λ j. (1 ≤ jobs_of j) × (jobs_of j ≤ 256)) }
     ensures names { IfOk result (λ j. length (names_of j) < 2 ^ 32) }

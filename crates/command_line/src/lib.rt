@@ -14,9 +14,10 @@
 //! | `--funcs` | encodes functions, too; while encoding | none |
 //! | `--` | makes each later word a file | none |
 //!
-//! Without `--btf_encode_detached=` and `--selfmade=` the layouts of the types are shown; then no other job's options
-//! may be there. Numbers are 1 to 20 decimal digits. A word that doesn't begin with `-` is a file, and so is the word `-`;
-//! options and files may be mixed. Each option may stand once. At least one file is needed, and with `-F btf` exactly one.
+//! Without `--btf_encode_detached=` and `--selfmade=` the layouts of the types are shown; then no
+//! other job's options may be there. Numbers are 1 to 20 decimal digits. A word that doesn't begin
+//! with `-` is a file, and so is the word `-`; options and files may be mixed. Each option may
+//! stand once. At least one file is needed, and with `-F btf` exactly one.
 #![tactic(auto)]
 
 mod finish;

@@ -1,7 +1,9 @@
 //! The job of words.
-ghost use Rattle.std.specs.Prelude.{◌≡◌, ◌+◌, ◌<◌, ◌≤◌, ◌^◌, ◌∷◌, [], ◌++◌, map, drop, length, string_bytes, Some, IfOk, IfSome, OnOk, OnErr, false};
+ghost use Rattle.std.specs.Prelude.{◌≡◌, ◌+◌, ◌<◌, ◌≤◌, ◌^◌, ◌∷◌, [], ◌++◌, map, drop, length};
+ghost use Rattle.std.specs.Prelude.{string_bytes, Some, IfOk, IfSome, OnOk, OnErr, false};
 ghost use Rattle.std.specs.Option.{option_copied};
-ghost use Rattle.command_line.specs.Words.{job_of_words, Gives, files_of, jobs_of, line_of, names_of, first_of, is_file, value_at};
+ghost use Rattle.command_line.specs.Words.{job_of_words, Gives, files_of, jobs_of, line_of};
+ghost use Rattle.command_line.specs.Words.{names_of, first_of, is_file, value_at};
 ghost use Rattle.command_line.specs.Reading.{ReadsOn, ReadsOption, width};
 ghost use Rattle.command_line.specs.Options.{row};
 
@@ -107,7 +109,8 @@ fn fault(at: usize, code: u32) -> UsageFault
     }
 }
 
-/// Reads the word at a position, and the value of an option. It answers the position of the next word.
+/// Reads the word at a position, and the value of an option. It answers the position of the next
+/// word.
 fn read_word<'w>(
     alloc: Global,
     words: &'w [String],
@@ -141,7 +144,8 @@ fn read_option<'w>(
     seen: &mut Seen<'w>,
 ) -> Result<usize, JobFault>
     requires { at < length words.now }
-    ensures { ReadsOption (drop (at + 1) (map string_bytes words.now)) at option.now seen.old seen.new result }
+    ensures { ReadsOption
+        (drop (at + 1) (map string_bytes words.now)) at option.now seen.old seen.new result }
 {
     let setting = option.setting();
     if is_used(seen.uses.as_slice(), setting) {
@@ -170,7 +174,8 @@ fn width(place: ValuePlace) -> usize
 /// The value of the option at a position, by what stands behind its spelling, or the next word.
 fn value_at<'w>(words: &'w [String], at: usize, option: &Use<'w>) -> Option<&'w str>
     requires { at < length words.now }
-    ensures { option_copied result ≡ value_at (row option.now.0).place option.now.1 (drop (at + 1) (map string_bytes words.now)) }
+    ensures { option_copied result ≡ value_at (row option.now.0).place option.now.1
+        (drop (at + 1) (map string_bytes words.now)) }
 {
     match option.setting().value_place() {
         ValuePlace::NextWord => word_at(words, at + 1),

@@ -4,8 +4,8 @@ use std::alloc::{AllocError, Global};
 use std::process::Abort;
 use std::test::Fail;
 
-// In each line words, one space between two, and behind the arrow what they say: an empty word is nothing between
-// two spaces.
+// In each line words, one space between two, and behind the arrow what they say: an empty word is
+// nothing between two spaces.
 const JOBS: &str = "\
 a -> show dwarf base=- C=- H0 c64 j1: <a>
 --btf_encode_detached=o a -> encode o base=- j1: <a>

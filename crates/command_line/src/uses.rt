@@ -79,7 +79,8 @@ fn behind_spelling<'w>(place: ValuePlace, spelling: &str, word: &'w str) -> Opti
 
 /// The same by the table.
 fn behind(setting: Setting, word: &str) -> Option<&str>
-    ensures { option_copied result ≡ behind_spelling (row setting).place (row setting).spelling word.now }
+    ensures { option_copied result
+        ≡ behind_spelling (row setting).place (row setting).spelling word.now }
 {
     behind_spelling(setting.value_place(), setting.spelling(), word)
 }

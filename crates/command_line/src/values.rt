@@ -1,7 +1,8 @@
 //! The values of options, as their words write them.
 ghost use Rattle.std.specs.Prelude.{◌≡◌, ◌<◌, ◌^◌, ◌≤◌, IfOk, IfSome, is_some, option_copied};
 ghost use Rattle.std.specs.Str.{all_ascii_digits};
-ghost use Rattle.command_line.specs.Values.{is_decimal, number, made_number, holes, line, jobs, file_name, names, format};
+ghost use Rattle.command_line.specs.Values.{is_decimal, number, made_number, holes, line, jobs};
+ghost use Rattle.command_line.specs.Values.{file_name, names, format};
 
 use crate::job::Format;
 

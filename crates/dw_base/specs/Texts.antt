@@ -5,7 +5,8 @@ use Rattle.std.specs.Option.{option_map}
 -- the bytes before the first NUL, where there is one
 unfoldable pub text_from : List ℕ → Option (List ℕ)
 text_from [] = None
-text_from (b ∷ bs) = if b == 0 then Some [] else option_map (λ (rest : List ℕ). b ∷ rest) (text_from bs)
+text_from (b ∷ bs) =
+    if b == 0 then Some [] else option_map (λ (rest : List ℕ). b ∷ rest) (text_from bs)
 
 -- the text at a place
 unfoldable pub text_of : List ℕ → ℕ → Option (List ℕ)

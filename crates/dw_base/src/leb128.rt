@@ -1,5 +1,7 @@
-//! LEB128 numbers (DWARF 5, section 7.6): seven bits a byte, the lowest first, bit 7 set on all but the last.
-ghost use Rattle.std.specs.Prelude.{◌≡◌, ◌<◌, ◌≤◌, ◌+◌, ◌*◌, ◌^◌, ◌%◌, ℕ, ℤ, pos, ◌-ℤ◌, ◌==◌, ◌&&◌, nat_lt, if◌then◌else◌};
+//! LEB128 numbers (DWARF 5, section 7.6): seven bits a byte, the lowest first, bit 7 set on all but
+//! the last.
+ghost use Rattle.std.specs.Prelude.{◌≡◌, ◌<◌, ◌≤◌, ◌+◌, ◌*◌, ◌^◌, ◌%◌, ℕ, ℤ, pos, ◌-ℤ◌, ◌==◌, ◌&&◌};
+ghost use Rattle.std.specs.Prelude.{nat_lt, if◌then◌else◌};
 ghost use Rattle.dw_base.specs.Leb128.{uleb_of, sleb_of, fits_i64};
 ghost use Rattle.dw_base.specs.Sums.{Sums, IsEven};
 
@@ -16,7 +18,8 @@ pub enum LebFault {
     TooWide,
 }
 
-/// The sum of some digits: its low 63 bits, and what is known of the part above them, counted by 2^63.
+/// The sum of some digits: its low 63 bits, and what is known of the part above them, counted by
+/// 2^63.
 /// `zeros`: that part is 0; `one`: it is 1; `full`: it is all ones.
 #[derive(Clone, Copy)]
 struct Sum {
@@ -60,7 +63,8 @@ fn added(sum: Sum, digit: u64) -> Sum
     requires digit { digit < 128 }
     requires even { IsEven sum.low sum.shift }
     ensures even { IsEven result.low result.shift }
-    ensures sums { (n total : ℕ) → Sums sum n total → Sums result (n + 1) (total + digit * 128 ^ n) }
+    ensures sums { (n total : ℕ) → Sums sum n total
+        → Sums result (n + 1) (total + digit * 128 ^ n) }
 {
     if sum.shift < 63 {
         Sum {
@@ -81,9 +85,10 @@ fn added(sum: Sum, digit: u64) -> Sum
     }
 }
 
-/// The unsigned number at offset `at`, and the offset after it. Padding bytes (`80 00` for 0) are allowed.
-/// `Truncated` where no byte with bit 7 clear stands at or after `at`; `TooWide` where one does and the
-/// number passes 2^64 - 1.
+/// The unsigned number at offset `at`, and the offset after it. Padding bytes (`80 00` for 0) are
+/// allowed.
+/// `Truncated` where no byte with bit 7 clear stands at or after `at`; `TooWide` where one does and
+/// the number passes 2^64 - 1.
 #[inline(always)]
 pub fn uleb(bytes: &[u8], at: u64) -> Result<(u64, u64), LebFault>
     ensures { result ≡ uleb_of bytes.now at }
@@ -99,8 +104,9 @@ pub fn uleb(bytes: &[u8], at: u64) -> Result<(u64, u64), LebFault>
     Err(LebFault::Truncated)
 }
 
-/// The signed number at offset `at`, in two's complement by bit 6 of its last byte, and the offset after
-/// it. Padding bytes are allowed. `Truncated` where no byte with bit 7 clear stands at or after `at`;
+/// The signed number at offset `at`, in two's complement by bit 6 of its last byte, and the offset
+/// after it. Padding bytes are allowed. `Truncated` where no byte with bit 7 clear stands at or
+/// after `at`;
 /// `TooWide` where one does and the number does not fit an `i64`.
 #[inline(always)]
 pub fn sleb(bytes: &[u8], at: u64) -> Result<(i64, u64), LebFault>
@@ -121,7 +127,8 @@ pub fn sleb(bytes: &[u8], at: u64) -> Result<(i64, u64), LebFault>
 #[inline(always)]
 fn unsigned(sum: Sum, end: u64) -> Result<(u64, u64), LebFault>
     requires { IsEven sum.low sum.shift }
-    ensures { (n total : ℕ) → Sums sum n total → result ≡ (if nat_lt total (2 ^ 64) then Ok (total, end) else Err LebFault.TooWide) }
+    ensures { (n total : ℕ) → Sums sum n total
+        → result ≡ (if nat_lt total (2 ^ 64) then Ok (total, end) else Err LebFault.TooWide) }
 {
     if sum.zeros {
         Ok((sum.low, end))
@@ -136,7 +143,8 @@ fn unsigned(sum: Sum, end: u64) -> Result<(u64, u64), LebFault>
 #[inline(always)]
 fn signed(sum: Sum, negative: bool, end: u64) -> Result<(i64, u64), LebFault>
     requires { IsEven sum.low sum.shift }
-    ensures { (n total : ℕ) → Sums sum n total → let v = if negative then pos total -ℤ pos (128 ^ n) else pos total in result ≡ (if fits_i64 v then Ok (v, end) else Err LebFault.TooWide) }
+    ensures { (n total : ℕ) → Sums sum n total → let v = if negative then pos total -ℤ pos (128 ^ n)
+        else pos total in result ≡ (if fits_i64 v then Ok (v, end) else Err LebFault.TooWide) }
 {
     let low = sum.low as i64;
     if negative {

@@ -1,5 +1,5 @@
-//! What every layer stands on: numbers, LEB128 numbers and texts in bytes, names as slices, places of
-//! faults, the limits of a run, and a counter of steps.
+//! What every layer stands on: numbers, LEB128 numbers and texts in bytes, names as slices, places
+//! of faults, the limits of a run, and a counter of steps.
 //!
 //! No call of this crate takes memory.
 #![tactic(auto)]

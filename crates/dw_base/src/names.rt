@@ -5,8 +5,8 @@ ghost use Rattle.dw_base.specs.Texts.{text_of};
 use memchr::memchr;
 use std::marker::Model;
 
-/// A name in a file: a slice of the section that holds it, without its closing NUL. Nothing is copied.
-/// Contracts see it as its list of bytes.
+/// A name in a file: a slice of the section that holds it, without its closing NUL. Nothing is
+/// copied. Contracts see it as its list of bytes.
 #[derive(Debug, Drop)]
 pub struct Name<'a> {
     bytes: &'a [u8],
@@ -34,8 +34,9 @@ impl<'a> Name<'a> {
     }
 }
 
-/// The text at a place: the bytes from offset `at` to before the next NUL (DWARF 5, section 7.5.5, the
-/// form string). `None` where no NUL stands at or after `at`, so too where `at` is past the end.
+/// The text at a place: the bytes from offset `at` to before the next NUL (DWARF 5, section 7.5.5,
+/// the form string). `None` where no NUL stands at or after `at`, so too where `at` is past the
+/// end.
 pub fn text_at<'a>(bytes: &'a [u8], at: u64) -> Option<Name<'a>>
     ensures { result ≡ text_of bytes.now at }
 {

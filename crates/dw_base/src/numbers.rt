@@ -13,8 +13,8 @@ pub enum Order {
     Big,
 }
 
-/// The unsigned number in the `width` bytes from offset `at`. `None` exactly where these bytes do not
-/// all lie in `bytes`.
+/// The unsigned number in the `width` bytes from offset `at`. `None` exactly where these bytes do
+/// not all lie in `bytes`.
 #[inline(always)]
 pub fn number(bytes: &[u8], at: u64, width: u32, order: Order) -> Option<u64>
     requires low { 1 ≤ width }

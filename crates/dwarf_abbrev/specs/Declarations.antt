@@ -12,7 +12,8 @@ pub record Declaration : Type 0 where
 -- the place of the first declaration with a code
 abbrev pub place_of : ℕ → List Declaration → Option ℕ
 place_of code [] = None
-place_of code (r ∷ rs) = if r.code == code then Some 0 else option_map (λ (i : ℕ). suc i) (place_of code rs)
+place_of code (r ∷ rs) =
+    if r.code == code then Some 0 else option_map (λ (i : ℕ). suc i) (place_of code rs)
 
 -- the first declaration with a code
 abbrev pub declaration_with : ℕ → List Declaration → Option Declaration

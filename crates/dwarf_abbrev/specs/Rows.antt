@@ -7,7 +7,8 @@ use Rattle.dwarf_abbrev.specs.declared.row.Row.{Row}
 use Rattle.dwarf_abbrev.specs.declared.row.Abbrev.{Abbrev}
 
 abbrev pub declaration_of : Row → Declaration
-declaration_of r = record { code = r.code; tag = r.tag; children = r.children; specs = r.specs.items }
+declaration_of r =
+    record { code = r.code; tag = r.tag; children = r.children; specs = r.specs.items }
 
 abbrev pub declarations_of : List Row → List Declaration
 declarations_of rows = map declaration_of rows
@@ -18,13 +19,18 @@ shown a = record { code = a.code; tag = a.tag; children = a.children; specs = a.
 abbrev pub code_at : List Declaration → ℕ → ℕ
 code_at declarations i = get_or (map (λ (r : Declaration). r.code) declarations) i 0
 
--- each declaration stands at the place of its code, or the map has its place; the map has no other place; no code stands twice
+-- each declaration stands at the place of its code, or the map has its place; the map has no other
+-- place; no code stands twice
 pub record IsPlaced (declarations : List Declaration) (others : BTreeMap ℕ ℕ) : Type 0 where
-  pub each : (i : ℕ) → i < length declarations → (code_at declarations i ≡ i + 1) ⊎ (get nat_cmp others (code_at declarations i) ≡ Some i)
-  pub found : (q i : ℕ) → get nat_cmp others q ≡ Some i → (i < length declarations) × (code_at declarations i ≡ q)
-  pub distinct : (i j : ℕ) → i < length declarations → j < length declarations → code_at declarations i ≡ code_at declarations j → i ≡ j
+  pub each : (i : ℕ) → i < length declarations
+      → (code_at declarations i ≡ i + 1) ⊎ (get nat_cmp others (code_at declarations i) ≡ Some i)
+  pub found : (q i : ℕ) → get nat_cmp others q ≡ Some i
+      → (i < length declarations) × (code_at declarations i ≡ q)
+  pub distinct : (i j : ℕ) → i < length declarations → j < length declarations
+      → code_at declarations i ≡ code_at declarations j → i ≡ j
 
 -- the map has one more place, or needs none
 abbrev pub Places : BTreeMap ℕ ℕ → BTreeMap ℕ ℕ → ℕ → ℕ → Type 0
 Places old new code index =
-    ((q : ℕ) → (q ≡ code → ⊥) → get nat_cmp new q ≡ get nat_cmp old q) × (((code ≡ index + 1) × (get nat_cmp new code ≡ get nat_cmp old code)) ⊎ (get nat_cmp new code ≡ Some index))
+    ((q : ℕ) → (q ≡ code → ⊥) → get nat_cmp new q ≡ get nat_cmp old q) × (((code ≡ index + 1)
+    × (get nat_cmp new code ≡ get nat_cmp old code)) ⊎ (get nat_cmp new code ≡ Some index))

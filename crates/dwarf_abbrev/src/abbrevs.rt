@@ -1,8 +1,10 @@
 //! Tables of abbreviations, and looking a code up.
-ghost use Rattle.std.specs.Prelude.{◌≡◌, ◌^◌, ◌<◌, ◌-◌, ◌≢◌, length, None, IfSome, IsNone, IfOk, OnOk};
+ghost use Rattle.std.specs.Prelude.{◌≡◌, ◌^◌, ◌<◌, ◌-◌, ◌≢◌, length, None, IfSome, IsNone, IfOk};
+ghost use Rattle.std.specs.Prelude.{OnOk};
 ghost use Rattle.std.specs.Option.{option_map};
 ghost use Rattle.dwarf_abbrev.specs.Declarations.{place_of};
-ghost use Rattle.dwarf_abbrev.specs.Rows.{declarations_of, declaration_of, code_at, IsPlaced, Places};
+ghost use Rattle.dwarf_abbrev.specs.Rows.{declarations_of, declaration_of, code_at, IsPlaced};
+ghost use Rattle.dwarf_abbrev.specs.Rows.{Places};
 ghost use Rattle.dwarf_abbrev.specs.Table.{Gives, declaration_at, table_at};
 
 use crate::fault::AbbrevFault;
@@ -52,8 +54,10 @@ fn place(rows: &[Row], others: &BTreeMap<u64, usize>, code: u64) -> Option<usize
 /// The index that a code has where the codes are 1, 2, 3 and so on.
 #[inline(always)]
 fn guess(rows: &[Row], code: u64) -> Option<usize>
-    ensures some { IfSome result (λ i. (i < length rows.now) × (code_at (declarations_of rows.now) i ≡ code)) }
-    ensures none { IsNone result → 0 < code → code - 1 < length rows.now → code_at (declarations_of rows.now) (code - 1) ≢ code }
+    ensures some { IfSome result
+        (λ i. (i < length rows.now) × (code_at (declarations_of rows.now) i ≡ code)) }
+    ensures none { IsNone result → 0 < code → code - 1 < length rows.now
+        → code_at (declarations_of rows.now) (code - 1) ≢ code }
 {
     if code == 0 || code > rows.len() as u64 {
         return None;
@@ -76,7 +80,8 @@ fn read_row(
     others: &BTreeMap<u64, usize>,
 ) -> Result<(Option<Row>, u64), AbbrevFault>
     requires { IsPlaced (declarations_of rows.now) others.now }
-    ensures gives { Gives (λ x. (option_map declaration_of x.0, x.1)) result (declaration_at bytes.now at (declarations_of rows.now)) }
+    ensures gives { Gives (λ x. (option_map declaration_of x.0, x.1)) result
+        (declaration_at bytes.now at (declarations_of rows.now)) }
     ensures fresh { IfOk result (λ x. IfSome x.0 (λ r. place_of r.code (declarations_of rows.now) ≡ None)) }
 {
     let (code, after) = read_number(bytes, at, at)?;
@@ -144,11 +149,11 @@ impl Abbrevs {
 
     /// The table that begins at the offset `at` of `.debug_abbrev`.
     ///
-    /// It is refused exactly where no table stands there, for the first piece in the order of the bytes
-    /// that can't be read: a piece that the section's end cuts off is `AbbrevTruncated` at its
-    /// abbreviation, a number that doesn't fit 64 bits `LebWide` at its first byte, a children byte other
-    /// than 0 and 1 `ChildrenByte`, and a code that an earlier abbreviation has `AbbrevTwice` at the
-    /// second one. `Memory` comes only where memory can't be found.
+    /// It is refused exactly where no table stands there, for the first piece in the order of the
+    /// bytes that can't be read: a piece that the section's end cuts off is `AbbrevTruncated` at
+    /// its abbreviation, a number that doesn't fit 64 bits `LebWide` at its first byte, a children
+    /// byte other than 0 and 1 `ChildrenByte`, and a code that an earlier abbreviation has
+    /// `AbbrevTwice` at the second one. `Memory` comes only where memory can't be found.
     pub fn read(alloc: Global, bytes: &[u8], at: u64) -> Result<Abbrevs, AbbrevFault>
         ensures reads { Reads bytes.now at result }
         ensures gives { Gives (λ t. t) result (table_at bytes.now at) }

@@ -1,5 +1,6 @@
-//! The codes of DWARF by the standard's own names (DWARF 5, section 7), as far as types and functions of
-//! C are read: tags, attributes, forms, an operation, encodings, languages and types of units.
+//! The codes of DWARF by the standard's own names (DWARF 5, section 7), as far as types and
+//! functions of C are read: tags, attributes, forms, an operation, encodings, languages and types
+//! of units.
 
 // Tags (DWARF 5, section 7.5.3, table 7.3).
 pub const DW_TAG_array_type: u64 = 0x01;
@@ -74,7 +75,8 @@ pub const DW_TAG_call_site_parameter: u64 = 0x49;
 
 pub const DW_TAG_skeleton_unit: u64 = 0x4a;
 
-// Attributes (section 7.5.4, table 7.5). DW_AT_bit_offset is of DWARF 4 (table 7.3 there), and reserved since.
+// Attributes (section 7.5.4, table 7.5). DW_AT_bit_offset is of DWARF 4 (table 7.3 there), and
+// reserved since.
 pub const DW_AT_sibling: u64 = 0x01;
 
 pub const DW_AT_location: u64 = 0x02;

@@ -34,8 +34,8 @@ pub struct Size {
     pub addresses: u32,
 }
 
-/// The width of a form (DWARF 5, section 7.5.6, table 7.6). `None` where it is not fixed, and where the table has no
-/// row for the form.
+/// The width of a form (DWARF 5, section 7.5.6, table 7.6). `None` where it is not fixed, and where
+/// the table has no row for the form.
 pub fn form_width(form: u64) -> Option<Width>
     ensures row { result ≡ width_of form }
     ensures bytes { (o a : ℕ) → IfSome result (λ w. bytes_of o a form ≡ Some (width_in o a w)) }
@@ -108,8 +108,8 @@ fn with_width(size: Size, width: Width) -> Option<Size>
     }
 }
 
-/// The bytes of the values of some pairs, where they are known without the values. `None` where a form has no fixed
-/// width, and where a sum passes 32 bits.
+/// The bytes of the values of some pairs, where they are known without the values. `None` where a
+/// form has no fixed width, and where a sum passes 32 bits.
 pub(crate) fn fixed_size(specs: &[Spec]) -> Option<Size>
     ensures { IfSome result (IsSize specs.now) }
 {

@@ -7,6 +7,7 @@ pub struct Spec {
     pub attribute: u64,
     /// The code of the form, a DW_FORM number.
     pub form: u64,
-    /// The value that the abbreviation itself holds where the form is DW_FORM_implicit_const, else 0.
+    /// The value that the abbreviation itself holds where the form is DW_FORM_implicit_const, else
+    /// 0.
     pub implicit: i64,
 }

@@ -102,8 +102,8 @@ fn size_of(table: &Abbrevs, code: u64) -> Option<Size> {
     table.get(code)?.size
 }
 
-/// Abbreviations with: strp, data2, addr, strp, flag; implicit_const and flag_present; an indirect form; a form that
-/// is unknown; data16 and udata.
+/// Abbreviations with: strp, data2, addr, strp, flag; implicit_const and flag_present; an indirect
+/// form; a form that is unknown; data16 and udata.
 const SIZED: &[u8] = &[
     1, 0x2e, 0, 3, 0x0e, 0x0b, 0x05, 0x11, 0x01, 0x6e, 0x0e, 0x3f, 0x0c, 0, 0, // 1
     2, 0x2e, 0, 0x0b, 0x21, 0x7e, 0x3c, 0x19, 0, 0, // 2

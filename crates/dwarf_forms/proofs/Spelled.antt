@@ -1,5 +1,8 @@
 -- A value read is the value that the standard lays out.
-use Rattle.std.proofs.Common.{◌≡◌, ◌≢◌, ℕ, ◌+◌, ◌<◌, ◌≤◌, ◌==◌, ◌||◌, ◌^◌, ℤ, Bool, true, false, List, [], ◌∷◌, ◌++◌, length, take, drop, nat_le, Option, None, Some, Result, Ok, Err, if◌then◌else◌, refl, sym, ap, subst, ◌∙◌, arith, inl, inr}
+use Rattle.std.proofs.Common.{◌≡◌, ◌≢◌, ℕ, ◌+◌, ◌<◌, ◌≤◌, ◌==◌, ◌||◌, ◌^◌, ℤ, Bool, true, false}
+use Rattle.std.proofs.Common.{List, [], ◌∷◌, ◌++◌, length, take, drop, nat_le, Option, None, Some}
+use Rattle.std.proofs.Common.{Result, Ok, Err, if◌then◌else◌, refl, sym, ap, subst, ◌∙◌, arith, inl}
+use Rattle.std.proofs.Common.{inr}
 use Rattle.std.specs.Prelude.{not}
 use Rattle.std.proofs.lemmas.Bool.{eq-eqb, ne_eqb, eqb-true, eqb-false, le-leb, leb-true}
 use Rattle.std.proofs.lemmas.List.{length-append}
@@ -11,7 +14,8 @@ use Rattle.dw_base.specs.declared.numbers.Order.TheVariants as orders
 use Rattle.dw_base.specs.declared.leb128.LebFault.{LebFault}
 use Rattle.dw_base.specs.declared.leb128.LebFault.TheVariants.{Truncated, TooWide}
 use Rattle.dw_base.proofs.Ends.{ok_parts}
-use Rattle.dwarf_abbrev.specs.declared.constants.TheConstants.{DW_FORM_implicit_const, DW_FORM_indirect}
+use Rattle.dwarf_abbrev.specs.declared.constants.TheConstants.{DW_FORM_implicit_const}
+use Rattle.dwarf_abbrev.specs.declared.constants.TheConstants.{DW_FORM_indirect}
 use Rattle.dwarf_abbrev.specs.declared.spec.Spec.{Spec}
 use Rattle.dwarf_forms.specs.declared.fault.FormFault.{FormFault}
 use Rattle.dwarf_forms.specs.declared.fault.FormFault.TheVariants.{FormUnknown, ValueTruncated}
@@ -19,90 +23,127 @@ use Rattle.dwarf_forms.specs.declared.layout.Layout.{Layout}
 use Rattle.dwarf_forms.specs.declared.layout.Layout.TheVariants as layouts
 use Rattle.dwarf_forms.specs.declared.layout.Held.{Held}
 use Rattle.dwarf_forms.specs.Forms.{layout_of, HasWidth, HasWidths}
-use Rattle.dwarf_forms.specs.Values.{◌>>=◌, Plain, Shown, Within, or_cut, of_leb, or_unknown, fixed_at, uleb_at, sleb_at, held_at, text_at, read_at, form_at, value_of}
+use Rattle.dwarf_forms.specs.Values.{◌>>=◌, Plain, Shown, Within, or_cut, of_leb, or_unknown}
+use Rattle.dwarf_forms.specs.Values.{fixed_at, uleb_at, sleb_at, held_at, text_at, read_at, form_at}
+use Rattle.dwarf_forms.specs.Values.{value_of}
 use Rattle.dwarf_forms.specs.Values.Plain.{number, signed, bytes, sixteen, text, flag, elsewhere}
 use Rattle.dwarf_forms.specs.Standard.{IsLeb, HasNoNul, Means, Stands, IsOfForm, Uses, IsValue}
 use Rattle.dwarf_forms.proofs.Progress.{bind_ok}
 use Rattle.dwarf_forms.proofs.Widths.{has_widths}
-use Rattle.dwarf_forms.proofs.Pieces.{join, split, fits_in, taken, piece_there, uleb_is, uleb_gives, sleb_is, sleb_gives, text_stands, text_found, nul_length, number_stands, number_found}
+use Rattle.dwarf_forms.proofs.Pieces.{join, split, fits_in, taken, piece_there, uleb_is, uleb_gives}
+use Rattle.dwarf_forms.proofs.Pieces.{sleb_is, sleb_gives, text_stands, text_found, nul_length}
+use Rattle.dwarf_forms.proofs.Pieces.{number_stands, number_found}
 
-pub bind_gives : {A B : Type 0} (r : Result A FormFault) (f : A → Result B FormFault) (x : A) → r ≡ Ok x → (r >>= f) ≡ f x
+pub bind_gives : {A B : Type 0} (r : Result A FormFault) (f : A → Result B FormFault) (x : A)
+    → r ≡ Ok x → (r >>= f) ≡ f x
 bind_gives r f x e = rw e refl
 
 -- leaves
-leb_found : {A : Type 0} (at attribute : ℕ) (r : Result A LebFault) (x : A) → of_leb at attribute r ≡ Ok x → r ≡ Ok x
+leb_found : {A : Type 0} (at attribute : ℕ) (r : Result A LebFault) (x : A)
+    → of_leb at attribute r ≡ Ok x → r ≡ Ok x
 leb_found at attribute (Ok y) x e = let q : y ≡ x = cc in ap (λ z. Ok z) q
 leb_found at attribute (Err Truncated) x e = cc
 leb_found at attribute (Err TooWide) x e = cc
 
-cut_found : {A : Type 0} (attribute : ℕ) (o : Option A) (x : A) → or_cut attribute o ≡ Ok x → o ≡ Some x
+cut_found : {A : Type 0} (attribute : ℕ) (o : Option A) (x : A) → or_cut attribute o ≡ Ok x
+    → o ≡ Some x
 cut_found attribute None x e = cc
 cut_found attribute (Some y) x e = let q : y ≡ x = cc in ap (λ z. Some z) q
 
-pub fixed_is : (unit : List ℕ) (at w : ℕ) (order : Order) (attribute n end : ℕ) → fixed_at unit at w order attribute ≡ Ok (n, end) → (piece : List ℕ) × Stands unit at piece end × (length piece ≡ w) × (n ≡ ordered order piece)
+pub fixed_is : (unit : List ℕ) (at w : ℕ) (order : Order) (attribute n end : ℕ)
+    → fixed_at unit at w order attribute ≡ Ok (n, end)
+    → (piece : List ℕ) × Stands unit at piece end × (length piece ≡ w) × (n ≡ ordered order piece)
 unfolding fixed_at
 fixed_is unit at w order attribute n end e =
-    let b = bind_ok (or_cut attribute (number_of unit at w order)) (λ (n : ℕ). Ok (n, at + w)) (n, end) e in
+    let b = bind_ok (or_cut attribute (number_of unit at w order))
+    (λ (n : ℕ). Ok (n, at + w)) (n, end) e in
     let o = cut_found attribute (number_of unit at w order) b.0 b.1 in
     let p = ok_parts {F = FormFault} b.0 n (at + w) end b.2 in
     let s = number_stands unit at w b.0 order o in
     (s.0, subst (λ (k : ℕ). Stands unit at s.0 k) p.1 s.1, s.2, sym p.0 ∙ s.3)
 
-pub fixed_gives : (unit : List ℕ) (at w : ℕ) (order : Order) (attribute end : ℕ) (piece : List ℕ) → 1 ≤ w → Stands unit at piece end → length piece ≡ w → fixed_at unit at w order attribute ≡ Ok (ordered order piece, end)
+pub fixed_gives : (unit : List ℕ) (at w : ℕ) (order : Order) (attribute end : ℕ) (piece : List ℕ)
+    → 1 ≤ w → Stands unit at piece end → length piece ≡ w
+    → fixed_at unit at w order attribute ≡ Ok (ordered order piece, end)
 unfolding fixed_at
 fixed_gives unit at w order attribute end piece some s l =
     let k : at + w ≡ end = omega (arith, s.2, l) in
-    bind_gives (or_cut attribute (number_of unit at w order)) (λ (n : ℕ). Ok (n, at + w)) (ordered order piece) (ap (or_cut attribute) (number_found unit at w end order piece some l s)) ∙ ap (λ (k : ℕ). Ok (ordered order piece, k)) k
+    bind_gives (or_cut attribute (number_of unit at w order)) (λ (n : ℕ). Ok (n, at + w)) (ordered
+    order piece) (ap (or_cut attribute) (number_found unit at w end order piece some l s))
+    ∙ ap (λ (k : ℕ). Ok (ordered order piece, k)) k
 
-held_test : (unit : List ℕ) (at count attribute : ℕ) (bs : List ℕ) (end : ℕ) (t : Bool) → nat_le (at + count) (length unit) ≡ t → ◌≡◌ {A = Result (List ℕ × ℕ) FormFault} (if t then Ok (take count (drop at unit), at + count) else Err (ValueTruncated attribute)) (Ok (bs, end))
+held_test : (unit : List ℕ) (at count attribute : ℕ) (bs : List ℕ) (end : ℕ) (t : Bool)
+    → nat_le (at + count) (length unit) ≡ t → ◌≡◌ {A = Result (List ℕ × ℕ) FormFault} (if t then Ok
+    (take count (drop at unit), at + count) else Err (ValueTruncated attribute)) (Ok (bs, end))
     → Stands unit at bs end × (length bs ≡ count)
 held_test unit at count attribute bs end true t e =
     let p = ok_parts {F = FormFault} (take count (drop at unit)) bs (at + count) end e in
-    let s = piece_there unit at count (leb-true (at + count) (length unit) t) in
-    (subst (λ (k : ℕ). Stands unit at bs k) p.1 (subst (λ (xs : List ℕ). Stands unit at xs (at + count)) p.0 s.0), ap (λ (xs : List ℕ). length xs) (sym p.0) ∙ s.1)
+    let s = piece_there unit at count (leb-true (at + count) (length unit) t) in (
+      subst (λ (k : ℕ). Stands unit at bs k) p.1 (subst (λ (xs : List ℕ).
+          Stands unit at xs (at + count)) p.0 s.0),
+      ap (λ (xs : List ℕ). length xs) (sym p.0) ∙ s.1,
+    )
 held_test unit at count attribute bs end false t e = cc
 
-held_is : (unit : List ℕ) (at count attribute : ℕ) (bs : List ℕ) (end : ℕ) → held_at unit at count attribute ≡ Ok (bs, end) → Stands unit at bs end × (length bs ≡ count)
+held_is : (unit : List ℕ) (at count attribute : ℕ) (bs : List ℕ) (end : ℕ)
+    → held_at unit at count attribute ≡ Ok (bs, end) → Stands unit at bs end × (length bs ≡ count)
 unfolding held_at
-held_is unit at count attribute bs end e = held_test unit at count attribute bs end (nat_le (at + count) (length unit)) refl e
+held_is unit at count attribute bs end e =
+    held_test unit at count attribute bs end (nat_le (at + count) (length unit)) refl e
 
-held_gives : (unit : List ℕ) (at count attribute : ℕ) (bs : List ℕ) (end : ℕ) → at + count ≤ length unit → Stands unit at bs end → length bs ≡ count → held_at unit at count attribute ≡ Ok (bs, end)
+held_gives : (unit : List ℕ) (at count attribute : ℕ) (bs : List ℕ) (end : ℕ)
+    → at + count ≤ length unit → Stands unit at bs end → length bs ≡ count
+    → held_at unit at count attribute ≡ Ok (bs, end)
 unfolding held_at
 held_gives unit at count attribute bs end le s l =
-    let t : take count (drop at unit) ≡ bs = ap (λ (k : ℕ). take k (drop at unit)) (sym l) ∙ taken unit at end bs s in
+    let t : take count (drop at unit) ≡ bs =
+    ap (λ (k : ℕ). take k (drop at unit)) (sym l) ∙ taken unit at end bs s in
     let k : at + count ≡ end = omega (arith, s.2, l) in
     rw (le-leb (at + count) (length unit) le, t) (ap (λ (k : ℕ). Ok (bs, k)) k)
 
-text_at_is : (unit : List ℕ) (at attribute : ℕ) (u : List ℕ) (end : ℕ) → text_at unit at attribute ≡ Ok (u, end) → Stands unit at (u ++ 0 ∷ []) end × HasNoNul u
+text_at_is : (unit : List ℕ) (at attribute : ℕ) (u : List ℕ) (end : ℕ)
+    → text_at unit at attribute ≡ Ok (u, end) → Stands unit at (u ++ 0 ∷ []) end × HasNoNul u
 unfolding text_at
 text_at_is unit at attribute u end e =
-    let b = bind_ok (or_cut attribute (text_of unit at)) (λ (t : List ℕ). Ok (t, at + length t + 1)) (u, end) e in
+    let b = bind_ok (or_cut attribute (text_of unit at))
+    (λ (t : List ℕ). Ok (t, at + length t + 1)) (u, end) e in
     let o = cut_found attribute (text_of unit at) b.0 b.1 in
     let p = ok_parts {F = FormFault} b.0 u (at + length b.0 + 1) end b.2 in
-    let s = text_stands unit at b.0 o in
-    (subst (λ (k : ℕ). Stands unit at (u ++ 0 ∷ []) k) p.1 (subst (λ (xs : List ℕ). Stands unit at (xs ++ 0 ∷ []) (at + length b.0 + 1)) p.0 s.0), subst HasNoNul p.0 s.1)
+    let s = text_stands unit at b.0 o in (
+      subst (λ (k : ℕ). Stands unit at (u ++ 0 ∷ []) k) p.1 (subst (λ (xs : List ℕ).
+          Stands unit at (xs ++ 0 ∷ []) (at + length b.0 + 1)) p.0 s.0),
+      subst HasNoNul p.0 s.1,
+    )
 
-text_at_gives : (unit : List ℕ) (at attribute : ℕ) (u : List ℕ) (end : ℕ) → Stands unit at (u ++ 0 ∷ []) end → HasNoNul u → text_at unit at attribute ≡ Ok (u, end)
+text_at_gives : (unit : List ℕ) (at attribute : ℕ) (u : List ℕ) (end : ℕ)
+    → Stands unit at (u ++ 0 ∷ []) end → HasNoNul u → text_at unit at attribute ≡ Ok (u, end)
 unfolding text_at
 text_at_gives unit at attribute u end s h =
     let k : at + length u + 1 ≡ end = omega (arith, s.2, nul_length u) in
-    bind_gives (or_cut attribute (text_of unit at)) (λ (t : List ℕ). Ok (t, at + length t + 1)) u (ap (or_cut attribute) (text_found unit at end u s h)) ∙ ap (λ (k : ℕ). Ok (u, k)) k
+    bind_gives (or_cut attribute (text_of unit at)) (λ (t : List ℕ). Ok (t, at + length t + 1)) u
+    (ap (or_cut attribute) (text_found unit at end u s h)) ∙ ap (λ (k : ℕ). Ok (u, k)) k
 
-pub uleb_at_is : (unit : List ℕ) (at attribute n end : ℕ) → uleb_at unit at attribute ≡ Ok (n, end) → uleb_of unit at ≡ Ok (n, end)
+pub uleb_at_is : (unit : List ℕ) (at attribute n end : ℕ) → uleb_at unit at attribute ≡ Ok (n, end)
+    → uleb_of unit at ≡ Ok (n, end)
 unfolding uleb_at
 uleb_at_is unit at attribute n end e = leb_found at attribute (uleb_of unit at) (n, end) e
 
-pub uleb_at_gives : (unit : List ℕ) (at attribute end : ℕ) (ds : List ℕ) → Stands unit at ds end → IsLeb ds → unsigned_of ds < 2 ^ 64 → uleb_at unit at attribute ≡ Ok (unsigned_of ds, end)
+pub uleb_at_gives : (unit : List ℕ) (at attribute end : ℕ) (ds : List ℕ) → Stands unit at ds end
+    → IsLeb ds → unsigned_of ds < 2 ^ 64 → uleb_at unit at attribute ≡ Ok (unsigned_of ds, end)
 unfolding uleb_at
-uleb_at_gives unit at attribute end ds s l fits = ap (of_leb at attribute) (uleb_gives unit at end ds s l fits)
+uleb_at_gives unit at attribute end ds s l fits =
+    ap (of_leb at attribute) (uleb_gives unit at end ds s l fits)
 
-sleb_at_is : (unit : List ℕ) (at attribute : ℕ) (n : ℤ) (end : ℕ) → sleb_at unit at attribute ≡ Ok (n, end) → sleb_of unit at ≡ Ok (n, end)
+sleb_at_is : (unit : List ℕ) (at attribute : ℕ) (n : ℤ) (end : ℕ)
+    → sleb_at unit at attribute ≡ Ok (n, end) → sleb_of unit at ≡ Ok (n, end)
 unfolding sleb_at
 sleb_at_is unit at attribute n end e = leb_found at attribute (sleb_of unit at) (n, end) e
 
-signed_gives : (unit : List ℕ) (at attribute end : ℕ) (ds : List ℕ) → Stands unit at ds end → IsLeb ds → fits_i64 (signed_of ds) ≡ true → sleb_at unit at attribute ≡ Ok (signed_of ds, end)
+signed_gives : (unit : List ℕ) (at attribute end : ℕ) (ds : List ℕ) → Stands unit at ds end
+    → IsLeb ds → fits_i64 (signed_of ds) ≡ true → sleb_at unit at attribute ≡ Ok (signed_of ds, end)
 unfolding sleb_at
-signed_gives unit at attribute end ds s l fits = ap (of_leb at attribute) (sleb_gives unit at end ds s l fits)
+signed_gives unit at attribute end ds s l fits =
+    ap (of_leb at attribute) (sleb_gives unit at end ds s l fits)
 
 -- nothing stands at each place
 nothing : (unit : List ℕ) (at end : ℕ) → at ≡ end → Stands unit at [] end
@@ -121,21 +162,27 @@ one_number orders.Big b = omega arith
 
 -- the value of a layout
 abbrev Read : Layout → ℕ → List ℕ → ℕ → Order → Spec → Plain → ℕ → Type 0
-Read l form unit at order spec v end = (piece : List ℕ) × Stands unit at piece end × Means l form order spec.implicit piece v
+Read l form unit at order spec v end =
+    (piece : List ℕ) × Stands unit at piece end × Means l form order spec.implicit piece v
 
 abbrev pub made_from : {A : Type 0} → (A → Plain) → A × ℕ → Result (Plain × ℕ) FormFault
 made_from g n = Ok (g n.0, n.1)
 
-made_by : {A : Type 0} (r : Result (A × ℕ) FormFault) (g : A → Plain) (v : Plain) (end : ℕ) → (r >>= made_from g) ≡ Ok (v, end) → (x : A) × (r ≡ Ok (x, end)) × (v ≡ g x)
+made_by : {A : Type 0} (r : Result (A × ℕ) FormFault) (g : A → Plain) (v : Plain) (end : ℕ)
+    → (r >>= made_from g) ≡ Ok (v, end) → (x : A) × (r ≡ Ok (x, end)) × (v ≡ g x)
 made_by {A} r g v end e =
     let b = bind_ok r (made_from g) (v, end) e in
     let p = ok_parts {F = FormFault} (g b.0.0) v b.0.1 end b.2 in
     (b.0.0, subst (λ (k : ℕ). r ≡ Ok (b.0.0, k)) p.1 b.1, sym p.0)
 
-empty : (form : ℕ) (unit : List ℕ) (at : ℕ) (w v : Plain) (end : ℕ) → ◌≡◌ {A = Result (Plain × ℕ) FormFault} (Ok (w, at)) (Ok (v, end)) → Stands unit at [] end × (v ≡ w)
-empty form unit at w v end e = let p = ok_parts {F = FormFault} w v at end e in (nothing unit at end p.1, sym p.0)
+empty : (form : ℕ) (unit : List ℕ) (at : ℕ) (w v : Plain) (end : ℕ) → ◌≡◌
+    {A = Result (Plain × ℕ) FormFault} (Ok (w, at)) (Ok (v, end)) → Stands unit at [] end × (v ≡ w)
+empty form unit at w v end e = let p = ok_parts {F = FormFault} w v at end e in
+    (nothing unit at end p.1, sym p.0)
 
-pub read_is : (l : Layout) (form : ℕ) (unit : List ℕ) (at : ℕ) (order : Order) (spec : Spec) (v : Plain) (end : ℕ) → read_at l form unit at order spec ≡ Ok (v, end) → Read l form unit at order spec v end
+pub read_is : (l : Layout) (form : ℕ) (unit : List ℕ) (at : ℕ) (order : Order) (spec : Spec)
+    (v : Plain) (end : ℕ) → read_at l form unit at order spec ≡ Ok (v, end)
+    → Read l form unit at order spec v end
 unfolding read_at
 read_is (layouts.Fixed w kind) form unit at order spec v end e =
     let m = made_by (fixed_at unit at w order spec.attribute) (λ (n : ℕ). number kind n) v end e in
@@ -149,14 +196,17 @@ read_is layouts.Signed form unit at order spec v end e =
     let m = made_by (sleb_at unit at spec.attribute) (λ (n : ℤ). signed n) v end e in
     let d = sleb_is unit at m.0 end (sleb_at_is unit at spec.attribute m.0 end m.1) in
     (d.digits, d.stands, (d.leb, d.fits, m.2 ∙ ap (λ (n : ℤ). signed n) d.is))
-read_is layouts.Implicit form unit at order spec v end e = let p = empty form unit at (signed spec.implicit) v end e in ([], p.0, (refl, p.1))
+read_is layouts.Implicit form unit at order spec v end e = let p =
+    empty form unit at (signed spec.implicit) v end e in ([], p.0, (refl, p.1))
 read_is layouts.Flag form unit at order spec v end e =
-    let m = made_by (fixed_at unit at 1 order spec.attribute) (λ (n : ℕ). flag (not (n == 0))) v end e in
+    let m = made_by (fixed_at unit at 1 order spec.attribute)
+    (λ (n : ℕ). flag (not (n == 0))) v end e in
     let s = fixed_is unit at 1 order spec.attribute m.0 end m.1 in
     let o = one_byte s.0 s.2 in
     let n : m.0 ≡ o.0 = s.3 ∙ ap (ordered order) o.1 ∙ one_number order o.0 in
     (s.0, s.1, (o.0, o.1, m.2 ∙ ap (λ (n : ℕ). flag (not (n == 0))) n))
-read_is layouts.Present form unit at order spec v end e = let p = empty form unit at (flag true) v end e in ([], p.0, (refl, p.1))
+read_is layouts.Present form unit at order spec v end e = let p =
+    empty form unit at (flag true) v end e in ([], p.0, (refl, p.1))
 read_is layouts.Text form unit at order spec v end e =
     let m = made_by (text_at unit at spec.attribute) (λ (t : List ℕ). text t) v end e in
     let s = text_at_is unit at spec.attribute m.0 end m.1 in
@@ -166,30 +216,39 @@ read_is layouts.Sixteen form unit at order spec v end e =
     let s = held_is unit at 16 spec.attribute m.0 end m.1 in
     (m.0, s.0, (s.1, m.2))
 read_is (layouts.Counted w kind) form unit at order spec v end e =
-    let b = bind_ok (fixed_at unit at w order spec.attribute) (λ (n : ℕ × ℕ). held_at unit n.1 n.0 spec.attribute >>= λ (b : List ℕ × ℕ). Ok (bytes kind b.0, b.1)) (v, end) e in
+    let b = bind_ok (fixed_at unit at w order spec.attribute) (λ (n : ℕ × ℕ). held_at unit n.1 n.0
+    spec.attribute >>= λ (b : List ℕ × ℕ). Ok (bytes kind b.0, b.1)) (v, end) e in
     let c = fixed_is unit at w order spec.attribute b.0.0 b.0.1 b.1 in
-    let m = made_by (held_at unit b.0.1 b.0.0 spec.attribute) (λ (b : List ℕ). bytes kind b) v end b.2 in
+    let m = made_by (held_at unit b.0.1 b.0.0 spec.attribute)
+    (λ (b : List ℕ). bytes kind b) v end b.2 in
     let s = held_is unit b.0.1 b.0.0 spec.attribute m.0 end m.1 in
     (c.0 ++ m.0, join unit at b.0.1 end c.0 m.0 c.1 s.0, (c.0, m.0, refl, c.2, s.1 ∙ c.3, m.2))
 read_is (layouts.LebCounted kind) form unit at order spec v end e =
-    let b = bind_ok (uleb_at unit at spec.attribute) (λ (n : ℕ × ℕ). held_at unit n.1 n.0 spec.attribute >>= λ (b : List ℕ × ℕ). Ok (bytes kind b.0, b.1)) (v, end) e in
+    let b = bind_ok (uleb_at unit at spec.attribute) (λ (n : ℕ × ℕ). held_at unit n.1 n.0
+    spec.attribute >>= λ (b : List ℕ × ℕ). Ok (bytes kind b.0, b.1)) (v, end) e in
     let d = uleb_is unit at b.0.0 b.0.1 (uleb_at_is unit at spec.attribute b.0.0 b.0.1 b.1) in
-    let m = made_by (held_at unit b.0.1 b.0.0 spec.attribute) (λ (b : List ℕ). bytes kind b) v end b.2 in
-    let s = held_is unit b.0.1 b.0.0 spec.attribute m.0 end m.1 in
-    (d.digits ++ m.0, join unit at b.0.1 end d.digits m.0 d.stands s.0, (d.digits, m.0, refl, d.leb, d.fits, s.1 ∙ d.is, m.2))
+    let m = made_by (held_at unit b.0.1 b.0.0 spec.attribute)
+    (λ (b : List ℕ). bytes kind b) v end b.2 in
+    let s = held_is unit b.0.1 b.0.0 spec.attribute m.0 end m.1 in (
+      d.digits ++ m.0,
+      join unit at b.0.1 end d.digits m.0 d.stands s.0,
+      (d.digits, m.0, refl, d.leb, d.fits, s.1 ∙ d.is, m.2),
+    )
 read_is (layouts.Elsewhere w) form unit at order spec v end e =
     let m = made_by (fixed_at unit at w order spec.attribute) (λ (n : ℕ). elsewhere form) v end e in
     let s = fixed_is unit at w order spec.attribute m.0 end m.1 in
     (s.0, s.1, (s.2, m.2))
 
-at_once : (unit : List ℕ) (at end : ℕ) (w v : Plain) (piece : List ℕ) → Stands unit at piece end → piece ≡ [] → v ≡ w → ◌≡◌ {A = Result (Plain × ℕ) FormFault} (Ok (w, at)) (Ok (v, end))
+at_once : (unit : List ℕ) (at end : ℕ) (w v : Plain) (piece : List ℕ) → Stands unit at piece end
+    → piece ≡ [] → v ≡ w → ◌≡◌ {A = Result (Plain × ℕ) FormFault} (Ok (w, at)) (Ok (v, end))
 at_once unit at end w v piece s none is =
     let z : length piece ≡ 0 = ap (λ (xs : List ℕ). length xs) none in
     let k : at ≡ end = omega (arith, s.2) in
     ap (λ (k : ℕ). Ok (w, k)) k ∙ ap (λ (v : Plain). Ok (v, end)) (sym is)
 
 -- so many bytes after a count: the count lies in the unit
-after_count : (unit : List ℕ) (at end : ℕ) (count body : List ℕ) → 1 ≤ length count → Stands unit at (count ++ body) end → (at + length count) + length body ≤ length unit
+after_count : (unit : List ℕ) (at end : ℕ) (count body : List ℕ) → 1 ≤ length count
+    → Stands unit at (count ++ body) end → (at + length count) + length body ≤ length unit
 after_count unit at end count body some s =
     let l = length-append count body in
     let f = fits_in unit at end (count ++ body) (omega arith) s in
@@ -199,60 +258,103 @@ leb_some : (ds : List ℕ) → IsLeb ds → 1 ≤ length ds
 leb_some [] h = elim h [ ]
 leb_some (b ∷ bs) h = omega arith
 
-body_gives : (unit : List ℕ) (at end n attribute : ℕ) (kind : Held) (count body : List ℕ) → 1 ≤ length count → Stands unit at (count ++ body) end → length body ≡ n
-    → (held_at unit (at + length count) n attribute >>= made_from (λ (b : List ℕ). bytes kind b)) ≡ Ok (bytes kind body, end)
+body_gives : (unit : List ℕ) (at end n attribute : ℕ) (kind : Held) (count body : List ℕ)
+    → 1 ≤ length count → Stands unit at (count ++ body) end → length body ≡ n
+    → (held_at unit (at + length count) n attribute >>= made_from (λ (b : List ℕ). bytes kind b))
+    ≡ Ok (bytes kind body, end)
 body_gives unit at end n attribute kind count body some s l =
     let p = split unit at end count body s in
-    let le : (at + length count) + n ≤ length unit = omega (arith, after_count unit at end count body some s) in
-    bind_gives (held_at unit (at + length count) n attribute) (made_from (λ (b : List ℕ). bytes kind b)) (body, end) (held_gives unit (at + length count) n attribute body end le p.1 l)
+    let le : (at + length count) + n ≤ length unit =
+    omega (arith, after_count unit at end count body some s) in
+    bind_gives (held_at unit (at + length count) n attribute) (made_from (λ (b : List ℕ). bytes kind
+    b)) (body, end) (held_gives unit (at + length count) n attribute body end le p.1 l)
 
-pub read_gives : (l : Layout) (form : ℕ) (unit : List ℕ) (at : ℕ) (order : Order) (spec : Spec) (v : Plain) (end : ℕ) → HasWidths l → Read l form unit at order spec v end → read_at l form unit at order spec ≡ Ok (v, end)
+pub read_gives : (l : Layout) (form : ℕ) (unit : List ℕ) (at : ℕ) (order : Order) (spec : Spec)
+    (v : Plain) (end : ℕ) → HasWidths l → Read l form unit at order spec v end
+    → read_at l form unit at order spec ≡ Ok (v, end)
 unfolding read_at
 read_gives (layouts.Fixed w kind) form unit at order spec v end h r =
-    bind_gives (fixed_at unit at w order spec.attribute) (λ (n : ℕ × ℕ). Ok (number kind n.0, n.1)) (ordered order r.0, end) (fixed_gives unit at w order spec.attribute end r.0 h.0 r.1 r.2.0) ∙ ap (λ (v : Plain). Ok (v, end)) (sym r.2.1)
+    bind_gives (fixed_at unit at w order spec.attribute) (λ (n : ℕ × ℕ). Ok (number kind n.0, n.1))
+    (ordered order r.0, end) (fixed_gives unit at w order spec.attribute end r.0 h.0 r.1 r.2.0)
+    ∙ ap (λ (v : Plain). Ok (v, end)) (sym r.2.1)
 read_gives (layouts.Leb kind) form unit at order spec v end h r =
-    bind_gives (uleb_at unit at spec.attribute) (λ (n : ℕ × ℕ). Ok (number kind n.0, n.1)) (unsigned_of r.0, end) (uleb_at_gives unit at spec.attribute end r.0 r.1 r.2.0 r.2.1) ∙ ap (λ (v : Plain). Ok (v, end)) (sym r.2.2)
+    bind_gives (uleb_at unit at spec.attribute) (λ (n : ℕ × ℕ). Ok (number kind n.0, n.1))
+    (unsigned_of r.0, end) (uleb_at_gives unit at spec.attribute end r.0 r.1 r.2.0 r.2.1)
+    ∙ ap (λ (v : Plain). Ok (v, end)) (sym r.2.2)
 read_gives layouts.Signed form unit at order spec v end h r =
-    bind_gives (sleb_at unit at spec.attribute) (λ (n : ℤ × ℕ). Ok (signed n.0, n.1)) (signed_of r.0, end) (signed_gives unit at spec.attribute end r.0 r.1 r.2.0 r.2.1) ∙ ap (λ (v : Plain). Ok (v, end)) (sym r.2.2)
-read_gives layouts.Implicit form unit at order spec v end h r = at_once unit at end (signed spec.implicit) v r.0 r.1 r.2.0 r.2.1
+    bind_gives (sleb_at unit at spec.attribute) (λ (n : ℤ × ℕ). Ok (signed n.0, n.1))
+    (signed_of r.0, end) (signed_gives unit at spec.attribute end r.0 r.1 r.2.0 r.2.1)
+    ∙ ap (λ (v : Plain). Ok (v, end)) (sym r.2.2)
+read_gives layouts.Implicit form unit at order spec v end h r =
+    at_once unit at end (signed spec.implicit) v r.0 r.1 r.2.0 r.2.1
 read_gives layouts.Flag form unit at order spec v end h r =
     let l : length r.0 ≡ 1 = ap (λ (xs : List ℕ). length xs) r.2.1 in
     let n : ordered order r.0 ≡ r.2.0 = ap (ordered order) r.2.1 ∙ one_number order r.2.0 in
-    bind_gives (fixed_at unit at 1 order spec.attribute) (λ (n : ℕ × ℕ). Ok (flag (not (n.0 == 0)), n.1)) (ordered order r.0, end) (fixed_gives unit at 1 order spec.attribute end r.0 (omega arith) r.1 l)
+    bind_gives (fixed_at unit at 1 order spec.attribute)
+    (λ (n : ℕ × ℕ). Ok (flag (not (n.0 == 0)), n.1)) (ordered order r.0, end)
+    (fixed_gives unit at 1 order spec.attribute end r.0 (omega arith) r.1 l)
     ∙ ap (λ (n : ℕ). Ok (flag (not (n == 0)), end)) n ∙ ap (λ (v : Plain). Ok (v, end)) (sym r.2.2)
-read_gives layouts.Present form unit at order spec v end h r = at_once unit at end (flag true) v r.0 r.1 r.2.0 r.2.1
+read_gives layouts.Present form unit at order spec v end h r =
+    at_once unit at end (flag true) v r.0 r.1 r.2.0 r.2.1
 read_gives layouts.Text form unit at order spec v end h r =
-    bind_gives (text_at unit at spec.attribute) (λ (t : List ℕ × ℕ). Ok (text t.0, t.1)) (r.2.0, end) (text_at_gives unit at spec.attribute r.2.0 end (subst (λ (xs : List ℕ). Stands unit at xs end) r.2.1 r.1) r.2.2) ∙ ap (λ (v : Plain). Ok (v, end)) (sym r.2.3)
+    bind_gives (text_at unit at spec.attribute) (λ (t : List ℕ × ℕ). Ok (text t.0, t.1)) (
+      r.2.0,
+      end,
+    ) (text_at_gives unit at spec.attribute r.2.0 end (subst (λ (xs : List ℕ).
+    Stands unit at xs end) r.2.1 r.1) r.2.2) ∙ ap (λ (v : Plain). Ok (v, end)) (sym r.2.3)
 read_gives layouts.Sixteen form unit at order spec v end h r =
     let le = fits_in unit at end r.0 (omega (arith, r.2.0)) r.1 in
-    bind_gives (held_at unit at 16 spec.attribute) (λ (b : List ℕ × ℕ). Ok (sixteen b.0, b.1)) (r.0, end) (held_gives unit at 16 spec.attribute r.0 end (omega (arith, le, r.2.0)) r.1 r.2.0) ∙ ap (λ (v : Plain). Ok (v, end)) (sym r.2.1)
+    bind_gives (held_at unit at 16 spec.attribute) (λ (b : List ℕ × ℕ). Ok (sixteen b.0, b.1)) (
+      r.0,
+      end,
+    ) (held_gives unit at 16 spec.attribute r.0 end (omega (arith, le, r.2.0)) r.1 r.2.0)
+    ∙ ap (λ (v : Plain). Ok (v, end)) (sym r.2.1)
 read_gives (layouts.Counted w kind) form unit at order spec v end h r =
-    let s : Stands unit at (r.2.0 ++ r.2.1) end = subst (λ (xs : List ℕ). Stands unit at xs end) r.2.2 r.1 in
+    let s : Stands unit at (r.2.0 ++ r.2.1) end =
+    subst (λ (xs : List ℕ). Stands unit at xs end) r.2.2 r.1 in
     let p = split unit at end r.2.0 r.2.1 s in
-    bind_gives (fixed_at unit at w order spec.attribute) (λ (n : ℕ × ℕ). held_at unit n.1 n.0 spec.attribute >>= λ (b : List ℕ × ℕ). Ok (bytes kind b.0, b.1)) (ordered order r.2.0, at + length r.2.0) (fixed_gives unit at w order spec.attribute (at + length r.2.0) r.2.0 h.0 p.0 r.2.3)
-    ∙ body_gives unit at end (ordered order r.2.0) spec.attribute kind r.2.0 r.2.1 (omega (arith, h.0, r.2.3)) s r.2.4 ∙ ap (λ (v : Plain). Ok (v, end)) (sym r.2.5)
+    bind_gives (fixed_at unit at w order spec.attribute)
+    (λ (n : ℕ × ℕ). held_at unit n.1 n.0 spec.attribute >>= λ (b : List ℕ × ℕ).
+    Ok (bytes kind b.0, b.1)) (ordered order r.2.0, at + length r.2.0)
+    (fixed_gives unit at w order spec.attribute (at + length r.2.0) r.2.0 h.0 p.0 r.2.3)
+    ∙ body_gives unit at end (ordered order r.2.0) spec.attribute kind r.2.0 r.2.1
+    (omega (arith, h.0, r.2.3)) s r.2.4 ∙ ap (λ (v : Plain). Ok (v, end)) (sym r.2.5)
 read_gives (layouts.LebCounted kind) form unit at order spec v end h r =
-    let s : Stands unit at (r.2.0 ++ r.2.1) end = subst (λ (xs : List ℕ). Stands unit at xs end) r.2.2 r.1 in
+    let s : Stands unit at (r.2.0 ++ r.2.1) end =
+    subst (λ (xs : List ℕ). Stands unit at xs end) r.2.2 r.1 in
     let p = split unit at end r.2.0 r.2.1 s in
-    bind_gives (uleb_at unit at spec.attribute) (λ (n : ℕ × ℕ). held_at unit n.1 n.0 spec.attribute >>= λ (b : List ℕ × ℕ). Ok (bytes kind b.0, b.1)) (unsigned_of r.2.0, at + length r.2.0) (uleb_at_gives unit at spec.attribute (at + length r.2.0) r.2.0 p.0 r.2.3 r.2.4)
-    ∙ body_gives unit at end (unsigned_of r.2.0) spec.attribute kind r.2.0 r.2.1 (leb_some r.2.0 r.2.3) s r.2.5 ∙ ap (λ (v : Plain). Ok (v, end)) (sym r.2.6)
+    bind_gives (uleb_at unit at spec.attribute) (λ (n : ℕ × ℕ). held_at unit n.1 n.0 spec.attribute
+    >>= λ (b : List ℕ × ℕ). Ok (bytes kind b.0, b.1)) (unsigned_of r.2.0, at + length r.2.0)
+    (uleb_at_gives unit at spec.attribute (at + length r.2.0) r.2.0 p.0 r.2.3 r.2.4)
+    ∙ body_gives unit at end (unsigned_of r.2.0) spec.attribute kind r.2.0 r.2.1
+    (leb_some r.2.0 r.2.3) s r.2.5 ∙ ap (λ (v : Plain). Ok (v, end)) (sym r.2.6)
 read_gives (layouts.Elsewhere w) form unit at order spec v end h r =
-    bind_gives (fixed_at unit at w order spec.attribute) (λ (n : ℕ × ℕ). Ok (elsewhere form, n.1)) (ordered order r.0, end) (fixed_gives unit at w order spec.attribute end r.0 h.0 r.1 r.2.0) ∙ ap (λ (v : Plain). Ok (v, end)) (sym r.2.1)
+    bind_gives (fixed_at unit at w order spec.attribute) (λ (n : ℕ × ℕ). Ok (elsewhere form, n.1))
+    (ordered order r.0, end) (fixed_gives unit at w order spec.attribute end r.0 h.0 r.1 r.2.0)
+    ∙ ap (λ (v : Plain). Ok (v, end)) (sym r.2.1)
 
 -- the form that is used
-known_is : (f : ℕ × ℕ) (form mid : ℕ) (t u : Bool) → (f.0 == DW_FORM_indirect) ≡ t → (f.0 == DW_FORM_implicit_const) ≡ u → ◌≡◌ {A = Result (ℕ × ℕ) FormFault} (if t || u then Err (FormUnknown f.0) else Ok f) (Ok (form, mid))
+known_is : (f : ℕ × ℕ) (form mid : ℕ) (t u : Bool) → (f.0 == DW_FORM_indirect) ≡ t
+    → (f.0 == DW_FORM_implicit_const) ≡ u → ◌≡◌ {A = Result (ℕ × ℕ) FormFault}
+    (if t || u then Err (FormUnknown f.0) else Ok f) (Ok (form, mid))
     → (f.0 ≡ form) × (f.1 ≡ mid) × (f.0 ≢ DW_FORM_indirect) × (f.0 ≢ DW_FORM_implicit_const)
 known_is f form mid true u t' u' e = cc
 known_is f form mid false true t' u' e = cc
-known_is f form mid false false t' u' e = let p = ok_parts {F = FormFault} f.0 form f.1 mid e in (p.0, p.1, eqb-false f.0 DW_FORM_indirect t', eqb-false f.0 DW_FORM_implicit_const u')
+known_is f form mid false false t' u' e = let p = ok_parts {F = FormFault} f.0 form f.1 mid e in
+    (p.0, p.1, eqb-false f.0 DW_FORM_indirect t', eqb-false f.0 DW_FORM_implicit_const u')
 
 abbrev pub named_form : List ℕ → ℕ → Spec → Result (ℕ × ℕ) FormFault
-named_form unit at spec = uleb_at unit at spec.attribute >>= λ (f : ℕ × ℕ). if f.0 == DW_FORM_indirect || f.0 == DW_FORM_implicit_const then Err (FormUnknown f.0) else Ok f
+named_form unit at spec = uleb_at unit at spec.attribute >>= λ (f : ℕ × ℕ).
+    if f.0 == DW_FORM_indirect || f.0 == DW_FORM_implicit_const then Err (FormUnknown f.0) else Ok f
 
-used_test : (c : Within) (spec : Spec) (at form mid : ℕ) (t : Bool) → (spec.form == DW_FORM_indirect) ≡ t → (if t then named_form c.unit at spec else Ok (spec.form, at)) ≡ Ok (form, mid) → Uses c spec at form mid
+used_test : (c : Within) (spec : Spec) (at form mid : ℕ) (t : Bool)
+    → (spec.form == DW_FORM_indirect) ≡ t → (if t then named_form c.unit at spec
+    else Ok (spec.form, at)) ≡ Ok (form, mid) → Uses c spec at form mid
 used_test c spec at form mid true t e =
-    let b = bind_ok (uleb_at c.unit at spec.attribute) (λ (f : ℕ × ℕ). if f.0 == DW_FORM_indirect || f.0 == DW_FORM_implicit_const then Err (FormUnknown f.0) else Ok f) (form, mid) e in
-    let k = known_is b.0 form mid (b.0.0 == DW_FORM_indirect) (b.0.0 == DW_FORM_implicit_const) refl refl b.2 in
+    let b = bind_ok (uleb_at c.unit at spec.attribute) (λ (f : ℕ × ℕ). if f.0 == DW_FORM_indirect
+    || f.0 == DW_FORM_implicit_const then Err (FormUnknown f.0) else Ok f) (form, mid) e in
+    let k = known_is b.0 form mid (b.0.0 == DW_FORM_indirect)
+    (b.0.0 == DW_FORM_implicit_const) refl refl b.2 in
     let d = uleb_is c.unit at b.0.0 b.0.1 (uleb_at_is c.unit at spec.attribute b.0.0 b.0.1 b.1) in
     inr (
       eqb-true spec.form DW_FORM_indirect t,
@@ -266,21 +368,37 @@ used_test c spec at form mid true t e =
         read = λ (h : form ≡ DW_FORM_implicit_const). k.3 (k.0 ∙ h);
       },
     )
-used_test c spec at form mid false t e = let p = ok_parts {F = FormFault} spec.form form at mid e in inl (eqb-false spec.form DW_FORM_indirect t, sym p.0, sym p.1)
+used_test c spec at form mid false t e = let p = ok_parts {F = FormFault} spec.form form at mid e in
+    inl (eqb-false spec.form DW_FORM_indirect t, sym p.0, sym p.1)
 
-pub form_is : (c : Within) (spec : Spec) (at form mid : ℕ) → form_at c.unit at spec ≡ Ok (form, mid) → Uses c spec at form mid
+pub form_is : (c : Within) (spec : Spec) (at form mid : ℕ) → form_at c.unit at spec ≡ Ok (form, mid)
+    → Uses c spec at form mid
 unfolding form_at
 form_is c spec at form mid e = used_test c spec at form mid (spec.form == DW_FORM_indirect) refl e
 
-pub form_gives : (c : Within) (spec : Spec) (at form mid : ℕ) → Uses c spec at form mid → form_at c.unit at spec ≡ Ok (form, mid)
+pub form_gives : (c : Within) (spec : Spec) (at form mid : ℕ) → Uses c spec at form mid
+    → form_at c.unit at spec ≡ Ok (form, mid)
 unfolding form_at
 form_gives c spec at form mid (inl h) = rw (ne_eqb spec.form DW_FORM_indirect h.0, h.1, h.2) refl
 form_gives c spec at form mid (inr h) =
     let n = h.1 in
-    let k : (unsigned_of n.digits == DW_FORM_indirect || unsigned_of n.digits == DW_FORM_implicit_const) ≡ false = rw (ne_eqb (unsigned_of n.digits) DW_FORM_indirect (λ (e : unsigned_of n.digits ≡ DW_FORM_indirect). n.other (n.is ∙ e)), ne_eqb (unsigned_of n.digits) DW_FORM_implicit_const (λ (e : unsigned_of n.digits ≡ DW_FORM_implicit_const). n.read (n.is ∙ e))) refl in
-    ap (λ (t : Bool). if t then named_form c.unit at spec else Ok (spec.form, at)) (eq-eqb spec.form DW_FORM_indirect h.0)
-    ∙ (bind_gives (uleb_at c.unit at spec.attribute) (λ (f : ℕ × ℕ). if f.0 == DW_FORM_indirect || f.0 == DW_FORM_implicit_const then Err (FormUnknown f.0) else Ok f) (unsigned_of n.digits, mid) (uleb_at_gives c.unit at spec.attribute mid n.digits n.stands n.leb n.fits)
-    ∙ ap (λ (t : Bool). if t then Err (FormUnknown (unsigned_of n.digits)) else Ok (unsigned_of n.digits, mid)) k ∙ ap (λ (f : ℕ). Ok (f, mid)) (sym n.is))
+    let k : (unsigned_of n.digits == DW_FORM_indirect || unsigned_of n.digits
+    == DW_FORM_implicit_const) ≡ false = rw (
+      ne_eqb (unsigned_of n.digits) DW_FORM_indirect
+          (λ (e : unsigned_of n.digits ≡ DW_FORM_indirect). n.other (n.is ∙ e)),
+      ne_eqb (unsigned_of n.digits) DW_FORM_implicit_const
+          (λ (e : unsigned_of n.digits ≡ DW_FORM_implicit_const). n.read (n.is ∙ e)),
+    ) refl in
+    ap (λ (t : Bool). if t then named_form c.unit at spec else Ok (spec.form, at))
+    (eq-eqb spec.form DW_FORM_indirect h.0)
+    ∙ (bind_gives (uleb_at c.unit at spec.attribute) (λ (f : ℕ × ℕ). if f.0 == DW_FORM_indirect
+    || f.0 == DW_FORM_implicit_const then Err (FormUnknown f.0) else Ok f) (
+      unsigned_of
+          n.digits,
+      mid,
+    ) (uleb_at_gives c.unit at spec.attribute mid n.digits n.stands n.leb n.fits)
+    ∙ ap (λ (t : Bool). if t then Err (FormUnknown (unsigned_of n.digits))
+    else Ok (unsigned_of n.digits, mid)) k ∙ ap (λ (f : ℕ). Ok (f, mid)) (sym n.is))
 
 -- the value
 unknown_found : (form : ℕ) (o : Option Layout) (l : Layout) → or_unknown form o ≡ Ok l → o ≡ Some l
@@ -292,12 +410,17 @@ shown_as form value = record { form = form; value = value }
 
 abbrev pub after_form : Within → Spec → ℕ × ℕ → Result (Shown × ℕ) FormFault
 after_form c spec f =
-    or_unknown f.0 (layout_of c.offset_bytes c.address_bytes f.0) >>= λ (l : Layout). read_at l f.0 c.unit f.1 c.order spec >>= λ (v : Plain × ℕ). Ok (shown_as f.0 v.0, v.1)
+    or_unknown f.0 (layout_of c.offset_bytes c.address_bytes f.0) >>= λ (l : Layout).
+    read_at l f.0 c.unit f.1 c.order spec >>= λ (v : Plain × ℕ). Ok (shown_as f.0 v.0, v.1)
 
-of_form : (c : Within) (spec : Spec) (form at : ℕ) (v : Shown) (end : ℕ) → after_form c spec (form, at) ≡ Ok (v, end) → IsOfForm c spec form at v end
+of_form : (c : Within) (spec : Spec) (form at : ℕ) (v : Shown) (end : ℕ)
+    → after_form c spec (form, at) ≡ Ok (v, end) → IsOfForm c spec form at v end
 of_form c spec form at v end e =
-    let a = bind_ok (or_unknown form (layout_of c.offset_bytes c.address_bytes form)) (λ (l : Layout). read_at l form c.unit at c.order spec >>= λ (v : Plain × ℕ). Ok (shown_as form v.0, v.1)) (v, end) e in
-    let b = bind_ok (read_at a.0 form c.unit at c.order spec) (λ (v : Plain × ℕ). Ok (shown_as form v.0, v.1)) (v, end) a.2 in
+    let a = bind_ok (or_unknown form (layout_of c.offset_bytes c.address_bytes form))
+    (λ (l : Layout). read_at l form c.unit at c.order spec >>= λ (v : Plain × ℕ).
+    Ok (shown_as form v.0, v.1)) (v, end) e in
+    let b = bind_ok (read_at a.0 form c.unit at c.order spec)
+    (λ (v : Plain × ℕ). Ok (shown_as form v.0, v.1)) (v, end) a.2 in
     let p = ok_parts {F = FormFault} (shown_as form b.0.0) v b.0.1 end b.2 in
     let r = read_is a.0 form c.unit at c.order spec b.0.0 b.0.1 b.1 in
     record {
@@ -309,20 +432,30 @@ of_form c spec form at v end e =
       named = ap (λ (v : Shown). v.form) (sym p.0);
     }
 
-gives_form : (c : Within) (spec : Spec) (form at : ℕ) (v : Shown) (end : ℕ) → ((l : Layout) → layout_of c.offset_bytes c.address_bytes form ≡ Some l → HasWidths l) → IsOfForm c spec form at v end → after_form c spec (form, at) ≡ Ok (v, end)
+gives_form : (c : Within) (spec : Spec) (form at : ℕ) (v : Shown) (end : ℕ)
+    → ((l : Layout) → layout_of c.offset_bytes c.address_bytes form ≡ Some l → HasWidths l)
+    → IsOfForm c spec form at v end → after_form c spec (form, at) ≡ Ok (v, end)
 gives_form c spec form at v end wide i =
     let shown : shown_as form v.value ≡ v = ap (λ (f : ℕ). shown_as f v.value) (sym i.named) in
-    bind_gives (or_unknown form (layout_of c.offset_bytes c.address_bytes form)) (λ (l : Layout). read_at l form c.unit at c.order spec >>= λ (v : Plain × ℕ). Ok (shown_as form v.0, v.1)) i.layout (ap (or_unknown form) i.row)
-    ∙ bind_gives (read_at i.layout form c.unit at c.order spec) (λ (v : Plain × ℕ). Ok (shown_as form v.0, v.1)) (v.value, end) (read_gives i.layout form c.unit at c.order spec v.value end (wide i.layout i.row) (i.piece, i.stands, i.means))
+    bind_gives (or_unknown form (layout_of c.offset_bytes c.address_bytes form))
+    (λ (l : Layout). read_at l form c.unit at c.order spec >>= λ (v : Plain × ℕ).
+    Ok (shown_as form v.0, v.1)) i.layout (ap (or_unknown form) i.row)
+    ∙ bind_gives (read_at i.layout form c.unit at c.order spec)
+    (λ (v : Plain × ℕ). Ok (shown_as form v.0, v.1)) (v.value, end) (read_gives i.layout form
+    c.unit at c.order spec v.value end (wide i.layout i.row) (i.piece, i.stands, i.means))
     ∙ ap (λ (v : Shown). Ok (v, end)) shown
 
-pub read : (c : Within) (spec : Spec) (at : ℕ) (v : Shown) (end : ℕ) → value_of c spec at ≡ Ok (v, end) → IsValue c spec at v end
+pub read : (c : Within) (spec : Spec) (at : ℕ) (v : Shown) (end : ℕ)
+    → value_of c spec at ≡ Ok (v, end) → IsValue c spec at v end
 unfolding value_of
 read c spec at v end e =
     let a = bind_ok (form_at c.unit at spec) (after_form c spec) (v, end) e in
     (a.0.0, a.0.1, form_is c spec at a.0.0 a.0.1 a.1, of_form c spec a.0.0 a.0.1 v end a.2)
 
-pub spelled : (c : Within) (spec : Spec) (at : ℕ) (v : Shown) (end : ℕ) → HasWidth c.offset_bytes → HasWidth c.address_bytes → IsValue c spec at v end → value_of c spec at ≡ Ok (v, end)
+pub spelled : (c : Within) (spec : Spec) (at : ℕ) (v : Shown) (end : ℕ) → HasWidth c.offset_bytes
+    → HasWidth c.address_bytes → IsValue c spec at v end → value_of c spec at ≡ Ok (v, end)
 unfolding value_of
 spelled c spec at v end o a h =
-    bind_gives (form_at c.unit at spec) (after_form c spec) (h.0, h.1) (form_gives c spec at h.0 h.1 h.2) ∙ gives_form c spec h.0 h.1 v end (λ l e. has_widths c.offset_bytes c.address_bytes h.0 l o a e) h.3
+    bind_gives (form_at c.unit at spec) (after_form c spec) (h.0, h.1)
+    (form_gives c spec at h.0 h.1 h.2) ∙ gives_form c spec h.0 h.1 v end
+    (λ l e. has_widths c.offset_bytes c.address_bytes h.0 l o a e) h.3

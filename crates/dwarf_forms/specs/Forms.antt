@@ -1,10 +1,36 @@
 -- The table of forms (DWARF 5, section 7.5.6, table 7.6, and the two forms of GNU): one row a form.
 use Rattle.std.specs.Prelude.{ℕ, ◌==◌, ◌≤◌, ⊤, List, [], ◌∷◌, Option}
 use Rattle.std.specs.Map.{lookup}
-use Rattle.dwarf_abbrev.specs.declared.constants.TheConstants.{DW_FORM_addr, DW_FORM_block2, DW_FORM_block4, DW_FORM_data2, DW_FORM_data4, DW_FORM_data8, DW_FORM_string, DW_FORM_block, DW_FORM_block1, DW_FORM_data1, DW_FORM_flag, DW_FORM_sdata, DW_FORM_strp, DW_FORM_udata, DW_FORM_ref_addr, DW_FORM_ref1, DW_FORM_ref2, DW_FORM_ref4, DW_FORM_ref8, DW_FORM_ref_udata, DW_FORM_sec_offset, DW_FORM_exprloc, DW_FORM_flag_present, DW_FORM_strx, DW_FORM_addrx, DW_FORM_ref_sup4, DW_FORM_strp_sup, DW_FORM_data16, DW_FORM_line_strp, DW_FORM_ref_sig8, DW_FORM_implicit_const, DW_FORM_loclistx, DW_FORM_rnglistx, DW_FORM_ref_sup8, DW_FORM_strx1, DW_FORM_strx2, DW_FORM_strx3, DW_FORM_strx4, DW_FORM_addrx1, DW_FORM_addrx2, DW_FORM_addrx3, DW_FORM_addrx4, DW_FORM_GNU_ref_alt, DW_FORM_GNU_strp_alt}
+use Rattle.dwarf_abbrev.specs.declared.constants.TheConstants.{DW_FORM_addr, DW_FORM_block2}
+use Rattle.dwarf_abbrev.specs.declared.constants.TheConstants.{DW_FORM_block4, DW_FORM_data2}
+use Rattle.dwarf_abbrev.specs.declared.constants.TheConstants.{DW_FORM_data4, DW_FORM_data8}
+use Rattle.dwarf_abbrev.specs.declared.constants.TheConstants.{DW_FORM_string, DW_FORM_block}
+use Rattle.dwarf_abbrev.specs.declared.constants.TheConstants.{DW_FORM_block1, DW_FORM_data1}
+use Rattle.dwarf_abbrev.specs.declared.constants.TheConstants.{DW_FORM_flag, DW_FORM_sdata}
+use Rattle.dwarf_abbrev.specs.declared.constants.TheConstants.{DW_FORM_strp, DW_FORM_udata}
+use Rattle.dwarf_abbrev.specs.declared.constants.TheConstants.{DW_FORM_ref_addr, DW_FORM_ref1}
+use Rattle.dwarf_abbrev.specs.declared.constants.TheConstants.{DW_FORM_ref2, DW_FORM_ref4}
+use Rattle.dwarf_abbrev.specs.declared.constants.TheConstants.{DW_FORM_ref8, DW_FORM_ref_udata}
+use Rattle.dwarf_abbrev.specs.declared.constants.TheConstants.{DW_FORM_sec_offset, DW_FORM_exprloc}
+use Rattle.dwarf_abbrev.specs.declared.constants.TheConstants.{DW_FORM_flag_present, DW_FORM_strx}
+use Rattle.dwarf_abbrev.specs.declared.constants.TheConstants.{DW_FORM_addrx, DW_FORM_ref_sup4}
+use Rattle.dwarf_abbrev.specs.declared.constants.TheConstants.{DW_FORM_strp_sup, DW_FORM_data16}
+use Rattle.dwarf_abbrev.specs.declared.constants.TheConstants.{DW_FORM_line_strp, DW_FORM_ref_sig8}
+use Rattle.dwarf_abbrev.specs.declared.constants.TheConstants.{DW_FORM_implicit_const}
+use Rattle.dwarf_abbrev.specs.declared.constants.TheConstants.{DW_FORM_loclistx, DW_FORM_rnglistx}
+use Rattle.dwarf_abbrev.specs.declared.constants.TheConstants.{DW_FORM_ref_sup8, DW_FORM_strx1}
+use Rattle.dwarf_abbrev.specs.declared.constants.TheConstants.{DW_FORM_strx2, DW_FORM_strx3}
+use Rattle.dwarf_abbrev.specs.declared.constants.TheConstants.{DW_FORM_strx4, DW_FORM_addrx1}
+use Rattle.dwarf_abbrev.specs.declared.constants.TheConstants.{DW_FORM_addrx2, DW_FORM_addrx3}
+use Rattle.dwarf_abbrev.specs.declared.constants.TheConstants.{DW_FORM_addrx4, DW_FORM_GNU_ref_alt}
+use Rattle.dwarf_abbrev.specs.declared.constants.TheConstants.{DW_FORM_GNU_strp_alt}
 use Rattle.dwarf_forms.specs.declared.layout.Layout.{Layout}
-use Rattle.dwarf_forms.specs.declared.layout.Layout.TheVariants.{Fixed, Leb, Signed, Implicit, Flag, Present, Text, Sixteen, Counted, LebCounted, Elsewhere}
-use Rattle.dwarf_forms.specs.declared.layout.Kind.TheVariants.{Address, Unsigned, Strp, LineStrp, Strx, Index, UnitRef, InfoRef, SecOffset}
+use Rattle.dwarf_forms.specs.declared.layout.Layout.TheVariants.{Fixed, Leb, Signed, Implicit, Flag}
+use Rattle.dwarf_forms.specs.declared.layout.Layout.TheVariants.{Present, Text, Sixteen, Counted}
+use Rattle.dwarf_forms.specs.declared.layout.Layout.TheVariants.{LebCounted, Elsewhere}
+use Rattle.dwarf_forms.specs.declared.layout.Kind.TheVariants.{Address, Unsigned, Strp, LineStrp}
+use Rattle.dwarf_forms.specs.declared.layout.Kind.TheVariants.{Strx, Index, UnitRef, InfoRef}
+use Rattle.dwarf_forms.specs.declared.layout.Kind.TheVariants.{SecOffset}
 use Rattle.dwarf_forms.specs.declared.layout.Held.TheVariants.{Block, Expr}
 
 -- for offsets of o bytes and addresses of a bytes

@@ -1,5 +1,6 @@
 -- What values stand for: names, constants, flags, entries and places of members.
-use Rattle.std.specs.Prelude.{ℕ, ◌+◌, ◌*◌, ℤ, pos, negsuc, ◌<◌, ◌^◌, Bool, List, length, slice_index, Option, None, Some, Result, Ok, Err, ◌==◌, if◌then◌else◌}
+use Rattle.std.specs.Prelude.{ℕ, ◌+◌, ◌*◌, ℤ, pos, negsuc, ◌<◌, ◌^◌, Bool, List, length}
+use Rattle.std.specs.Prelude.{slice_index, Option, None, Some, Result, Ok, Err, ◌==◌, if◌then◌else◌}
 use Rattle.dw_base.specs.Leb128.{uleb_of}
 use Rattle.dw_base.specs.Numbers.{number_of}
 use Rattle.dw_base.specs.Texts.{text_of}
@@ -7,16 +8,19 @@ use Rattle.dw_base.specs.declared.numbers.Order.{Order}
 use Rattle.dw_base.specs.declared.leb128.LebFault.{LebFault}
 use Rattle.dwarf_abbrev.specs.declared.constants.TheConstants.{DW_OP_plus_uconst}
 use Rattle.dwarf_forms.specs.declared.fault.FormFault.{FormFault}
-use Rattle.dwarf_forms.specs.declared.fault.FormFault.TheVariants.{StringOut, StrxOut, AltForm, WrongClass}
+use Rattle.dwarf_forms.specs.declared.fault.FormFault.TheVariants.{StringOut, StrxOut, AltForm}
+use Rattle.dwarf_forms.specs.declared.fault.FormFault.TheVariants.{WrongClass}
 use Rattle.dwarf_forms.specs.declared.layout.Kind.{Kind}
-use Rattle.dwarf_forms.specs.declared.layout.Kind.TheVariants.{Unsigned, Strp, LineStrp, Strx, UnitRef, InfoRef}
+use Rattle.dwarf_forms.specs.declared.layout.Kind.TheVariants.{Unsigned, Strp, LineStrp, Strx}
+use Rattle.dwarf_forms.specs.declared.layout.Kind.TheVariants.{UnitRef, InfoRef}
 use Rattle.dwarf_forms.specs.declared.layout.Held.{Held}
 use Rattle.dwarf_forms.specs.declared.layout.Held.TheVariants.{Expr}
 use Rattle.dwarf_forms.specs.declared.given.FormCtx.{FormCtx}
 use Rattle.dwarf_forms.specs.Values.{Plain, Shown}
 use Rattle.dwarf_forms.specs.Values.Plain.{number, signed, bytes, text, flag, elsewhere}
 
--- what names and references are read in: the unit's first byte, how its numbers lie, and the sections of strings
+-- what names and references are read in: the unit's first byte, how its numbers lie, and the
+-- sections of strings
 pub record Sections : Type 0 where
   pub unit : ℕ
   pub order : Order
@@ -52,7 +56,8 @@ through strings index None = Err (StrxOut index)
 through strings index (Some offset) = string_at strings offset
 
 abbrev pub indexed_at : Sections → ℕ → Result (List ℕ) FormFault
-indexed_at c index = through c.strings index (number_of c.str_offsets (c.str_base + index * c.offset_bytes) c.offset_bytes c.order)
+indexed_at c index = through c.strings index
+    (number_of c.str_offsets (c.str_base + index * c.offset_bytes) c.offset_bytes c.order)
 
 abbrev pub number_name : Sections → ℕ → ℕ → Kind → ℕ → Result (List ℕ) FormFault
 number_name c attribute form Strp n = string_at c.strings n
@@ -60,7 +65,8 @@ number_name c attribute form LineStrp n = string_at c.line_strings n
 number_name c attribute form Strx n = indexed_at c n
 number_name c attribute form other n = Err (WrongClass attribute form)
 
--- a text is its own name; a number names one by its section; a name in a supplementary file is not read; no other value has one
+-- a text is its own name; a number names one by its section; a name in a supplementary file is not
+-- read; no other value has one
 abbrev pub plain_name : Sections → ℕ → ℕ → Plain → Result (List ℕ) FormFault
 plain_name c attribute form (text t) = Ok t
 plain_name c attribute form (number kind n) = number_name c attribute form kind n
@@ -95,7 +101,8 @@ plain_flag attribute form other = Err (WrongClass attribute form)
 abbrev pub flag_in : ℕ → Shown → Result Bool FormFault
 flag_in attribute g = plain_flag attribute g.form g.value
 
--- the offset in .debug_info of the entry that a value refers to: one within a unit counts from the unit's first header byte
+-- the offset in .debug_info of the entry that a value refers to: one within a unit counts from the
+-- unit's first header byte
 abbrev pub number_target : Sections → ℕ → ℕ → Kind → ℕ → Result ℕ FormFault
 number_target c attribute form UnitRef n = Ok (c.unit + n)
 number_target c attribute form InfoRef n = Ok n
@@ -115,7 +122,8 @@ whole_to end (Ok x) = if x.1 == end then Some (pos x.0) else None
 whole_to end (Err e) = None
 
 unfoldable pub operand_of : List ℕ → Option ℤ
-operand_of expression = if slice_index expression 0 == DW_OP_plus_uconst then whole_to (length expression) (uleb_of expression 1) else None
+operand_of expression = if slice_index expression 0 == DW_OP_plus_uconst
+    then whole_to (length expression) (uleb_of expression 1) else None
 
 abbrev pub bytes_offset : ℕ → ℕ → Held → List ℕ → Result (Option ℤ) FormFault
 bytes_offset attribute form Expr bs = Ok (operand_of bs)

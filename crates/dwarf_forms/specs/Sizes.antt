@@ -2,7 +2,8 @@
 use Rattle.std.specs.Prelude.{ℕ, ◌≡◌, Option, None, Some}
 use Rattle.dwarf_abbrev.specs.Sizes.{bytes_of}
 use Rattle.dwarf_forms.specs.declared.layout.Layout.{Layout}
-use Rattle.dwarf_forms.specs.declared.layout.Layout.TheVariants.{Fixed, Implicit, Flag, Present, Sixteen, Elsewhere}
+use Rattle.dwarf_forms.specs.declared.layout.Layout.TheVariants.{Fixed, Implicit, Flag, Present}
+use Rattle.dwarf_forms.specs.declared.layout.Layout.TheVariants.{Sixteen, Elsewhere}
 use Rattle.dwarf_forms.specs.Forms.{layout_of}
 
 -- None where the bytes of the value tell how many there are

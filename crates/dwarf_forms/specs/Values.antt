@@ -1,15 +1,19 @@
--- Values of forms, over the bytes of a unit: what stands at a place, the place after it, and the first fault.
-use Rattle.std.specs.Prelude.{ℕ, ◌+◌, ◌≤◌, ℤ, Bool, true, not, List, length, take, drop, nat_le, Option, None, Some, Result, Ok, Err, ◌==◌, ◌||◌, if◌then◌else◌}
+-- Values of forms, over the bytes of a unit: what stands at a place, the place after it, and the
+-- first fault.
+use Rattle.std.specs.Prelude.{ℕ, ◌+◌, ◌≤◌, ℤ, Bool, true, not, List, length, take, drop, nat_le}
+use Rattle.std.specs.Prelude.{Option, None, Some, Result, Ok, Err, ◌==◌, ◌||◌, if◌then◌else◌}
 use Rattle.dw_base.specs.Leb128.{uleb_of, sleb_of}
 use Rattle.dw_base.specs.Numbers.{number_of}
 use Rattle.dw_base.specs.Texts.{text_of}
 use Rattle.dw_base.specs.declared.numbers.Order.{Order}
 use Rattle.dw_base.specs.declared.leb128.LebFault.{LebFault}
 use Rattle.dw_base.specs.declared.leb128.LebFault.TheVariants.{Truncated, TooWide}
-use Rattle.dwarf_abbrev.specs.declared.constants.TheConstants.{DW_FORM_implicit_const, DW_FORM_indirect}
+use Rattle.dwarf_abbrev.specs.declared.constants.TheConstants.{DW_FORM_implicit_const}
+use Rattle.dwarf_abbrev.specs.declared.constants.TheConstants.{DW_FORM_indirect}
 use Rattle.dwarf_abbrev.specs.declared.spec.Spec.{Spec}
 use Rattle.dwarf_forms.specs.declared.fault.FormFault.{FormFault}
-use Rattle.dwarf_forms.specs.declared.fault.FormFault.TheVariants.{LebWide, FormUnknown, ValueTruncated}
+use Rattle.dwarf_forms.specs.declared.fault.FormFault.TheVariants.{LebWide, FormUnknown}
+use Rattle.dwarf_forms.specs.declared.fault.FormFault.TheVariants.{ValueTruncated}
 use Rattle.dwarf_forms.specs.declared.layout.Layout.{Layout}
 use Rattle.dwarf_forms.specs.declared.layout.Layout.TheVariants as layouts
 use Rattle.dwarf_forms.specs.declared.layout.Kind.{Kind}
@@ -23,7 +27,8 @@ use Rattle.dwarf_forms.specs.declared.given.FormValue.TheVariants as values
 use Rattle.dwarf_forms.specs.Forms.{layout_of, HasWidth}
 
 infixl 10 ◌>>=◌
-abbrev pub ◌>>=◌ : {A B : Type 0} → Result A FormFault → (A → Result B FormFault) → Result B FormFault
+abbrev pub ◌>>=◌ : {A B : Type 0} → Result A FormFault → (A → Result B FormFault)
+    → Result B FormFault
 (Ok x) >>= f = f x
 (Err e) >>= f = Err e
 
@@ -76,7 +81,8 @@ of_leb at attribute (Err Truncated) = Err (ValueTruncated attribute)
 of_leb at attribute (Err TooWide) = Err (LebWide at)
 
 unfoldable pub fixed_at : List ℕ → ℕ → ℕ → Order → ℕ → Result (ℕ × ℕ) FormFault
-fixed_at unit at width order attribute = or_cut attribute (number_of unit at width order) >>= λ (n : ℕ). Ok (n, at + width)
+fixed_at unit at width order attribute =
+    or_cut attribute (number_of unit at width order) >>= λ (n : ℕ). Ok (n, at + width)
 
 unfoldable pub uleb_at : List ℕ → ℕ → ℕ → Result (ℕ × ℕ) FormFault
 uleb_at unit at attribute = of_leb at attribute (uleb_of unit at)
@@ -85,36 +91,49 @@ unfoldable pub sleb_at : List ℕ → ℕ → ℕ → Result (ℤ × ℕ) FormFa
 sleb_at unit at attribute = of_leb at attribute (sleb_of unit at)
 
 unfoldable pub held_at : List ℕ → ℕ → ℕ → ℕ → Result (List ℕ × ℕ) FormFault
-held_at unit at count attribute = if nat_le (at + count) (length unit) then Ok (take count (drop at unit), at + count) else Err (ValueTruncated attribute)
+held_at unit at count attribute = if nat_le (at + count) (length unit)
+    then Ok (take count (drop at unit), at + count) else Err (ValueTruncated attribute)
 
 unfoldable pub text_at : List ℕ → ℕ → ℕ → Result (List ℕ × ℕ) FormFault
-text_at unit at attribute = or_cut attribute (text_of unit at) >>= λ (t : List ℕ). Ok (t, at + length t + 1)
+text_at unit at attribute =
+    or_cut attribute (text_of unit at) >>= λ (t : List ℕ). Ok (t, at + length t + 1)
 
 -- the value of a layout, and the place after it
 unfoldable pub read_at : Layout → ℕ → List ℕ → ℕ → Order → Spec → Result (Plain × ℕ) FormFault
-read_at (layouts.Fixed w kind) form unit at order spec = fixed_at unit at w order spec.attribute >>= λ (n : ℕ × ℕ). Ok (number kind n.0, n.1)
-read_at (layouts.Leb kind) form unit at order spec = uleb_at unit at spec.attribute >>= λ (n : ℕ × ℕ). Ok (number kind n.0, n.1)
-read_at layouts.Signed form unit at order spec = sleb_at unit at spec.attribute >>= λ (n : ℤ × ℕ). Ok (signed n.0, n.1)
+read_at (layouts.Fixed w kind) form unit at order spec =
+    fixed_at unit at w order spec.attribute >>= λ (n : ℕ × ℕ). Ok (number kind n.0, n.1)
+read_at (layouts.Leb kind) form unit at order spec =
+    uleb_at unit at spec.attribute >>= λ (n : ℕ × ℕ). Ok (number kind n.0, n.1)
+read_at layouts.Signed form unit at order spec =
+    sleb_at unit at spec.attribute >>= λ (n : ℤ × ℕ). Ok (signed n.0, n.1)
 read_at layouts.Implicit form unit at order spec = Ok (signed spec.implicit, at)
-read_at layouts.Flag form unit at order spec = fixed_at unit at 1 order spec.attribute >>= λ (n : ℕ × ℕ). Ok (flag (not (n.0 == 0)), n.1)
+read_at layouts.Flag form unit at order spec =
+    fixed_at unit at 1 order spec.attribute >>= λ (n : ℕ × ℕ). Ok (flag (not (n.0 == 0)), n.1)
 read_at layouts.Present form unit at order spec = Ok (flag true, at)
-read_at layouts.Text form unit at order spec = text_at unit at spec.attribute >>= λ (t : List ℕ × ℕ). Ok (text t.0, t.1)
-read_at layouts.Sixteen form unit at order spec = held_at unit at 16 spec.attribute >>= λ (b : List ℕ × ℕ). Ok (sixteen b.0, b.1)
+read_at layouts.Text form unit at order spec =
+    text_at unit at spec.attribute >>= λ (t : List ℕ × ℕ). Ok (text t.0, t.1)
+read_at layouts.Sixteen form unit at order spec =
+    held_at unit at 16 spec.attribute >>= λ (b : List ℕ × ℕ). Ok (sixteen b.0, b.1)
 read_at (layouts.Counted w kind) form unit at order spec =
-    fixed_at unit at w order spec.attribute >>= λ (n : ℕ × ℕ). held_at unit n.1 n.0 spec.attribute >>= λ (b : List ℕ × ℕ). Ok (bytes kind b.0, b.1)
+    fixed_at unit at w order spec.attribute >>= λ (n : ℕ × ℕ). held_at unit n.1 n.0 spec.attribute
+    >>= λ (b : List ℕ × ℕ). Ok (bytes kind b.0, b.1)
 read_at (layouts.LebCounted kind) form unit at order spec =
-    uleb_at unit at spec.attribute >>= λ (n : ℕ × ℕ). held_at unit n.1 n.0 spec.attribute >>= λ (b : List ℕ × ℕ). Ok (bytes kind b.0, b.1)
-read_at (layouts.Elsewhere w) form unit at order spec = fixed_at unit at w order spec.attribute >>= λ (n : ℕ × ℕ). Ok (elsewhere form, n.1)
+    uleb_at unit at spec.attribute >>= λ (n : ℕ × ℕ). held_at unit n.1 n.0 spec.attribute
+    >>= λ (b : List ℕ × ℕ). Ok (bytes kind b.0, b.1)
+read_at (layouts.Elsewhere w) form unit at order spec =
+    fixed_at unit at w order spec.attribute >>= λ (n : ℕ × ℕ). Ok (elsewhere form, n.1)
 
 abbrev pub or_unknown : ℕ → Option Layout → Result Layout FormFault
 or_unknown form None = Err (FormUnknown form)
 or_unknown form (Some l) = Ok l
 
--- the form that is used, and the place of its value: an indirect form is named by the number that stands first
+-- the form that is used, and the place of its value: an indirect form is named by the number that
+-- stands first
 unfoldable pub form_at : List ℕ → ℕ → Spec → Result (ℕ × ℕ) FormFault
 form_at unit at spec =
     if spec.form == DW_FORM_indirect
-    then (uleb_at unit at spec.attribute >>= λ (f : ℕ × ℕ). if f.0 == DW_FORM_indirect || f.0 == DW_FORM_implicit_const then Err (FormUnknown f.0) else Ok f)
+    then (uleb_at unit at spec.attribute >>= λ (f : ℕ × ℕ). if f.0 == DW_FORM_indirect || f.0
+    == DW_FORM_implicit_const then Err (FormUnknown f.0) else Ok f)
     else Ok (spec.form, at)
 
 -- a form and its value
@@ -141,7 +160,12 @@ abbrev pub end_of : Result (Shown × ℕ) FormFault → Result ℕ FormFault
 end_of r = r >>= λ (x : Shown × ℕ). Ok x.1
 
 abbrev pub within : FormCtx → Within
-within c = record { unit = take c.end c.info.now; order = c.order; offset_bytes = c.offset_bytes; address_bytes = c.address_bytes }
+within c = record {
+  unit = take c.end c.info.now;
+  order = c.order;
+  offset_bytes = c.offset_bytes;
+  address_bytes = c.address_bytes;
+}
 
 abbrev pub given : Given → Shown
 given g = record { form = g.form; value = plain g.value }

@@ -7,12 +7,14 @@ pub fn values_are_read()
     ensures { ValuesAreRead }
 {}
 
-/// A value is refused exactly for the first piece of it, in the order of the bytes, that can't be read.
+/// A value is refused exactly for the first piece of it, in the order of the bytes, that can't be
+/// read.
 pub fn refusals_are_first()
     ensures { RefusalsAreFirst }
 {}
 
-/// At a place that is not past the unit's end a value is read exactly where one stands that ends not past it either.
+/// At a place that is not past the unit's end a value is read exactly where one stands that ends
+/// not past it either.
 pub fn values_stand_in_units()
     ensures { ValuesStandInUnits }
 {}

@@ -72,8 +72,8 @@ pub enum Layout {
     Elsewhere(u32),
 }
 
-/// The layout of a form, for offsets and addresses of these many bytes. `None` exactly where the table
-/// has no row for it. The form indirect has no layout of its own: it names another one.
+/// The layout of a form, for offsets and addresses of these many bytes. `None` exactly where the
+/// table has no row for it. The form indirect has no layout of its own: it names another one.
 #[inline(always)]
 pub fn form_layout(form: u64, offset_bytes: u32, address_bytes: u32) -> Option<Layout>
     ensures row { result ≡ layout_of offset_bytes address_bytes form }

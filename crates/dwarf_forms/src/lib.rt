@@ -1,4 +1,5 @@
-//! Values of attributes, by their forms (DWARF 5, sections 7.5.4 to 7.5.6), and what they stand for.
+//! Values of attributes, by their forms (DWARF 5, sections 7.5.4 to 7.5.6), and what they stand
+//! for.
 //!
 //! No call of this crate takes memory: texts, blocks and expressions are slices of their sections.
 #![tactic(auto)]

@@ -1,7 +1,8 @@
 //! What values stand for.
 ghost use Rattle.std.specs.Prelude.{◌≡◌, IfOk, IfSome};
 ghost use Rattle.dwarf_forms.specs.Values.{given as shown, IsContext};
-ghost use Rattle.dwarf_forms.specs.Meanings.{sections, string_at, indexed_at, name_in, constant_in, flag_in, target_in, operand_of, offset_in, Fits64};
+ghost use Rattle.dwarf_forms.specs.Meanings.{sections, string_at, indexed_at, name_in, constant_in};
+ghost use Rattle.dwarf_forms.specs.Meanings.{flag_in, target_in, operand_of, offset_in, Fits64};
 
 use crate::fault::FormFault;
 use crate::given::{FormCtx, FormValue, Given};
@@ -33,11 +34,12 @@ fn indexed<'a>(ctx: &FormCtx<'a>, index: u64) -> Result<Name<'a>, FormFault>
     }
 }
 
-/// The name that a value is or refers to, a slice of its section (DWARF 5, section 7.5.5, class string).
+/// The name that a value is or refers to, a slice of its section (DWARF 5, section 7.5.5, class
+/// string).
 ///
-/// `StringOut` where its section has no text at its offset, `StrxOut` where `.debug_str_offsets` has no
-/// number at its index, `AltForm` where it lies in a supplementary file, and `WrongClass` for every
-/// other value.
+/// `StringOut` where its section has no text at its offset, `StrxOut` where `.debug_str_offsets`
+/// has no number at its index, `AltForm` where it lies in a supplementary file, and `WrongClass`
+/// for every other value.
 pub fn name_of<'a>(
     ctx: &FormCtx<'a>,
     attribute: u64,
@@ -56,8 +58,8 @@ pub fn name_of<'a>(
     }
 }
 
-/// The number that a value of class constant is. `WrongClass` for every other value, and for one of 16
-/// bytes.
+/// The number that a value of class constant is. `WrongClass` for every other value, and for one of
+/// 16 bytes.
 pub fn constant_of(attribute: u64, given: &Given<'_>) -> Result<i128, FormFault>
     ensures value { result ≡ constant_in attribute (shown given.now) }
     ensures small { IfOk result Fits64 }
@@ -79,8 +81,8 @@ pub fn flag_of(attribute: u64, given: &Given<'_>) -> Result<bool, FormFault>
     }
 }
 
-/// The offset in `.debug_info` of the entry that a value refers to; it can pass 2^64. `AltForm` where
-/// the value's form refers into a supplementary file, `WrongClass` for every other value.
+/// The offset in `.debug_info` of the entry that a value refers to; it can pass 2^64. `AltForm`
+/// where the value's form refers into a supplementary file, `WrongClass` for every other value.
 pub fn target_of(ctx: &FormCtx<'_>, attribute: u64, given: &Given<'_>) -> Result<u128, FormFault>
     ensures { result ≡ target_in (sections ctx.now) attribute (shown given.now) }
 {
@@ -107,8 +109,9 @@ fn operand(expression: &[u8]) -> Option<i128>
     }
 }
 
-/// The offset in bytes that a value gives a member: a constant, or the operand of an expression that is
-/// one DW_OP_plus_uconst; `None` exactly for every other expression. `WrongClass` for every other value.
+/// The offset in bytes that a value gives a member: a constant, or the operand of an expression
+/// that is one DW_OP_plus_uconst; `None` exactly for every other expression. `WrongClass` for every
+/// other value.
 pub fn byte_offset_of(attribute: u64, given: &Given<'_>) -> Result<Option<i128>, FormFault>
     ensures value { result ≡ offset_in attribute (shown given.now) }
     ensures small { IfOk result (λ o. IfSome o Fits64) }

@@ -1,7 +1,9 @@
 //! Reading values (DWARF 5, sections 7.5.4 to 7.5.6).
 ghost use Rattle.std.specs.Prelude.{◌≡◌, take};
 ghost use Rattle.dwarf_forms.specs.Forms.{HasWidth, HasWidths};
-ghost use Rattle.dwarf_forms.specs.Values.{seen, plain, fixed_at, uleb_at, sleb_at, held_at, number_as, bytes_as, text_at, read_at, form_at, value_of, end_of, within, given, IsContext};
+ghost use Rattle.dwarf_forms.specs.Values.{seen, plain, fixed_at, uleb_at, sleb_at, held_at};
+ghost use Rattle.dwarf_forms.specs.Values.{number_as, bytes_as, text_at, read_at, form_at};
+ghost use Rattle.dwarf_forms.specs.Values.{value_of, end_of, within, given, IsContext};
 
 use crate::fault::FormFault;
 use crate::given::{FormCtx, FormValue, Given};
@@ -203,7 +205,8 @@ pub fn unit_of<'a>(ctx: &FormCtx<'a>) -> &'a [u8]
 ///
 /// It is refused exactly where no value stands there: `FormUnknown` where the table of forms has no
 /// row for the form, or for the one that an indirect form names, or where that one is indirect or
-/// implicit_const; else `LebWide` where a LEB128 number lies in the unit and doesn't fit 64 bits; else
+/// implicit_const; else `LebWide` where a LEB128 number lies in the unit and doesn't fit 64 bits;
+/// else
 /// `ValueTruncated` where the value passes the unit's end.
 #[tactic(auto, unfolding(crate::specs::Values::value_of))]
 #[inline(always)]

@@ -32,8 +32,8 @@ fn context<'a>(info: &'a [u8], order: Order, offset_bytes: u32) -> FormCtx<'a>
     }
 }
 
-/// Each form: its value in a little-endian unit of 32-bit offsets, then in a big-endian one of 64-bit
-/// offsets, and the value. The abbreviation holds -5.
+/// Each form: its value in a little-endian unit of 32-bit offsets, then in a big-endian one of
+/// 64-bit offsets, and the value. The abbreviation holds -5.
 const FORMS: [(u64, &[u8], &[u8], &str); 45] = [
     (
         0x01,

@@ -1,7 +1,9 @@
--- The sections that are known to be apart from what is read while relocations are written: the last one of each kind.
+-- The sections that are known to be apart from what is read while relocations are written: the last
+-- one of each kind.
 use Rattle.std.specs.Prelude.{◌≡◌, ℕ, ◌==◌, Bool, false, List, Option, Some, None, if◌then◌else◌}
 use Rattle.elf_sections.specs.declared.fault.Kind.{Kind}
-use Rattle.elf_sections.specs.declared.fault.Kind.TheVariants.{Info, Abbrev, Str, LineStr, StrOffsets}
+use Rattle.elf_sections.specs.declared.fault.Kind.TheVariants.{Info, Abbrev, Str, LineStr}
+use Rattle.elf_sections.specs.declared.fault.Kind.TheVariants.{StrOffsets}
 use Rattle.elf_sections.specs.Sections.{kind_at}
 use Rattle.elf_reloc.specs.Tables.{is_relocation, target_of, target_met}
 use Rattle.elf_reloc.specs.declared.targets.Targets.{Targets}
@@ -24,9 +26,11 @@ abbrev pub with_section : Targets → Option Kind → ℕ → Targets
 with_section t None n = t
 with_section t (Some kind) n = with_number t kind n
 
--- what is known behind a section: the one that it is for in place of the last one of that kind, and all else as before
+-- what is known behind a section: the one that it is for in place of the last one of that kind, and
+-- all else as before
 unfoldable pub known_after : List ℕ → Targets → ℕ → Targets
-known_after file t i = if is_relocation file i then with_section t (kind_at file (target_of file i)) (target_of file i) else t
+known_after file t i = if is_relocation file i
+    then with_section t (kind_at file (target_of file i)) (target_of file i) else t
 
 abbrev pub is_number : Option ℕ → ℕ → Bool
 is_number None n = false

@@ -1,5 +1,5 @@
-//! The sections that relocations are for, and that are known to share no byte with what is read while
-//! relocations are written.
+//! The sections that relocations are for, and that are known to share no byte with what is read
+//! while relocations are written.
 ghost use Rattle.std.specs.Prelude.{◌≡◌, None, false};
 ghost use Rattle.elf_sections.specs.Checks.{refusal_of};
 ghost use Rattle.elf_reloc.specs.Tables.{target_met};
@@ -81,8 +81,8 @@ impl Targets {
     }
 }
 
-/// Whether the bytes of a section share one with what is read while relocations are written. Those of a
-/// known section don't, so all sections are looked at no more than once for each kind.
+/// Whether the bytes of a section share one with what is read while relocations are written. Those
+/// of a known section don't, so all sections are looked at no more than once for each kind.
 pub fn is_met(file: &File<'_>, clear: &Targets, i: u64) -> bool
     requires checked { refusal_of file.now.bytes.now ≡ None }
     requires clear { AreClear file.now.bytes.now clear.now }
@@ -96,8 +96,8 @@ pub fn is_met(file: &File<'_>, clear: &Targets, i: u64) -> bool
     target_met(file, i)
 }
 
-/// The known sections after the checks of a section have passed: where it is a relocation section, with the
-/// one that it is for. All others that were known stay so.
+/// The known sections after the checks of a section have passed: where it is a relocation section,
+/// with the one that it is for. All others that were known stay so.
 #[tactic(auto, unfolding(crate::specs::Clear::known_after))]
 pub fn with_target(file: &File<'_>, clear: Targets, i: u64) -> Targets
     requires clear { AreClear file.now.bytes.now clear }

@@ -1,5 +1,6 @@
 -- Values of fixed sizes: by one addition.
-use Rattle.std.proofs.Common.{◌≡◌, ℕ, ◌+◌, ◌*◌, ◌^◌, ◌<◌, ◌≤◌, List, [], ◌∷◌, length, Option, None, Some, Result, Ok, refl, ap, ◌∙◌, arith}
+use Rattle.std.proofs.Common.{◌≡◌, ℕ, ◌+◌, ◌*◌, ◌^◌, ◌<◌, ◌≤◌, List, [], ◌∷◌, length, Option, None}
+use Rattle.std.proofs.Common.{Some, Result, Ok, refl, ap, ◌∙◌, arith}
 use Rattle.std.proofs.Math.Nat.{mul-le-mul_left}
 use Rattle.dwarf_abbrev.specs.declared.spec.Spec.{Spec}
 use Rattle.dwarf_abbrev.specs.Sizes.{bytes_of, plus, sizes_of}
@@ -10,19 +11,24 @@ use Rattle.entry_tree.specs.Reads.{and_then, ends_at}
 use Rattle.entry_tree.proofs.Ends.{ends_more, ends_none}
 
 -- all of some pairs
-both_sizes : (p q : Option ℕ) (w : ℕ) → plus p q ≡ Some w → (m n : ℕ) × (p ≡ Some m) × (q ≡ Some n) × (m + n ≡ w)
+both_sizes : (p q : Option ℕ) (w : ℕ) → plus p q ≡ Some w
+    → (m n : ℕ) × (p ≡ Some m) × (q ≡ Some n) × (m + n ≡ w)
 both_sizes (Some m) (Some n) w e = (m, n, refl, refl, same_size (m + n) w e)
 both_sizes (Some m) None w e = cc
 both_sizes None q w e = cc
 
-pub ends_fixed : (c : Within) (specs : List Spec) (at w : ℕ) → sizes_of c.offset_bytes c.address_bytes specs ≡ Some w → at + w ≤ length c.unit → ends_at c specs at ≡ Ok (at + w)
-ends_fixed c [] at w size le = let e : at ≡ at + w = omega (arith, same_size 0 w size) in ends_none c at ∙ ap (λ (n : ℕ). Ok n) e
+pub ends_fixed : (c : Within) (specs : List Spec) (at w : ℕ) → sizes_of c.offset_bytes
+    c.address_bytes specs ≡ Some w → at + w ≤ length c.unit → ends_at c specs at ≡ Ok (at + w)
+ends_fixed c [] at w size le = let e : at ≡ at + w = omega (arith, same_size 0 w size) in
+    ends_none c at ∙ ap (λ (n : ℕ). Ok n) e
 ends_fixed c (s ∷ ss) at w size le =
-    let b = both_sizes (bytes_of c.offset_bytes c.address_bytes s.form) (sizes_of c.offset_bytes c.address_bytes ss) w size in
+    let b = both_sizes (bytes_of c.offset_bytes c.address_bytes s.form)
+    (sizes_of c.offset_bytes c.address_bytes ss) w size in
     let first = value_fixed c s at b.0 b.2 (omega (arith, b.4, le)) in
     let rest = ends_fixed c ss (at + b.0) b.1 b.3 (omega (arith, b.4, le)) in
     let sum : (at + b.0) + b.1 ≡ at + w = omega (arith, b.4) in
-    ends_more c s ss at ∙ ap (λ (r : Result (Shown × ℕ) FormFault). and_then (end_of r) (λ (e : ℕ). ends_at c ss e)) first.1 ∙ rest ∙ ap (λ (n : ℕ). Ok n) sum
+    ends_more c s ss at ∙ ap (λ (r : Result (Shown × ℕ) FormFault).
+    and_then (end_of r) (λ (e : ℕ). ends_at c ss e)) first.1 ∙ rest ∙ ap (λ (n : ℕ). Ok n) sum
 
 pub small_product : (n w : ℕ) → n < 2 ^ 32 → w ≤ 8 → n * w < 2 ^ 36
 small_product n w h le = let p : n * w ≤ n * 8 = mul-le-mul_left n le in omega (arith, p, h)

@@ -1,4 +1,5 @@
--- Where the entries of a unit stand: their places rise, and lie between the unit's header and its end.
+-- Where the entries of a unit stand: their places rise, and lie between the unit's header and its
+-- end.
 use Rattle.std.specs.Prelude.{ℕ, ◌<◌, ◌≤◌, List, [], ◌∷◌, All, ⊤}
 use Rattle.dwarf_abbrev.specs.Declarations.{Declaration}
 use Rattle.entry_tree.specs.Items.{Given}
@@ -14,8 +15,10 @@ Rises (e ∷ es) = All (λ (later : Given). e.at < later.at) es × Rises es
 abbrev pub StandIn : ℕ → ℕ → List Given → Type 0
 StandIn from end es = All (λ (e : Given). (from ≤ e.at) × (e.at < end)) es
 
--- the entries of a unit rise, and stand behind its header and before its end, also where a fault ends them
+-- the entries of a unit rise, and stand behind its header and before its end, also where a fault
+-- ends them
 abbrev pub EntriesRise : Type 0
 EntriesRise =
     (file : List ℕ) (unit : Unit) (declarations : List Declaration)
-    → Rises (entries_of file unit declarations).entries × StandIn unit.first unit.end (entries_of file unit declarations).entries
+    → Rises (entries_of file unit declarations).entries
+    × StandIn unit.first unit.end (entries_of file unit declarations).entries

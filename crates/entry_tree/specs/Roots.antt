@@ -1,6 +1,7 @@
 -- The root of a unit: its first entry, which is a compilation unit or a partial unit.
 use Rattle.std.specs.Prelude.{ℕ, ◌==◌, ℤ, List, Option, None, Some, Result, Ok, Err, if◌then◌else◌}
-use Rattle.dwarf_abbrev.specs.declared.constants.TheConstants.{DW_AT_language, DW_AT_str_offsets_base}
+use Rattle.dwarf_abbrev.specs.declared.constants.TheConstants.{DW_AT_language}
+use Rattle.dwarf_abbrev.specs.declared.constants.TheConstants.{DW_AT_str_offsets_base}
 use Rattle.dwarf_abbrev.specs.Declarations.{Declaration}
 use Rattle.dwarf_forms.specs.Values.{Plain, Shown, Within}
 use Rattle.dwarf_forms.specs.Values.Plain.{number}
@@ -25,8 +26,10 @@ abbrev pub language_in : Option Shown → Result (Option ℤ) FormFault
 language_in None = Ok None
 language_in (Some g) = as_some (constant_in DW_AT_language g)
 
--- where the unit's indices into .debug_str_offsets count from: an offset of a section or a constant; without one they count from
--- behind the section's header (DWARF 5, section 7.26), which has 8 bytes, and 16 where offsets have 8
+-- where the unit's indices into .debug_str_offsets count from: an offset of a section or a
+-- constant; without one they count from
+-- behind the section's header (DWARF 5, section 7.26), which has 8 bytes, and 16 where offsets have
+-- 8
 abbrev pub number_base : ℕ → Kind → ℕ → Result ℕ FormFault
 number_base form SecOffset n = Ok n
 number_base form Unsigned n = Ok n
@@ -54,5 +57,6 @@ unfoldable pub root_of : Within → List Declaration → ℕ → Result RootInfo
 root_of c declarations first =
     first_given c declarations first >>= λ (g : Given).
     of_form first (language_in (value_with DW_AT_language g.values)) >>= λ (language : Option ℤ).
-    of_form first (base_in c.offset_bytes (value_with DW_AT_str_offsets_base g.values)) >>= λ (base : ℕ).
+    of_form first (base_in c.offset_bytes (value_with DW_AT_str_offsets_base g.values))
+    >>= λ (base : ℕ).
     Ok (record { tag = g.tag; language = language; str_base = base })

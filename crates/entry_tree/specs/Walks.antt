@@ -11,13 +11,19 @@ use Rattle.entry_tree.specs.Reads.{values_at}
 use Rattle.entry_tree.specs.Items.{Given, Coming, with_first, listed, coming_from}
 
 abbrev pub given_entry : Entry → Given
-given_entry e = record { at = e.at; depth = e.depth; tag = e.tag; values = listed (values_at (within e.ctx) e.specs.now e.from) }
+given_entry e = record {
+  at = e.at;
+  depth = e.depth;
+  tag = e.tag;
+  values = listed (values_at (within e.ctx) e.specs.now e.from);
+}
 
 -- what was found, and what comes after it
 abbrev pub ahead : Within → List Declaration → ℕ → Result (Option Next) WalkFault → Coming
 ahead c declarations first (Err f) = record { entries = []; ending = Some f }
 ahead c declarations first (Ok None) = record { entries = []; ending = None }
-ahead c declarations first (Ok (Some n)) = with_first (given_entry n.entry) (coming_from c declarations first n.at n.lists)
+ahead c declarations first (Ok (Some n)) =
+    with_first (given_entry n.entry) (coming_from c declarations first n.at n.lists)
 
 -- one step of a walk: the first entry that comes, or what ends the walk
 abbrev pub Steps : Coming → Coming → Result (Option Given) WalkFault → Type 0
@@ -27,4 +33,5 @@ Steps old new (Err f) = (old ≡ record { entries = []; ending = Some f }) × (n
 
 -- the entries of a unit, given its abbreviations
 abbrev pub entries_of : List ℕ → Unit → List Declaration → Coming
-entries_of file unit declarations = coming_from (within_of file unit) declarations unit.first unit.first 0
+entries_of file unit declarations =
+    coming_from (within_of file unit) declarations unit.first unit.first 0

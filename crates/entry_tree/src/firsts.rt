@@ -1,4 +1,5 @@
-//! The attributes that types want, by one pass over an entry's values; and which attributes an abbreviation has.
+//! The attributes that types want, by one pass over an entry's values; and which attributes an
+//! abbreviation has.
 ghost use Rattle.std.specs.Prelude.{◌≡◌, ◌==◌, Some};
 ghost use Rattle.std.specs.Option.{option_map};
 ghost use Rattle.dwarf_forms.specs.Values.{IsContext, within, given, seen};
@@ -44,7 +45,8 @@ pub struct Wanted<'a> {
 
 /// Keeps a value where none came before.
 fn keep<'a>(field: &mut Option<Given<'a>>, found: Given<'a>)
-    ensures { option_map given field.new ≡ or_first (option_map given field.old) (Some (given found.entry)) }
+    ensures { option_map given field.new
+        ≡ or_first (option_map given field.old) (Some (given found.entry)) }
 {
     if field.is_none() {
         *field = Some(found);
@@ -53,18 +55,30 @@ fn keep<'a>(field: &mut Option<Given<'a>>, found: Given<'a>)
 
 /// Keeps a value of an attribute, if it is wanted and the first one.
 fn put<'a>(wanted: &mut Wanted<'a>, attribute: u64, found: Given<'a>)
-    ensures name { option_map given wanted.new.name ≡ kept (attribute == DW_AT_name) (option_map given wanted.old.name) (given found.entry) }
-    ensures byte_size { option_map given wanted.new.byte_size ≡ kept (attribute == DW_AT_byte_size) (option_map given wanted.old.byte_size) (given found.entry) }
-    ensures bit_offset { option_map given wanted.new.bit_offset ≡ kept (attribute == DW_AT_bit_offset) (option_map given wanted.old.bit_offset) (given found.entry) }
-    ensures bit_size { option_map given wanted.new.bit_size ≡ kept (attribute == DW_AT_bit_size) (option_map given wanted.old.bit_size) (given found.entry) }
-    ensures const_value { option_map given wanted.new.const_value ≡ kept (attribute == DW_AT_const_value) (option_map given wanted.old.const_value) (given found.entry) }
-    ensures upper_bound { option_map given wanted.new.upper_bound ≡ kept (attribute == DW_AT_upper_bound) (option_map given wanted.old.upper_bound) (given found.entry) }
-    ensures count { option_map given wanted.new.count ≡ kept (attribute == DW_AT_count) (option_map given wanted.old.count) (given found.entry) }
-    ensures location { option_map given wanted.new.location ≡ kept (attribute == DW_AT_data_member_location) (option_map given wanted.old.location) (given found.entry) }
-    ensures declaration { option_map given wanted.new.declaration ≡ kept (attribute == DW_AT_declaration) (option_map given wanted.old.declaration) (given found.entry) }
-    ensures encoding { option_map given wanted.new.encoding ≡ kept (attribute == DW_AT_encoding) (option_map given wanted.old.encoding) (given found.entry) }
-    ensures target { option_map given wanted.new.target ≡ kept (attribute == DW_AT_type) (option_map given wanted.old.target) (given found.entry) }
-    ensures bit_position { option_map given wanted.new.bit_position ≡ kept (attribute == DW_AT_data_bit_offset) (option_map given wanted.old.bit_position) (given found.entry) }
+    ensures name { option_map given wanted.new.name
+        ≡ kept (attribute == DW_AT_name) (option_map given wanted.old.name) (given found.entry) }
+    ensures byte_size { option_map given wanted.new.byte_size ≡ kept (attribute == DW_AT_byte_size)
+        (option_map given wanted.old.byte_size) (given found.entry) }
+    ensures bit_offset { option_map given wanted.new.bit_offset ≡ kept (attribute
+        == DW_AT_bit_offset) (option_map given wanted.old.bit_offset) (given found.entry) }
+    ensures bit_size { option_map given wanted.new.bit_size ≡ kept (attribute == DW_AT_bit_size)
+        (option_map given wanted.old.bit_size) (given found.entry) }
+    ensures const_value { option_map given wanted.new.const_value ≡ kept (attribute
+        == DW_AT_const_value) (option_map given wanted.old.const_value) (given found.entry) }
+    ensures upper_bound { option_map given wanted.new.upper_bound ≡ kept (attribute
+        == DW_AT_upper_bound) (option_map given wanted.old.upper_bound) (given found.entry) }
+    ensures count { option_map given wanted.new.count
+        ≡ kept (attribute == DW_AT_count) (option_map given wanted.old.count) (given found.entry) }
+    ensures location { option_map given wanted.new.location ≡ kept (attribute
+        == DW_AT_data_member_location) (option_map given wanted.old.location) (given found.entry) }
+    ensures declaration { option_map given wanted.new.declaration ≡ kept (attribute
+        == DW_AT_declaration) (option_map given wanted.old.declaration) (given found.entry) }
+    ensures encoding { option_map given wanted.new.encoding ≡ kept (attribute == DW_AT_encoding)
+        (option_map given wanted.old.encoding) (given found.entry) }
+    ensures target { option_map given wanted.new.target
+        ≡ kept (attribute == DW_AT_type) (option_map given wanted.old.target) (given found.entry) }
+    ensures bit_position { option_map given wanted.new.bit_position ≡ kept (attribute
+        == DW_AT_data_bit_offset) (option_map given wanted.old.bit_position) (given found.entry) }
 {
     match attribute {
         DW_AT_name => keep(&mut wanted.name, found),
@@ -83,8 +97,8 @@ fn put<'a>(wanted: &mut Wanted<'a>, attribute: u64, found: Given<'a>)
     }
 }
 
-/// The first values of the wanted attributes, by one pass, and the place after all values. It is refused as the
-/// values are, one after the other.
+/// The first values of the wanted attributes, by one pass, and the place after all values. It is
+/// refused as the values are, one after the other.
 pub(crate) fn first_values<'a>(
     ctx: &FormCtx<'a>,
     specs: &[Spec],

@@ -162,7 +162,8 @@ fn read_as(header: Header, at: u64, fields: u64) -> Unit {
     }
 }
 
-/// Headers of both versions with both widths of offsets, one that ends its unit and one with bytes behind it.
+/// Headers of both versions with both widths of offsets, one that ends its unit and one with bytes
+/// behind it.
 #[test]
 fn headers_of_both_versions(rt: HostRuntime) -> Result<(), Fail> {
     let alloc = rt.alloc();
@@ -207,8 +208,8 @@ fn headers_cut_off(rt: HostRuntime) -> Result<(), Fail> {
     Ok(())
 }
 
-/// The first check that fails refuses a header: its version before its end, its end before its type, and its type before
-/// the size of its addresses.
+/// The first check that fails refuses a header: its version before its end, its end before its
+/// type, and its type before the size of its addresses.
 #[test]
 fn headers_refused(rt: HostRuntime) -> Result<(), Fail> {
     let alloc = rt.alloc();

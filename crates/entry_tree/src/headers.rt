@@ -1,7 +1,9 @@
 //! Headers of units.
 ghost use Rattle.std.specs.Prelude.{◌≡◌, ◌≤◌, ◌<◌, ◌^◌, ◌+◌, length, get_or, IfOk, All};
 ghost use Rattle.dw_base.specs.Numbers.{number_of};
-ghost use Rattle.entry_tree.specs.Units.{extent_of, extent_at, fields_of, check_type, type_in, check_address, offset_in, unit_at, units_of, IsInside, Gives, Reads};
+ghost use Rattle.entry_tree.specs.Units.{extent_of, extent_at, fields_of, check_type, type_in};
+ghost use Rattle.entry_tree.specs.Units.{check_address, offset_in, unit_at, units_of, IsInside};
+ghost use Rattle.entry_tree.specs.Units.{Gives, Reads};
 ghost use Rattle.entry_tree.specs.Images.{info_of};
 ghost use Rattle.entry_tree.specs.Contexts.{IsUnitOf};
 ghost use Rattle.elf_sections.specs.Images.{file_of};
@@ -20,8 +22,8 @@ const LONG: u64 = 0xffff_ffff;
 
 const RESERVED: u64 = 0xffff_fff0;
 
-/// How far a unit goes: the offset after its length, the offset after its last byte, and how many bytes its
-/// offsets have.
+/// How far a unit goes: the offset after its length, the offset after its last byte, and how many
+/// bytes its offsets have.
 #[derive(Clone, Copy, Debug)]
 struct Extent {
     after: u64,
@@ -29,7 +31,8 @@ struct Extent {
     offset_bytes: u32,
 }
 
-/// Where the fields behind the version stand, and the unit's first entry. Headers of version 4 have no unit type.
+/// Where the fields behind the version stand, and the unit's first entry. Headers of version 4 have
+/// no unit type.
 #[derive(Clone, Copy, Debug)]
 struct Fields {
     unit_type_at: Option<u64>,
@@ -212,14 +215,14 @@ fn read_units(alloc: Global, info: &[u8], order: Order) -> Result<UnitList, Unit
     Ok(UnitList::new(units))
 }
 
-/// The headers of all units of an image, in the order of `.debug_info`. They follow one another from 0 to the
-/// section's end.
+/// The headers of all units of an image, in the order of `.debug_info`. They follow one another
+/// from 0 to the section's end.
 ///
-/// The first header that fails refuses the image, by the first of these checks: `UnitLength` where its length is
-/// cut off or reserved, where the unit passes the section's end, or where its version is cut off; `UnitVersion`
-/// where that is neither 4 nor 5; `UnitLength` where the header of that version passes the unit's end; `UnitType`
-/// where a unit of version 5 is neither a compilation unit nor a partial unit; `AddressSize` where addresses have
-/// neither 4 nor 8 bytes.
+/// The first header that fails refuses the image, by the first of these checks: `UnitLength` where
+/// its length is cut off or reserved, where the unit passes the section's end, or where its version
+/// is cut off; `UnitVersion` where that is neither 4 nor 5; `UnitLength` where the header of that
+/// version passes the unit's end; `UnitType` where a unit of version 5 is neither a compilation
+/// unit nor a partial unit; `AddressSize` where addresses have neither 4 nor 8 bytes.
 pub fn units(alloc: Global, image: &Image<'_>) -> Result<UnitList, UnitFault>
     ensures gives { Gives result (units_of (info_of (file_of image.now)) (order_of (file_of image.now))) }
     ensures reads { Reads (info_of (file_of image.now)) (order_of (file_of image.now)) result }

@@ -23,8 +23,8 @@ pub struct RootInfo {
     pub tag: u64,
     /// The DW_LANG number, where one is given.
     pub language: Option<i128>,
-    /// The offset in `.debug_str_offsets` from which the unit's indices count: its DW_AT_str_offsets_base, or
-    /// without one the offset after a header of the section.
+    /// The offset in `.debug_str_offsets` from which the unit's indices count: its
+    /// DW_AT_str_offsets_base, or without one the offset after a header of the section.
     pub str_base: u64,
 }
 
@@ -57,10 +57,11 @@ fn read_base(offset_bytes: u32, given: Option<Given<'_>>) -> Result<u64, FormFau
 
 /// Reads the first entry of a unit of an image. `abbrevs` is the table of the unit's abbreviations.
 ///
-/// It is refused by the first of these: `UnitRoot` with tag 0 where the first entry is missing or null; `Form` where
-/// its code is cut off or doesn't fit 64 bits; `AbbrevMissing`; `UnitRoot` where it is neither a compilation unit
-/// nor a partial unit; `Form` for the first value that can't be read; then `Form` with `WrongClass` where the
-/// language is no constant, and where the base of string offsets is neither an offset of a section nor a constant.
+/// It is refused by the first of these: `UnitRoot` with tag 0 where the first entry is missing or
+/// null; `Form` where its code is cut off or doesn't fit 64 bits; `AbbrevMissing`; `UnitRoot` where
+/// it is neither a compilation unit nor a partial unit; `Form` for the first value that can't be
+/// read; then `Form` with `WrongClass` where the language is no constant, and where the base of
+/// string offsets is neither an offset of a section nor a constant.
 #[tactic(auto, unfolding(crate::specs::Roots::root_of))]
 pub fn root(image: &Image<'_>, unit: &Unit, abbrevs: &Abbrevs) -> Result<RootInfo, WalkFault>
     requires { IsUnitOf (file_of image.now) unit.now }

@@ -30,8 +30,8 @@ fn bytes_in(ctx: &FormCtx<'_>, size: Size) -> u64
         + u64::from(size.addresses) * u64::from(ctx.address_bytes)
 }
 
-/// The place after the values of some pairs whose sizes are fixed: by one addition where they lie in the unit, and
-/// else value by value, for the fault of the first that does not.
+/// The place after the values of some pairs whose sizes are fixed: by one addition where they lie
+/// in the unit, and else value by value, for the fault of the first that does not.
 fn skip_fixed(ctx: &FormCtx<'_>, specs: &[Spec], size: Size, at: u64) -> Result<u64, FormFault>
     requires context { IsContext ctx.now }
     requires size { IsSize specs.now size }
@@ -45,8 +45,8 @@ fn skip_fixed(ctx: &FormCtx<'_>, specs: &[Spec], size: Size, at: u64) -> Result<
     skip_all(ctx, specs, at)
 }
 
-/// The place after the values of some pairs, of which `size` is the size where that is known. It is refused as the
-/// values are, one after the other.
+/// The place after the values of some pairs, of which `size` is the size where that is known. It is
+/// refused as the values are, one after the other.
 pub(crate) fn skip_values(
     ctx: &FormCtx<'_>,
     specs: &[Spec],

@@ -326,7 +326,8 @@ fn damaged_units(rt: HostRuntime) -> Result<(), Fail> {
     Ok(())
 }
 
-/// Headers of 8-byte lengths, padded nulls, also behind the root's end, lists left open, and no unit at all.
+/// Headers of 8-byte lengths, padded nulls, also behind the root's end, lists left open, and no
+/// unit at all.
 #[test]
 fn units_by_hand(rt: HostRuntime) -> Result<(), Fail> {
     let alloc = rt.alloc();
@@ -525,7 +526,8 @@ fn the_values_of_a_real_unit(rt: HostRuntime) -> Result<(), Fail> {
     Ok(())
 }
 
-/// A root; strp, addr, data2, flag_present and implicit_const; two attributes of one name, without bytes.
+/// A root; strp, addr, data2, flag_present and implicit_const; two attributes of one name, without
+/// bytes.
 const SIZED_ABBREV: &[u8] =
     b"\x01\x11\x01\x13\x0b\0\0\x02\x34\0\x03\x0e\x02\x01\x0b\x05\x3c\x19\x1c\x21\x7e\0\0\x03\x34\0\x0b\x21\x05\x0b\x21\x06\0\0\0";
 
@@ -562,7 +564,8 @@ fn sized_unit(
     Ok(info)
 }
 
-/// Entries of fixed size, with offsets and addresses of 4 and 8 bytes; and one that is cut in each of its values.
+/// Entries of fixed size, with offsets and addresses of 4 and 8 bytes; and one that is cut in each
+/// of its values.
 #[test]
 fn entries_of_fixed_size(rt: HostRuntime) -> Result<(), Fail> {
     let alloc = rt.alloc();

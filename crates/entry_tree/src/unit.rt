@@ -5,7 +5,8 @@ use std::alloc::AllocFailed;
 use std::marker::Model;
 use thiserror::Error;
 
-/// The header of a unit (DWARF 5, section 7.5.1; DWARF 4, section 7.5.1.1). All offsets count from the first byte of `.debug_info`.
+/// The header of a unit (DWARF 5, section 7.5.1; DWARF 4, section 7.5.1.1). All offsets count from
+/// the first byte of `.debug_info`.
 #[derive(Clone, Copy, Debug, PartialEq, Eq)]
 pub struct Unit {
     /// The offset of the unit's first byte.
@@ -22,14 +23,16 @@ pub struct Unit {
     pub offset_bytes: u32,
     /// The version of DWARF, 4 or 5.
     pub version: u16,
-    /// A DW_UT number: 1 for a compilation unit, 3 for a partial unit. Headers of version 4 don't say it; it is 1 there.
+    /// A DW_UT number: 1 for a compilation unit, 3 for a partial unit. Headers of version 4 don't
+    /// say it; it is 1 there.
     pub unit_type: u8,
 }
 
 /// Why there is no list of units. The first number is the offset of the unit's first byte.
 #[derive(Clone, Copy, Debug, PartialEq, Eq, Error)]
 pub enum UnitFault {
-    /// The length is cut off or reserved, the unit passes the section's end, or the header passes the unit's.
+    /// The length is cut off or reserved, the unit passes the section's end, or the header passes
+    /// the unit's.
     #[error("the unit at {0} has a wrong length")]
     UnitLength(u64),
     /// The version is neither 4 nor 5.

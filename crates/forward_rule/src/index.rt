@@ -1,7 +1,8 @@
 //! The index of forwards.
 ghost use Rattle.std.specs.Prelude.{◌≡◌, ◌↔◌, ◌<◌, ℕ, [], length, take, is_some, IsTrue, IfOk};
 ghost use Rattle.c_model.specs.Partition.{IsCoarsest};
-ghost use Rattle.c_model.specs.Forwards.{forward_at, definitions_in, IsOpen, IsIndexOf, IsForwardIndex};
+ghost use Rattle.c_model.specs.Forwards.{forward_at, definitions_in, IsOpen, IsIndexOf};
+ghost use Rattle.c_model.specs.Forwards.{IsForwardIndex};
 
 use crate::families::declared_family;
 use crate::gather::{gathered, opened};
@@ -51,8 +52,8 @@ impl FwdIndex {
         }
     }
 
-    /// The index of a graph that opens exactly its open forwards. `base` is the coarsest plain agreement of
-    /// the graph's base nodes.
+    /// The index of a graph that opens exactly its open forwards. `base` is the coarsest plain
+    /// agreement of the graph's base nodes.
     pub fn build<'a, G: TypeGraph<'a>>(
         alloc: Global,
         graph: &G,

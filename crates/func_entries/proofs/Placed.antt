@@ -1,5 +1,6 @@
 -- The place of an entry that is a type is that of its type.
-use Rattle.std.proofs.Common.{◌≡◌, ◌≢◌, ℕ, ◌-◌, ◌==◌, ◌||◌, Bool, true, false, List, [], ◌∷◌, map, Option, None, Some, is_some, if◌then◌else◌, refl, ap, ◌∙◌}
+use Rattle.std.proofs.Common.{◌≡◌, ◌≢◌, ℕ, ◌-◌, ◌==◌, ◌||◌, Bool, true, false, List, [], ◌∷◌, map}
+use Rattle.std.proofs.Common.{Option, None, Some, is_some, if◌then◌else◌, refl, ap, ◌∙◌}
 use Rattle.std.proofs.lemmas.Bool.{ne_eqb}
 use Rattle.dwarf_forms.specs.Meanings.{Sections}
 use Rattle.entry_tree.specs.Items.{Given}
@@ -20,11 +21,13 @@ use Rattle.c_types.proofs.Standing.{TypeStandsAt, made_stands}
 use Rattle.func_entries.specs.Walking.{has_row, is_type, place_of}
 
 -- there is a row by the tag alone
-chosen : (t s : Bool) (r : Row) (o : Option Row) → is_some o ≡ s → is_some (if t then Some r else o) ≡ (t || s)
+chosen : (t s : Bool) (r : Row) (o : Option Row) → is_some o ≡ s
+    → is_some (if t then Some r else o) ≡ (t || s)
 chosen true s r o h = refl
 chosen false s r o h = h
 
-row_there : (c : Scope) (e : Given) (after : List Given) → is_some (row_of c e after) ≡ has_row e.tag
+row_there : (c : Scope) (e : Given) (after : List Given)
+    → is_some (row_of c e after) ≡ has_row e.tag
 row_there c e after =
     let kids = children_of e.depth after in
     chosen (e.tag == 0x01) _ (array_row c.sections e kids) _
@@ -45,25 +48,34 @@ made_there : (o : Option Row) → is_some (made_in o) ≡ is_some o
 made_there None = refl
 made_there (Some r) = refl
 
-either_there : (t s : Bool) (a : SourceType) (o : Option SourceType) → is_some o ≡ s → is_some (if t then Some a else o) ≡ (t || s)
+either_there : (t s : Bool) (a : SourceType) (o : Option SourceType) → is_some o ≡ s
+    → is_some (if t then Some a else o) ≡ (t || s)
 either_there true s a o h = refl
 either_there false s a o h = h
 
 -- an entry is a type, given what its parent points to
-type_there : (c : Scope) (pointed : Option Target) (e : Given) (after : List Given) → is_some (made_of c pointed e after) ≡ is_type c.sections (is_some pointed) e
+type_there : (c : Scope) (pointed : Option Target) (e : Given) (after : List Given)
+    → is_some (made_of c pointed e after) ≡ is_type c.sections (is_some pointed) e
 type_there c None e after = made_there (row_of c e after) ∙ row_there c e after
-type_there c (Some own) e after = either_there (is_type_tag c.sections e) (has_row e.tag) (tag_type c.sections own e (children_of (e.depth - 1) after)) (made_in (row_of c e after)) (made_there (row_of c e after) ∙ row_there c e after)
+type_there c (Some own) e after = either_there (is_type_tag c.sections e) (has_row e.tag)
+    (tag_type c.sections own e (children_of (e.depth - 1) after)) (made_in (row_of c e after))
+    (made_there (row_of c e after) ∙ row_there c e after)
 
-placed : (at : ℕ) (o : Option SourceType) (t : Bool) → TypeStandsAt at o → is_some o ≡ t → map (λ (s : SourceType). s.at) (listed o) ≡ (if t then at ∷ [] else [])
+placed : (at : ℕ) (o : Option SourceType) (t : Bool) → TypeStandsAt at o → is_some o ≡ t
+    → map (λ (s : SourceType). s.at) (listed o) ≡ (if t then at ∷ [] else [])
 placed at None true h e = cc
 placed at None false h e = refl
 placed at (Some s) true h e = ap (λ (n : ℕ). n ∷ []) h
 placed at (Some s) false h e = cc
 
-pub type_place : (c : Scope) (pointed : Option Target) (e : Given) (after : List Given) → map (λ (s : SourceType). s.at) (listed (made_of c pointed e after)) ≡ place_of c.sections (is_some pointed) e
-type_place c pointed e after = placed e.at (made_of c pointed e after) (is_type c.sections (is_some pointed) e) (made_stands c pointed e after) (type_there c pointed e after)
+pub type_place : (c : Scope) (pointed : Option Target) (e : Given) (after : List Given)
+    → map (λ (s : SourceType). s.at) (listed (made_of c pointed e after))
+    ≡ place_of c.sections (is_some pointed) e
+type_place c pointed e after = placed e.at (made_of c pointed e after) (is_type c.sections
+    (is_some pointed) e) (made_stands c pointed e after) (type_there c pointed e after)
 
 -- an entry of another tag is no type tag
 pub other_tag : (c : Sections) (e : Given) → e.tag ≢ 0x6000 → is_type_tag c e ≡ false
 unfolding is_type_tag
-other_tag c e ne = let differs : (e.tag == 0x6000) ≡ false = ne_eqb e.tag 0x6000 ne in rw differs refl
+other_tag c e ne = let differs : (e.tag == 0x6000) ≡ false = ne_eqb e.tag 0x6000 ne in
+    rw differs refl

@@ -1,5 +1,7 @@
--- The functions of a unit (DWARF 5, section 3.3): subprogram entries at any depth that have a name and are no mere declarations.
-use Rattle.std.specs.Prelude.{◌==◌, ◌&&◌, ◌||◌, not, Bool, true, false, ℕ, List, [], ◌∷◌, ◌++◌, if◌then◌else◌}
+-- The functions of a unit (DWARF 5, section 3.3): subprogram entries at any depth that have a name
+-- and are no mere declarations.
+use Rattle.std.specs.Prelude.{◌==◌, ◌&&◌, ◌||◌, not, Bool, true, false, ℕ, List, [], ◌∷◌, ◌++◌}
+use Rattle.std.specs.Prelude.{if◌then◌else◌}
 use Rattle.dwarf_forms.specs.Meanings.{Sections}
 use Rattle.entry_tree.specs.Items.{Given}
 use Rattle.type_attributes.specs.declared.fault.TypeFault.{TypeFault}
@@ -17,11 +19,13 @@ some_refused (f ∷ fs) = true
 abbrev pub has_name : Asked (List ℕ) → Bool
 has_name name = some_refused name.refused || not (is_empty (name_in_full name))
 
--- a subprogram (0x2e) with a name and without a true declaration (0x3c); a declaration that is refused counts as one that is not true
+-- a subprogram (0x2e) with a name and without a true declaration (0x3c); a declaration that is
+-- refused counts as one that is not true
 abbrev pub is_function : Sections → Given → Bool
 is_function c e = e.tag == 0x2e && (has_name (name_asked c e) && not (is_set (flag_asked 0x3c e)))
 
--- its name, whether it is external (0x3f), and its prototype: the subroutine type of its own type and parameters
+-- its name, whether it is external (0x3f), and its prototype: the subroutine type of its own type
+-- and parameters
 abbrev pub function_at : Sections → Given → List Given → FuncEntry
 function_at c e after =
     record {
@@ -32,13 +36,16 @@ function_at c e after =
 
 abbrev pub function_refused : Sections → Given → List Given → List TypeFault
 function_refused c e after =
-    (name_asked c e).refused ++ ((flag_asked 0x3c e).refused ++ ((flag_asked 0x3f e).refused ++ (function_row c e (children_of e.depth after)).refused))
+    (name_asked c e).refused ++ ((flag_asked 0x3c e).refused
+    ++ ((flag_asked 0x3f e).refused ++ (function_row c e (children_of e.depth after)).refused))
 
 -- the functions among some entries, in order, and all their refusals
 abbrev pub functions_of : Sections → List Given → List FuncEntry
 functions_of c [] = []
-functions_of c (e ∷ es) = if is_function c e then function_at c e es ∷ functions_of c es else functions_of c es
+functions_of c (e ∷ es) =
+    if is_function c e then function_at c e es ∷ functions_of c es else functions_of c es
 
 abbrev pub refusals_of : Sections → List Given → List TypeFault
 refusals_of c [] = []
-refusals_of c (e ∷ es) = if is_function c e then function_refused c e es ++ refusals_of c es else refusals_of c es
+refusals_of c (e ∷ es) =
+    if is_function c e then function_refused c e es ++ refusals_of c es else refusals_of c es

@@ -20,10 +20,12 @@ IsName name = (0 < length name) × HasNoNul name
 
 -- the prototypes of a unit of any file are formed, and its functions are named
 abbrev pub FunctionsAreFormed : Type 0
-FunctionsAreFormed = (file : List ℕ) (unit : Unit) (u : UnitFuncs) → functions_of_unit_of file unit ≡ Ok u → AreFormed (protos_of u.funcs)
+FunctionsAreFormed = (file : List ℕ) (unit : Unit) (u : UnitFuncs)
+    → functions_of_unit_of file unit ≡ Ok u → AreFormed (protos_of u.funcs)
 
 abbrev pub FunctionsAreNamed : Type 0
-FunctionsAreNamed = (file : List ℕ) (unit : Unit) (u : UnitFuncs) → functions_of_unit_of file unit ≡ Ok u → All (λ (f : FuncEntry). IsName f.name) u.funcs
+FunctionsAreNamed = (file : List ℕ) (unit : Unit) (u : UnitFuncs)
+    → functions_of_unit_of file unit ≡ Ok u → All (λ (f : FuncEntry). IsName f.name) u.funcs
 
 -- the functions stand in the order of their entries, behind the unit's header and before its end
 abbrev pub FunctionsRise : Type 0
@@ -34,5 +36,6 @@ FunctionsRise =
 -- the places are those of the unit's types, where these are not refused
 abbrev pub PlacesAreTypes : Type 0
 PlacesAreTypes =
-    (file : List ℕ) (unit : Unit) (u : UnitFuncs) (t : UnitTypes) → functions_of_unit_of file unit ≡ Ok u → types_of_unit_of file unit ≡ Ok t
+    (file : List ℕ) (unit : Unit) (u : UnitFuncs) (t : UnitTypes)
+    → functions_of_unit_of file unit ≡ Ok u → types_of_unit_of file unit ≡ Ok t
     → (u.places ≡ map (λ (s : SourceType). s.at) t.types) × (u.has_array ≡ t.has_array)

@@ -1,5 +1,7 @@
--- The functions of one unit of a file, or its first refusal; a unit of a language that is passed over has none.
-use Rattle.std.specs.Prelude.{◌≡◌, ℕ, false, List, [], map, Option, None, Some, Result, Ok, Err, if◌then◌else◌, ⊤}
+-- The functions of one unit of a file, or its first refusal; a unit of a language that is passed
+-- over has none.
+use Rattle.std.specs.Prelude.{◌≡◌, ℕ, false, List, [], map, Option, None, Some, Result, Ok, Err}
+use Rattle.std.specs.Prelude.{if◌then◌else◌, ⊤}
 use Rattle.elf_sections.specs.Sections.{section_bytes}
 use Rattle.elf_sections.specs.declared.fault.Kind.TheVariants.{Abbrev as AbbrevSection}
 use Rattle.dwarf_abbrev.specs.Declarations.{Declaration}
@@ -26,7 +28,11 @@ abbrev pub places_of : Scope → List ℕ
 places_of s = map (λ (t : SourceType). t.at) (types_of s [] s.entries)
 
 abbrev pub unit_funcs : Scope → UnitFuncs
-unit_funcs s = record { funcs = functions_of s.sections s.entries; places = places_of s; has_array = some_tagged 0x01 s.entries }
+unit_funcs s = record {
+  funcs = functions_of s.sections s.entries;
+  places = places_of s;
+  has_array = some_tagged 0x01 s.entries;
+}
 
 -- where nothing is refused, else the first refusal by place, number and what is kept
 abbrev pub or_least : UnitFuncs → Option TypeFault → Result UnitFuncs TypeFault
@@ -39,23 +45,30 @@ or_walk (Some f) r = Err (Walk f)
 
 -- of a walk: its own fault comes before all refusals of functions
 abbrev pub functions_in : Scope → Option WalkFault → Result UnitFuncs TypeFault
-functions_in s ending = or_walk ending (or_least (unit_funcs s) (least (refusals_of s.sections s.entries)))
+functions_in s ending =
+    or_walk ending (or_least (unit_funcs s) (least (refusals_of s.sections s.entries)))
 
 abbrev pub no_funcs : UnitFuncs
 no_funcs = record { funcs = []; places = []; has_array = false }
 
 -- the steps of a unit: its abbreviations, its root, and its entries
-abbrev pub after_root : List ℕ → Unit → List Declaration → Result RootInfo WalkFault → Result UnitFuncs TypeFault
+abbrev pub after_root : List ℕ → Unit → List Declaration → Result RootInfo WalkFault
+    → Result UnitFuncs TypeFault
 after_root file unit declarations (Err f) = Err (Walk f)
-after_root file unit declarations (Ok root) = if is_passed_over root.language then Ok no_funcs else functions_in (scope_of file unit declarations root.str_base) (entries_of file unit declarations).ending
+after_root file unit declarations (Ok root) =
+    if is_passed_over root.language then Ok no_funcs else functions_in
+    (scope_of file unit declarations root.str_base) (entries_of file unit declarations).ending
 
-abbrev pub after_table : List ℕ → Unit → Result (List Declaration) AbbrevFault → Result UnitFuncs TypeFault
+abbrev pub after_table : List ℕ → Unit → Result (List Declaration) AbbrevFault
+    → Result UnitFuncs TypeFault
 after_table file unit (Err f) = Err (Abbrev f)
-after_table file unit (Ok declarations) = after_root file unit declarations (root_of (within_of file unit) declarations unit.first)
+after_table file unit (Ok declarations) =
+    after_root file unit declarations (root_of (within_of file unit) declarations unit.first)
 
 -- the functions of a unit of a file, or its first refusal
 abbrev pub functions_of_unit_of : List ℕ → Unit → Result UnitFuncs TypeFault
-functions_of_unit_of file unit = after_table file unit (table_at (section_bytes AbbrevSection file) unit.abbrev_at)
+functions_of_unit_of file unit =
+    after_table file unit (table_at (section_bytes AbbrevSection file) unit.abbrev_at)
 
 -- what a reader answers, unless memory ran out
 abbrev pub Gives : Result UnitFuncs TypeFault → Result UnitFuncs TypeFault → Type 0

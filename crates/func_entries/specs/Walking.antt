@@ -1,5 +1,7 @@
--- One walk over a unit: what is known of a function before its children come, and of where the types stand.
-use Rattle.std.specs.Prelude.{ℕ, ◌+◌, ◌<◌, ◌==◌, ◌&&◌, ◌||◌, Bool, false, List, [], ◌∷◌, ◌++◌, map, All, Option, None, Some, if◌then◌else◌, ⊤}
+-- One walk over a unit: what is known of a function before its children come, and of where the
+-- types stand.
+use Rattle.std.specs.Prelude.{ℕ, ◌+◌, ◌<◌, ◌==◌, ◌&&◌, ◌||◌, Bool, false, List, [], ◌∷◌, ◌++◌, map}
+use Rattle.std.specs.Prelude.{All, Option, None, Some, if◌then◌else◌, ⊤}
 use Rattle.std.specs.List.{zip}
 use Rattle.dwarf_forms.specs.Meanings.{Sections}
 use Rattle.entry_tree.specs.Items.{Given}
@@ -16,10 +18,14 @@ use Rattle.func_entries.specs.Functions.{is_function, function_refused}
 
 -- what an entry says of itself, where it is a function, and its own refusals
 abbrev pub head_at : Sections → Given → Option Head
-head_at c e = if is_function c e then Some (record { name = name_in_full (name_asked c e); external = is_set (flag_asked 0x3f e) }) else None
+head_at c e = if is_function c e then Some (record {
+  name = name_in_full (name_asked c e);
+  external = is_set (flag_asked 0x3f e);
+}) else None
 
 abbrev pub head_refused : Sections → Given → List TypeFault
-head_refused c e = if is_function c e then (name_asked c e).refused ++ ((flag_asked 0x3c e).refused ++ (flag_asked 0x3f e).refused) else []
+head_refused c e = if is_function c e then (name_asked c e).refused
+    ++ ((flag_asked 0x3c e).refused ++ (flag_asked 0x3f e).refused) else []
 
 abbrev pub head_listed : Option Head → List Head
 head_listed None = []
@@ -27,7 +33,8 @@ head_listed (Some h) = h ∷ []
 
 -- its prototype, and all its refusals
 abbrev pub prototypes_at : Sections → Given → List Given → List SourceType
-prototypes_at c e after = if is_function c e then (function_row c e (children_of e.depth after)).made ∷ [] else []
+prototypes_at c e after =
+    if is_function c e then (function_row c e (children_of e.depth after)).made ∷ [] else []
 
 abbrev pub refused_at : Sections → Given → List Given → List TypeFault
 refused_at c e after = if is_function c e then function_refused c e after else []
@@ -51,7 +58,9 @@ paired heads types = map entry_of (zip heads types)
 -- the tags of the entries that are types: those that have a row
 abbrev pub has_row : ℕ → Bool
 has_row tag =
-    tag == 0x01 || (tag == 0x04 || (tag == 0x0f || (tag == 0x13 || (tag == 0x15 || (tag == 0x17 || (tag == 0x16 || (tag == 0x24 || (tag == 0x26 || (tag == 0x35 || (tag == 0x37 || (tag == 0x3b || (tag == 0x47 || false))))))))))))
+    tag == 0x01 || (tag == 0x04 || (tag == 0x0f
+    || (tag == 0x13 || (tag == 0x15 || (tag == 0x17 || (tag == 0x16 || (tag == 0x24 || (tag
+    == 0x26 || (tag == 0x35 || (tag == 0x37 || (tag == 0x3b || (tag == 0x47 || false))))))))))))
 
 -- an entry is a type, given whether its parent is a pointer
 abbrev pub is_type : Sections → Bool → Given → Bool

@@ -12,7 +12,8 @@ pub struct FuncEntry<'a> {
     pub name: Name<'a>,
     /// Whether other units see it.
     pub external: bool,
-    /// Its prototype, a subroutine type. Its place is the offset of the function's entry in `.debug_info`.
+    /// Its prototype, a subroutine type. Its place is the offset of the function's entry in
+    /// `.debug_info`.
     pub proto: SourceType<'a>,
 }
 

@@ -1,7 +1,9 @@
 //! What the definitions say of every unit. Each function does nothing: its contract is the law.
-ghost use Rattle.func_entries.specs.Laws.{FunctionsAreFormed, FunctionsAreNamed, FunctionsRise, PlacesAreTypes};
+ghost use Rattle.func_entries.specs.Laws.{FunctionsAreFormed, FunctionsAreNamed, FunctionsRise};
+ghost use Rattle.func_entries.specs.Laws.{PlacesAreTypes};
 
-/// The prototypes of a unit where nothing is refused are well formed, however their targets are linked.
+/// The prototypes of a unit where nothing is refused are well formed, however their targets are
+/// linked.
 pub fn functions_are_formed()
     ensures { FunctionsAreFormed }
 {}
@@ -11,13 +13,14 @@ pub fn functions_are_named()
     ensures { FunctionsAreNamed }
 {}
 
-/// The functions of a unit stand in the order of their offsets, no two at one, and all of them from the
-/// unit's first entry on and before its end.
+/// The functions of a unit stand in the order of their offsets, no two at one, and all of them from
+/// the unit's first entry on and before its end.
 pub fn functions_rise()
     ensures { FunctionsRise }
 {}
 
-/// The places that come with the functions are those of the unit's types, and tell of arrays as these do.
+/// The places that come with the functions are those of the unit's types, and tell of arrays as
+/// these do.
 pub fn places_are_types()
     ensures { PlacesAreTypes }
 {}

@@ -1,10 +1,12 @@
 //! Where the types of a unit stand. An entry is one by its tag, or as a type tag under a pointer.
-ghost use Rattle.std.specs.Prelude.{◌≡◌, ◌++◌, ◌∷◌, [], ◌||◌, ◌==◌, ◌≤◌, ◌+◌, ℕ, List, OnOk, false, true, if◌then◌else◌};
+ghost use Rattle.std.specs.Prelude.{◌≡◌, ◌++◌, ◌∷◌, [], ◌||◌, ◌==◌, ◌≤◌, ◌+◌, ℕ, List, OnOk, false};
+ghost use Rattle.std.specs.Prelude.{true, if◌then◌else◌};
 ghost use Rattle.dwarf_forms.specs.Values.{IsContext};
 ghost use Rattle.dwarf_forms.specs.Meanings.{sections};
 ghost use Rattle.entry_tree.specs.Walks.{given_entry};
 ghost use Rattle.c_types.specs.Pointers.{is_type_tag as names_type_tag};
-ghost use Rattle.func_entries.specs.Walking.{has_row as tag_has_row, is_type as entry_is_type, place_of, stands_in, AreDeepening, AllAbove};
+ghost use Rattle.func_entries.specs.Walking.{has_row as tag_has_row, is_type as entry_is_type};
+ghost use Rattle.func_entries.specs.Walking.{place_of, stands_in, AreDeepening, AllAbove};
 
 use c_types::pointers::is_of_type_tags;
 use dwarf_abbrev::constants::{
@@ -78,7 +80,8 @@ fn is_type(ctx: &FormCtx<'_>, entry: &Entry<'_, '_>, pointers: &[u32]) -> bool
     requires context { IsContext ctx.now }
     requires deepening { AreDeepening pointers.now }
     requires above { AllAbove (given_entry entry.now).depth pointers.now }
-    ensures { result ≡ entry_is_type (sections ctx.now) (stands_in pointers.now (given_entry entry.now).depth) (given_entry entry.now) }
+    ensures { result ≡ entry_is_type (sections ctx.now)
+        (stands_in pointers.now (given_entry entry.now).depth) (given_entry entry.now) }
 {
     has_row(entry.tag) || (is_below(pointers, entry.depth) && is_type_tag(ctx, entry))
 }
@@ -87,7 +90,8 @@ fn is_type(ctx: &FormCtx<'_>, entry: &Entry<'_, '_>, pointers: &[u32]) -> bool
 fn reaches(depths: &[u32], depth: u32) -> bool
     requires { AreDeepening depths.now }
     ensures above { result ≡ false → AllAbove depth depths.now }
-    ensures deep { result ≡ true → (left : List ℕ) × (last : ℕ) × (depths.now ≡ left ++ last ∷ []) × (depth ≤ last) }
+    ensures deep { result ≡ true
+        → (left : List ℕ) × (last : ℕ) × (depths.now ≡ left ++ last ∷ []) × (depth ≤ last) }
 {
     match depths.last() {
         None => false,
@@ -100,7 +104,8 @@ fn leave(depths: &mut Vec<u32>, depth: u32)
     requires { AreDeepening depths.old.items }
     ensures deepening { AreDeepening depths.new.items }
     ensures above { AllAbove depth depths.new.items }
-    ensures standing { (d : ℕ) → d ≤ depth → stands_in depths.new.items d ≡ stands_in depths.old.items d }
+    ensures standing { (d : ℕ) → d ≤ depth
+        → stands_in depths.new.items d ≡ stands_in depths.old.items d }
 {
     'deeper: loop {
         if !reaches(depths.as_slice(), depth) {
@@ -114,7 +119,8 @@ fn leave(depths: &mut Vec<u32>, depth: u32)
 
 /// Enters an entry of this depth, where it is a pointer.
 fn enter(pointers: &mut Vec<u32>, depth: u32, is_pointer: bool) -> Result<(), AllocError>
-    ensures { OnOk result (pointers.new.items ≡ (if is_pointer then pointers.old.items ++ depth ∷ [] else pointers.old.items)) }
+    ensures { OnOk result (pointers.new.items
+        ≡ (if is_pointer then pointers.old.items ++ depth ∷ [] else pointers.old.items)) }
 {
     if is_pointer {
         pointers.push(depth)?;
@@ -140,10 +146,15 @@ pub(crate) fn place(
 ) -> Result<(), AllocError>
     requires context { IsContext ctx.now }
     requires deepening { AreDeepening placing.old.pointers.items }
-    ensures places { OnOk result (placing.new.places.items ≡ placing.old.places.items ++ place_of (sections ctx.now) (stands_in placing.old.pointers.items (given_entry entry.now).depth) (given_entry entry.now)) }
-    ensures arrays { OnOk result (placing.new.has_array ≡ (placing.old.has_array || (given_entry entry.now).tag == 0x01)) }
+    ensures places { OnOk result (placing.new.places.items ≡ placing.old.places.items ++ place_of
+        (sections ctx.now) (stands_in placing.old.pointers.items (given_entry entry.now).depth)
+        (given_entry entry.now)) }
+    ensures arrays { OnOk result
+        (placing.new.has_array ≡ (placing.old.has_array || (given_entry entry.now).tag == 0x01)) }
     ensures deepening { OnOk result (AreDeepening placing.new.pointers.items) }
-    ensures standing { OnOk result ((d : ℕ) → d ≤ (given_entry entry.now).depth + 1 → stands_in placing.new.pointers.items d ≡ (if (given_entry entry.now).depth + 1 == d then (given_entry entry.now).tag == 0x0f else stands_in placing.old.pointers.items d)) }
+    ensures standing { OnOk result ((d : ℕ) → d ≤ (given_entry entry.now).depth + 1
+        → stands_in placing.new.pointers.items d ≡ (if (given_entry entry.now).depth + 1 == d
+        then (given_entry entry.now).tag == 0x0f else stands_in placing.old.pointers.items d)) }
 {
     leave(&mut placing.pointers, entry.depth);
     let is_type = is_type(ctx, entry, placing.pointers.as_slice());

@@ -110,7 +110,8 @@ fn put_name(text: &mut String, name: &[u8]) -> Result<(), AllocError> {
     Ok(())
 }
 
-/// A function in a line: offset, name, whether it is external, kind, parameters, and what they refer to.
+/// A function in a line: offset, name, whether it is external, kind, parameters, and what they
+/// refer to.
 fn line(alloc: Global, one: &FuncEntry<'_>) -> Result<String, Fail> {
     let mut text = format!(in alloc; "{} ", one.proto.at)?;
     put_name(&mut text, one.name.bytes())?;
@@ -156,7 +157,8 @@ fn functions_in<'a>(
     Ok(Err(TypeFault::Memory))
 }
 
-/// Holds the functions of a unit of these entries against lines, and the places against the unit's types.
+/// Holds the functions of a unit of these entries against lines, and the places against the unit's
+/// types.
 fn compare(rt: &impl Abort, alloc: Global, entries: &[u8], wanted: &[&str]) -> Result<(), Fail> {
     let mut bytes = Vec::from_slice(alloc, &[1])?;
     bytes.extend_from_slice(entries)?;

@@ -25,7 +25,8 @@ fn read_unit<'a>(
 ) -> Result<UnitFuncs<'a>, TypeFault>
     requires unit { IsUnitOf (file_of image.now) unit.now }
     requires small { unit.now.end < unit.now.at + 2 ^ 32 }
-    ensures { Gives result (after_root (file_of image.now) unit.now abbrevs.now (root_of (within_of (file_of image.now) unit.now) abbrevs.now unit.now.first)) }
+    ensures { Gives result (after_root (file_of image.now) unit.now abbrevs.now
+        (root_of (within_of (file_of image.now) unit.now) abbrevs.now unit.now.first)) }
 {
     let root = match root(image, unit, abbrevs) {
         Ok(root) => root,
@@ -47,8 +48,9 @@ fn read_unit<'a>(
     read_functions(alloc, &ctx)
 }
 
-/// The functions of a unit of an image, as `functions_of_unit` gives them, by a table of abbreviations
-/// that was read before: the one at the unit's place, as `c_types::read_abbrevs` reads it.
+/// The functions of a unit of an image, as `functions_of_unit` gives them, by a table of
+/// abbreviations that was read before: the one at the unit's place, as `c_types::read_abbrevs`
+/// reads it.
 ///
 /// `Abbrev` doesn't come. The other refusals are those of `functions_of_unit`.
 pub fn functions_of_unit_with<'a>(
@@ -65,20 +67,22 @@ pub fn functions_of_unit_with<'a>(
     read_unit(alloc, image, unit, abbrevs)
 }
 
-/// The functions of a unit of an image, in the order of their entries, and where the unit's types stand.
+/// The functions of a unit of an image, in the order of their entries, and where the unit's types
+/// stand.
 ///
 /// A function is a subprogram (DWARF 5, section 3.3) at any depth with a name that is not empty and
 /// without a true declaration. Its prototype is the subroutine type of its own type and its own
 /// parameters. References are still offsets in `.debug_info`.
 ///
-/// A unit of a language that is passed over has no functions. The refusal is the first of: `Abbrev`;
+/// A unit of a language that is passed over has no functions. The refusal is the first of:
+/// `Abbrev`;
 /// `Walk` of the root, with its language and its base of string offsets; `Walk` of all its entries;
 /// then that of a function or of one of its parameters whose entry has the lowest offset, at one
-/// entry the one of the lowest number in the order of the variants, and of two of one number the one
-/// that keeps the lower values: `Form` of the function's name, declaration, external or type, or of
-/// the parameter's name or type, `MissingType` of the parameter, `TooMany` of the function. Where the
-/// name of a subprogram is refused, it counts as one that is not empty, and a declaration that is
-/// refused as one that is not true. `Memory` comes only where memory can't be found.
+/// entry the one of the lowest number in the order of the variants, and of two of one number the
+/// one that keeps the lower values: `Form` of the function's name, declaration, external or type,
+/// or of the parameter's name or type, `MissingType` of the parameter, `TooMany` of the function.
+/// Where the name of a subprogram is refused, it counts as one that is not empty, and a declaration
+/// that is refused as one that is not true. `Memory` comes only where memory can't be found.
 pub fn functions_of_unit<'a>(
     alloc: Global,
     image: &Image<'a>,

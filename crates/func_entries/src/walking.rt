@@ -1,5 +1,6 @@
 //! The functions of a unit by one walk: the parameters of each are gathered while they go by.
-ghost use Rattle.std.specs.Prelude.{◌≡◌, ◌++◌, ◌∷◌, ◌||◌, ◌==◌, ◌≤◌, ◌+◌, ℕ, List, Option, None, [], OnOk, IfOk, length, is_some, if◌then◌else◌};
+ghost use Rattle.std.specs.Prelude.{◌≡◌, ◌++◌, ◌∷◌, ◌||◌, ◌==◌, ◌≤◌, ◌+◌, ℕ, List, Option, None};
+ghost use Rattle.std.specs.Prelude.{[], OnOk, IfOk, length, is_some, if◌then◌else◌};
 ghost use Rattle.dwarf_forms.specs.Values.{IsContext};
 ghost use Rattle.dwarf_forms.specs.Meanings.{sections};
 ghost use Rattle.entry_tree.specs.Items.{Given};
@@ -7,12 +8,14 @@ ghost use Rattle.entry_tree.specs.Walks.{given_entry};
 ghost use Rattle.type_attributes.specs.Faults.{noted};
 ghost use Rattle.c_types.specs.Parents.{Descends};
 ghost use Rattle.type_attributes.specs.Scopes.{Scope, scope};
-ghost use Rattle.c_types.specs.Walking.{filled, least_of, AreNested, ArePlaced, AreAbove, pointed_at};
+ghost use Rattle.c_types.specs.Walking.{filled, least_of, AreNested, ArePlaced, AreAbove};
+ghost use Rattle.c_types.specs.Walking.{pointed_at};
 ghost use Rattle.type_attributes.specs.declared.fault.TypeFault.{TypeFault};
 ghost use Rattle.type_attributes.specs.declared.source.SourceType.{SourceType};
 ghost use Rattle.func_entries.specs.declared.entries.UnitFuncs.{UnitFuncs};
 ghost use Rattle.func_entries.specs.Units.{or_least, functions_in, Gives};
-ghost use Rattle.func_entries.specs.Walking.{head_at, head_refused, head_listed, prototypes_at, refused_at, paired, of_version};
+ghost use Rattle.func_entries.specs.Walking.{head_at, head_refused, head_listed, prototypes_at};
+ghost use Rattle.func_entries.specs.Walking.{refused_at, paired, of_version};
 
 use crate::entries::{FuncEntries, FuncEntry, Places, UnitFuncs};
 use crate::places::{Placing, place};
@@ -84,12 +87,21 @@ fn take_function<'a>(
     requires nested { AreNested gathering.old.reading.opens.items }
     requires above { AreAbove (given_entry entry.now).depth gathering.old.reading.opens.items }
     requires placed { ArePlaced (length gathering.old.reading.types.items) gathering.old.reading.opens.items }
-    ensures heads { OnOk result (gathering.new.heads.items ≡ gathering.old.heads.items ++ head_listed (head_at (sections ctx.now.form) (given_entry entry.now))) }
-    ensures types { OnOk result ((es : List Given) → filled (scope ctx.now) gathering.new.reading.opens.items es gathering.new.reading.types.items ≡ filled (scope ctx.now) gathering.old.reading.opens.items es gathering.old.reading.types.items ++ prototypes_at (sections ctx.now.form) (given_entry entry.now) es) }
-    ensures least { OnOk result ((es : List Given) (later : List TypeFault) → least_of (scope ctx.now) gathering.new.reading.opens.items es gathering.new.reading.current later ≡ least_of (scope ctx.now) gathering.old.reading.opens.items es gathering.old.reading.current (refused_at (sections ctx.now.form) (given_entry entry.now) es ++ later)) }
+    ensures heads { OnOk result (gathering.new.heads.items ≡ gathering.old.heads.items
+        ++ head_listed (head_at (sections ctx.now.form) (given_entry entry.now))) }
+    ensures types { OnOk result ((es : List Given) → filled (scope ctx.now)
+        gathering.new.reading.opens.items es gathering.new.reading.types.items ≡ filled
+        (scope ctx.now) gathering.old.reading.opens.items es gathering.old.reading.types.items
+        ++ prototypes_at (sections ctx.now.form) (given_entry entry.now) es) }
+    ensures least { OnOk result ((es : List Given) (later : List TypeFault) → least_of (scope
+        ctx.now) gathering.new.reading.opens.items es gathering.new.reading.current later ≡ least_of
+        (scope ctx.now) gathering.old.reading.opens.items es gathering.old.reading.current
+        (refused_at (sections ctx.now.form) (given_entry entry.now) es ++ later)) }
     ensures nested { OnOk result (AreNested gathering.new.reading.opens.items) }
-    ensures placed { OnOk result (ArePlaced (length gathering.new.reading.types.items) gathering.new.reading.opens.items) }
-    ensures pointed { OnOk result ((d : ℕ) → pointed_at gathering.old.reading.opens.items d ≡ None → pointed_at gathering.new.reading.opens.items d ≡ None) }
+    ensures placed { OnOk result
+        (ArePlaced (length gathering.new.reading.types.items) gathering.new.reading.opens.items) }
+    ensures pointed { OnOk result ((d : ℕ) → pointed_at gathering.old.reading.opens.items d ≡ None
+        → pointed_at gathering.new.reading.opens.items d ≡ None) }
 {
     let Some(head) = read_head(&ctx.form, entry, &mut gathering.reading.current) else {
         return Ok(());
@@ -111,13 +123,25 @@ fn take<'a>(
     requires version { ctx.now.version ≡ 5 }
     requires nested { AreNested gathering.old.reading.opens.items }
     requires placed { ArePlaced (length gathering.old.reading.types.items) gathering.old.reading.opens.items }
-    requires pointed { (d : ℕ) → d ≤ (given_entry entry.now).depth → pointed_at gathering.old.reading.opens.items d ≡ None }
-    ensures heads { OnOk result (gathering.new.heads.items ≡ gathering.old.heads.items ++ head_listed (head_at (sections ctx.now.form) (given_entry entry.now))) }
-    ensures types { OnOk result ((es : List Given) → filled (scope ctx.now) gathering.new.reading.opens.items es gathering.new.reading.types.items ≡ filled (scope ctx.now) gathering.old.reading.opens.items (given_entry entry.now ∷ es) gathering.old.reading.types.items ++ prototypes_at (sections ctx.now.form) (given_entry entry.now) es) }
-    ensures least { OnOk result ((es : List Given) (later : List TypeFault) → least_of (scope ctx.now) gathering.new.reading.opens.items es gathering.new.reading.current later ≡ least_of (scope ctx.now) gathering.old.reading.opens.items (given_entry entry.now ∷ es) gathering.old.reading.current (refused_at (sections ctx.now.form) (given_entry entry.now) es ++ later)) }
+    requires pointed { (d : ℕ) → d ≤ (given_entry entry.now).depth
+        → pointed_at gathering.old.reading.opens.items d ≡ None }
+    ensures heads { OnOk result (gathering.new.heads.items ≡ gathering.old.heads.items
+        ++ head_listed (head_at (sections ctx.now.form) (given_entry entry.now))) }
+    ensures types { OnOk result ((es : List Given)
+        → filled (scope ctx.now) gathering.new.reading.opens.items es
+        gathering.new.reading.types.items ≡ filled (scope ctx.now) gathering.old.reading.opens.items
+        (given_entry entry.now ∷ es) gathering.old.reading.types.items
+        ++ prototypes_at (sections ctx.now.form) (given_entry entry.now) es) }
+    ensures least { OnOk result ((es : List Given) (later : List TypeFault) → least_of
+        (scope ctx.now) gathering.new.reading.opens.items es gathering.new.reading.current later
+        ≡ least_of (scope ctx.now) gathering.old.reading.opens.items
+        (given_entry entry.now ∷ es) gathering.old.reading.current
+        (refused_at (sections ctx.now.form) (given_entry entry.now) es ++ later)) }
     ensures nested { OnOk result (AreNested gathering.new.reading.opens.items) }
-    ensures placed { OnOk result (ArePlaced (length gathering.new.reading.types.items) gathering.new.reading.opens.items) }
-    ensures pointed { OnOk result ((d : ℕ) → d ≤ (given_entry entry.now).depth + 1 → pointed_at gathering.new.reading.opens.items d ≡ None) }
+    ensures placed { OnOk result
+        (ArePlaced (length gathering.new.reading.types.items) gathering.new.reading.opens.items) }
+    ensures pointed { OnOk result ((d : ℕ) → d ≤ (given_entry entry.now).depth + 1
+        → pointed_at gathering.new.reading.opens.items d ≡ None) }
 {
     close(alloc, &mut gathering.reading, entry.depth)?;
     meet(ctx, entry, &mut gathering.reading.opens)?;
@@ -152,7 +176,14 @@ fn end<'a>(
 ) -> Result<UnitFuncs<'a>, TypeFault>
     requires nested { AreNested gathering.reading.opens.items }
     requires placed { ArePlaced (length gathering.reading.types.items) gathering.reading.opens.items }
-    ensures { (s : Scope) → Gives result (or_least (record { funcs = paired gathering.entry.heads.items (filled s gathering.entry.reading.opens.items [] gathering.entry.reading.types.items); places = placing.places.items; has_array = placing.has_array }) (least_of s gathering.entry.reading.opens.items [] gathering.entry.reading.current [])) }
+    ensures { (s : Scope)
+        → Gives result (or_least (record {
+          funcs = paired gathering.entry.heads.items
+              (filled s gathering.entry.reading.opens.items [] gathering.entry.reading.types.items);
+          places = placing.places.items;
+          has_array = placing.has_array;
+        })
+        (least_of s gathering.entry.reading.opens.items [] gathering.entry.reading.current [])) }
 {
     let Gathering { heads, reading } = gathering;
     let mut reading = reading;
@@ -168,8 +199,8 @@ fn end<'a>(
     })
 }
 
-/// The functions of all entries of a unit. They are read as in version 5, in which nothing is asked of
-/// other entries: the version decides the places of members alone.
+/// The functions of all entries of a unit. They are read as in version 5, in which nothing is asked
+/// of other entries: the version decides the places of members alone.
 pub(crate) fn read_functions<'a>(
     alloc: Global,
     ctx: &UnitCtx<'_, 'a>,
@@ -177,7 +208,8 @@ pub(crate) fn read_functions<'a>(
     requires context { IsContext ctx.now.form }
     requires version { ctx.now.version ≡ 5 }
     requires descending { Descends 0 ctx.now.start.entries }
-    ensures { (version : ℕ) → Gives result (functions_in (of_version version (scope ctx.now)) ctx.now.start.ending) }
+    ensures { (version : ℕ)
+        → Gives result (functions_in (of_version version (scope ctx.now)) ctx.now.start.ending) }
 {
     let mut walk = ctx.start.copy();
     let mut placing = Placing {

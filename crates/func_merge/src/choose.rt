@@ -1,5 +1,6 @@
 //! The graph of the chosen functions.
-ghost use Rattle.std.specs.Prelude.{◌≡◌, ◌<◌, ◌≤◌, ◌+◌, ◌*◌, ◌^◌, None, Some, All, length, IfOk, IfErr, IfSome};
+ghost use Rattle.std.specs.Prelude.{◌≡◌, ◌<◌, ◌≤◌, ◌+◌, ◌*◌, ◌^◌, None, Some, All, length, IfOk};
+ghost use Rattle.std.specs.Prelude.{IfErr, IfSome};
 ghost use Rattle.std.specs.Option.{option_map};
 ghost use Rattle.base_merge.specs.Merging.{CanBeBase, KeepsLimit};
 ghost use Rattle.btf_codec.specs.Gives.{before_of};
@@ -24,21 +25,23 @@ use std::marker::Brand;
 use std::sync::ledger::{Blank, Ledger};
 use std::thread::Threads;
 
-/// The graph of the chosen functions, and its classes where they are known from those of the prototypes.
+/// The graph of the chosen functions, and its classes where they are known from those of the
+/// prototypes.
 #[derive(Debug, Drop)]
 pub struct Chosen<'a> {
     pub graph: PackedGraph<'a>,
     pub classes: Option<Classes>,
 }
 
-/// The graph of the chosen functions: a name is chosen by the classes of the graph of prototypes, which stands behind
-/// the types of a base, where there is one. The graph itself has no base nodes.
+/// The graph of the chosen functions: a name is chosen by the classes of the graph of prototypes,
+/// which stands behind the types of a base, where there is one. The graph itself has no base nodes.
 ///
-/// Classes are found by `jobs` workers at most. Its own are known where there is no base, nothing but prototypes stands
-/// behind the first nodes of the graph of prototypes, and those of the functions among these.
+/// Classes are found by `jobs` workers at most. Its own are known where there is no base, nothing
+/// but prototypes stands behind the first nodes of the graph of prototypes, and those of the
+/// functions among these.
 ///
-/// It is refused by `NodesTooMany` exactly where there is a base, and the base and the graph of prototypes have more
-/// than `most` nodes together.
+/// It is refused by `NodesTooMany` exactly where there is a base, and the base and the graph of
+/// prototypes have more than `most` nodes together.
 pub fn choose_over<'a, R: Threads + Sync>(
     rt: &R,
     alloc: Global,
@@ -56,13 +59,16 @@ pub fn choose_over<'a, R: Threads + Sync>(
     requires well { All IsWellFormed protos.graph.nodes }
     requires fitting { HasFittingForwards protos.graph }
     requires names { All (λ f. HasNoNul f.name) protos.funcs }
-    ensures chosen { IfOk result (λ c. AreTheChosen (option_map (λ b. before_of b.now) base.entry) protos.entry c.graph.nodes) }
+    ensures chosen { IfOk result (λ c.
+        AreTheChosen (option_map (λ b. before_of b.now) base.entry) protos.entry c.graph.nodes) }
     ensures parted { IfOk result (λ c. IfSome c.classes (λ p. IsPartedBy c.graph p)) }
     ensures alone { IfOk result (λ c. c.graph.base ≡ 0) }
     ensures well { IfOk result (λ c. All IsWellFormed c.graph.nodes) }
     ensures fitting { IfOk result (λ c. HasFittingForwards c.graph) }
-    ensures limit { IfOk result (λ _. KeepsLimit most (option_map (λ b. before_of b.now) base.entry) protos.entry.graph.nodes) }
-    ensures refusal { IfErr result (RefusesChoice most (option_map (λ b. before_of b.now) base.entry) protos.entry.graph.nodes) }
+    ensures limit { IfOk result (λ _.
+        KeepsLimit most (option_map (λ b. before_of b.now) base.entry) protos.entry.graph.nodes) }
+    ensures refusal { IfErr result (RefusesChoice most
+        (option_map (λ b. before_of b.now) base.entry) protos.entry.graph.nodes) }
 {
     match base {
         None => Ok(choose_alone::<R, Brand>(rt, alloc, jobs, &protos, Blank::new(1))?),

@@ -48,7 +48,8 @@ pub fn refer_below(limit: u32, nodes: &[CType<'_>]) -> bool
 /// Whether a declaration has no targets.
 fn is_leaf(graph: &Graph<'_>, x: u32) -> bool
     requires { x < length graph.now.nodes }
-    ensures { IsTrue result → ((tag : Tag) → declaration_at graph.now.nodes x ≡ Some tag → length (targets_at graph.now.nodes x) ≡ 0) }
+    ensures { IsTrue result → ((tag : Tag) → declaration_at graph.now.nodes x ≡ Some tag
+        → length (targets_at graph.now.nodes x) ≡ 0) }
 {
     let node = graph.node(x);
     declared_family(&node.label).is_none() || node.targets.items().is_empty()
@@ -58,7 +59,8 @@ fn is_leaf(graph: &Graph<'_>, x: u32) -> bool
 fn is_like(graph: &Graph<'_>, x: u32, y: u32) -> bool
     requires x { x < length graph.now.nodes }
     requires y { y < length graph.now.nodes }
-    ensures { IsTrue result → ((tag : Tag) → forward_at graph.now x ≡ Some tag → forward_at graph.now y ≡ Some tag → label_at graph.now.nodes x ≡ label_at graph.now.nodes y) }
+    ensures { IsTrue result → ((tag : Tag) → forward_at graph.now x ≡ Some tag → forward_at
+        graph.now y ≡ Some tag → label_at graph.now.nodes x ≡ label_at graph.now.nodes y) }
 {
     let (a, b) = (&graph.node(x).label, &graph.node(y).label);
     a.name.bytes() != b.name.bytes()
@@ -71,7 +73,9 @@ fn is_like(graph: &Graph<'_>, x: u32, y: u32) -> bool
 /// Whether all forwards of node `x`'s tag have its label, or it is no forward.
 fn are_like(graph: &Graph<'_>, x: u32) -> bool
     requires { x < length graph.now.nodes }
-    ensures { IsTrue result → ((y : ℕ) (tag : Tag) → y < length graph.now.nodes → forward_at graph.now x ≡ Some tag → forward_at graph.now y ≡ Some tag → label_at graph.now.nodes x ≡ label_at graph.now.nodes y) }
+    ensures { IsTrue result → ((y : ℕ) (tag : Tag) → y < length graph.now.nodes
+        → forward_at graph.now x ≡ Some tag → forward_at graph.now y ≡ Some tag
+        → label_at graph.now.nodes x ≡ label_at graph.now.nodes y) }
 {
     if !FwdIndex::is_forward(graph, x) {
         return true;

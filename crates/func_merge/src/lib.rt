@@ -1,4 +1,5 @@
-//! The graph of the chosen functions, by the classes of the graph of prototypes behind a base, where there is one.
+//! The graph of the chosen functions, by the classes of the graph of prototypes behind a base,
+//! where there is one.
 #![tactic(auto)]
 
 pub mod choose;

@@ -1,5 +1,6 @@
 //! The classes of the graph of the chosen functions, by those of the graph of prototypes.
-ghost use Rattle.std.specs.Prelude.{◌≡◌, ◌↔◌, ◌<◌, ◌≤◌, ◌+◌, ◌^◌, ◌++◌, ℕ, All, IsTrue, length, slice_get, take, is_some, IfOk, IfSome, IfNone, OnOk};
+ghost use Rattle.std.specs.Prelude.{◌≡◌, ◌↔◌, ◌<◌, ◌≤◌, ◌+◌, ◌^◌, ◌++◌, ℕ, All, IsTrue, length};
+ghost use Rattle.std.specs.Prelude.{slice_get, take, is_some, IfOk, IfSome, IfNone, OnOk};
 ghost use Rattle.std.specs.List.{filter_map, range_with_len};
 ghost use Rattle.c_model.specs.Graph.{RefersWithin};
 ghost use Rattle.func_types.specs.Chosen.{chosen_funcs, chosen_graph, class_behind};
@@ -18,7 +19,8 @@ const BTF_KIND_FUNC: u8 = 12;
 /// The kind of a function's prototype.
 const BTF_KIND_FUNC_PROTO: u8 = 13;
 
-/// Whether a node of this kind may stand in this place: a prototype from `plain` on, and anything but a function before.
+/// Whether a node of this kind may stand in this place: a prototype from `plain` on, and anything
+/// but a function before.
 fn is_in_place(kind: u8, node: u32, plain: u32) -> bool
     ensures { result ≡ fits_place plain node kind }
 {
@@ -77,7 +79,8 @@ fn push_classes(
 ) -> Result<(), AllocError>
     requires protos { All (λ f. f.proto < length found.now) funcs.now }
     requires places { All (λ i. i < length funcs.now) places.now }
-    ensures { OnOk result (numbers.new.items ≡ numbers.old.items ++ classes_by found.now (filter_map (slice_get funcs.now) places.now)) }
+    ensures { OnOk result (numbers.new.items
+        ≡ numbers.old.items ++ classes_by found.now (filter_map (slice_get funcs.now) places.now)) }
 {
     for place in places {
         let func = func_at(funcs, *place as usize);
@@ -97,8 +100,8 @@ fn push_numbers(numbers: &mut Vec<u32>, first: u32, count: u32) -> Result<(), Al
     Ok(())
 }
 
-/// The classes of the first nodes and of the prototypes of the functions in these places, and a class of its own for
-/// each of their FUNCs, with the numbers from `first` on.
+/// The classes of the first nodes and of the prototypes of the functions in these places, and a
+/// class of its own for each of their FUNCs, with the numbers from `first` on.
 fn classes_from(
     alloc: Global,
     found: &Classes,
@@ -111,7 +114,8 @@ fn classes_from(
     requires protos { All (λ f. f.proto < length found.now) funcs.now }
     requires places { All (λ i. i < length funcs.now) places.now }
     requires few { first + length places.now < 2 ^ 32 }
-    ensures { IfOk result (λ c. c ≡ take plain found.now ++ classes_by found.now (filter_map (slice_get funcs.now) places.now)
+    ensures { IfOk result (λ c. c
+        ≡ take plain found.now ++ classes_by found.now (filter_map (slice_get funcs.now) places.now)
         ++ range_with_len first (length places.now)) }
 {
     let mut numbers = Vec::new(alloc);
@@ -121,8 +125,9 @@ fn classes_from(
     Ok(Classes::new(Numbers::new(numbers)))
 }
 
-/// The classes of the graph of the chosen functions, which are in these places, where they are known: all nodes behind the
-/// first are prototypes, the functions' are among these, no function is among the first, and there are numbers enough.
+/// The classes of the graph of the chosen functions, which are in these places, where they are
+/// known: all nodes behind the first are prototypes, the functions' are among these, no function is
+/// among the first, and there are numbers enough.
 pub(crate) fn parted_classes<'a>(
     alloc: Global,
     protos: &Protos<'a, PackedGraph<'a>>,
@@ -134,11 +139,13 @@ pub(crate) fn parted_classes<'a>(
     requires within { RefersWithin protos.now.plain protos.now.graph.nodes }
     requires protos { All (λ f. f.proto < length protos.now.graph.nodes) protos.now.funcs }
     requires parted { IsPartedBy protos.now.graph found.now }
-    requires chosen { filter_map (slice_get protos.now.funcs) places.now ≡ chosen_funcs (class_behind 0 found.now) protos.now.funcs }
+    requires chosen { filter_map (slice_get protos.now.funcs) places.now
+        ≡ chosen_funcs (class_behind 0 found.now) protos.now.funcs }
     requires places { All (λ i. i < length protos.now.funcs) places.now }
     requires few { length places.now < 2 ^ 32 }
     ensures parted { IfOk result (λ c. IfSome c (λ q. IsPartedBy
-        (chosen_graph (class_behind 0 found.now) protos.now.plain protos.now.graph.nodes protos.now.funcs) q)) }
+        (chosen_graph
+        (class_behind 0 found.now) protos.now.plain protos.now.graph.nodes protos.now.funcs) q)) }
     ensures known { IfOk result (λ c. HasProtosBehind protos.now.plain protos.now.graph.nodes
         → All (λ f. protos.now.plain ≤ f.proto) protos.now.funcs
         → All (λ k. k + length places.now + 1 < 2 ^ 32) found.now → IsTrue (is_some c)) }

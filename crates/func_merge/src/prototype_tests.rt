@@ -101,7 +101,8 @@ fn push_readable<'a>(
     requires unit { IsUnitOf (bytes_of image) unit }
     requires readable { All IsReadable all.old.items }
     ensures readable { OnOk result (All IsReadable all.new.items) }
-    ensures files { OnOk result ((files : ℕ → List ℕ) → bytes_of image.entry ≡ files file → AreOf files all.old.items → AreOf files all.new.items) }
+    ensures files { OnOk result ((files : ℕ → List ℕ) → bytes_of image.entry ≡ files file
+        → AreOf files all.old.items → AreOf files all.new.items) }
 {
     if unit.end.saturating_sub(unit.at) < 1 << 32 {
         all.push(FuncUnit { file, image, unit })?;
@@ -118,7 +119,8 @@ fn push_units<'a>(
 ) -> Result<(), Fail>
     requires readable { All IsReadable all.old.items }
     ensures readable { OnOk result (All IsReadable all.new.items) }
-    ensures files { OnOk result ((files : ℕ → List ℕ) → bytes.now ≡ files file → AreOf files all.old.items → AreOf files all.new.items) }
+    ensures files { OnOk result ((files : ℕ → List ℕ) → bytes.now ≡ files file
+        → AreOf files all.old.items → AreOf files all.new.items) }
 {
     if let Ok(image) = Image::read(bytes) {
         let list = units(alloc, &image)?;
@@ -162,7 +164,8 @@ fn types_of<'a, R: Threads + Sync>(
     }
 }
 
-/// The functions in a line: name, whether it is external, and the number, the kind and the targets of its prototype.
+/// The functions in a line: name, whether it is external, and the number, the kind and the targets
+/// of its prototype.
 fn line(alloc: Global, protos: &Protos<'_>) -> Result<String, Fail> {
     let mut text = String::new(alloc);
     for func in protos.funcs.items() {
@@ -211,9 +214,11 @@ fn answer<R: Threads + Sync>(
     }
 }
 
-/// `int` at 13 and a function at 18, which returns the type at 47 and has a parameter of `int`: the first unit of a file.
+/// `int` at 13 and a function at 18, which returns the type at 47 and has a parameter of `int`: the
+/// first unit of a file.
 const FIRST: &[u8] = b"\x01\x02i\0\x04\x05\x03f\0\x2f\0\0\0\x05a\0\x0d\0\0\0\0\0";
-/// A type at 47 and a static function of a parameter of the type at 13: the second unit of that file.
+/// A type at 47 and a static function of a parameter of the type at 13: the second unit of that
+/// file.
 const SECOND: &[u8] = b"\x01\x02j\0\x08\x05\x04g\0\x05b\0\x0d\0\0\0\0\0";
 /// A type at 13 and a static function of a parameter of that type: the first unit of a file.
 const OTHER: &[u8] = b"\x01\x02k\0\x02\x05\x04h\0\x05c\0\x0d\0\0\0\0\0";

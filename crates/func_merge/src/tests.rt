@@ -34,8 +34,8 @@ enum Type {
     Proto(u32),
 }
 
-/// A function entry, or a chosen function with the entry's prototype: its name, whether other units can call it, and
-/// the prototype's node.
+/// A function entry, or a chosen function with the entry's prototype: its name, whether other units
+/// can call it, and the prototype's node.
 #[derive(Clone, Copy)]
 struct Row {
     name: &'static [u8],
@@ -222,8 +222,8 @@ fn bytes_of_base(alloc: Global, base: &[Type]) -> Result<Vec<u8>, AllocError> {
     btf(alloc, base)
 }
 
-/// Whether the functions of these rows are chosen of the types that bytes spell, behind a base, where it has bytes, and the
-/// classes of their graph are known exactly where there is no base.
+/// Whether the functions of these rows are chosen of the types that bytes spell, behind a base,
+/// where it has bytes, and the classes of their graph are known exactly where there is no base.
 fn chooses_from<'a, R: Threads + Sync>(
     rt: &R,
     alloc: Global,
@@ -262,7 +262,8 @@ fn chooses<R: Threads + Sync>(
     chooses_from(rt, alloc, &below, most, &bytes, files, rows)
 }
 
-/// The same without a base, of entries of two prototypes that return `int`, and of one that returns nothing.
+/// The same without a base, of entries of two prototypes that return `int`, and of one that returns
+/// nothing.
 fn chooses_of<R: Threads + Sync>(
     rt: &R,
     alloc: Global,
@@ -312,7 +313,8 @@ fn without_a_base(rt: HostRuntime) -> Result<(), Fail> {
     // No functions, and one.
     assert!(rt; chooses_of(&rt, alloc, &[], &[])?);
     assert!(rt; chooses_of(&rt, alloc, &[global(f, 1)], &[global(f, 1)])?);
-    // A static and an external function of one name; prototypes of one class; and prototypes that differ.
+    // A static and an external function of one name; prototypes of one class; and prototypes that
+    // differ.
     assert!(rt; chooses_of(&rt, alloc, &[local(f, 1), global(f, 2)], &[])?);
     assert!(rt; chooses_of(&rt, alloc, &[local(f, 2), local(f, 1)], &[local(f, 2)])?);
     assert!(rt; chooses_of(&rt, alloc, &[global(f, 1), global(f, 3)], &[])?);
@@ -340,7 +342,8 @@ fn behind_a_base(rt: HostRuntime) -> Result<(), Fail> {
         rows: &rows,
     };
     assert!(rt; chooses(&rt, alloc, &[], 8, &files, &rows[..1])?);
-    // A base with the same definition changes nothing; one with two definitions leaves the declaration alone.
+    // A base with the same definition changes nothing; one with two definitions leaves the
+    // declaration alone.
     let (one, two) = ([Type::Int, Type::Foo(4)], [Type::Foo(4), Type::Foo(8)]);
     assert!(rt; chooses(&rt, alloc, &one, 8, &files, &rows[..1])?);
     assert!(rt; chooses(&rt, alloc, &two, 8, &files, &[])?);

@@ -22,16 +22,21 @@ turned a b false true e f = sym e ∙ bytes_eq_true a b (sym (bytes_eq_same b a 
 pub bytes_eq_turned : (a b : List ℕ) → bytes_eq a b ≡ bytes_eq b a
 bytes_eq_turned a b = turned a b (bytes_eq a b) (bytes_eq b a) refl refl
 
-pub noted_now : (text : Bor (List ℕ)) (at : ℕ) (old new : List (Bor (List ℕ) × ℕ)) → place_in old text.now ≡ None
-    → ((q : Bor (List ℕ)) → lookup (λ (k : Bor (List ℕ)). bytes_eq q.now k.now) new ≡ cond (bytes_eq text.now q.now) (Some at) (lookup (λ (k : Bor (List ℕ)). bytes_eq q.now k.now) old))
+pub noted_now : (text : Bor (List ℕ)) (at : ℕ) (old new : List (Bor (List ℕ) × ℕ))
+    → place_in old text.now ≡ None
+    → ((q : Bor (List ℕ))
+    → lookup (λ (k : Bor (List ℕ)). bytes_eq q.now k.now) new ≡ cond (bytes_eq text.now q.now)
+    (Some at) (lookup (λ (k : Bor (List ℕ)). bytes_eq q.now k.now) old))
     → Notes old new text.now at at
 noted_now text at old new missing updates =
     record {
-      known = λ (k : ℕ) (e : place_in old text.now ≡ Some k). absurd (none-some k (sym missing ∙ e));
+      known =
+          λ (k : ℕ) (e : place_in old text.now ≡ Some k). absurd (none-some k (sym missing ∙ e));
       unknown =
           λ (e : place_in old text.now ≡ None). (
             refl,
             λ (other : List ℕ).
-                updates (record text { now = other }) ∙ ap (λ (t : Bool). cond t (Some at) (place_in old other)) (bytes_eq_turned text.now other),
+                updates (record text { now = other }) ∙ ap (λ (t : Bool).
+                cond t (Some at) (place_in old other)) (bytes_eq_turned text.now other),
           );
     }

@@ -1,7 +1,8 @@
 -- Which function names are chosen, and the graph of the chosen functions.
 --
 -- A class is a number for each node; two nodes are of one class where their numbers are equal.
-use Rattle.std.specs.Prelude.{ℕ, ◌+◌, ◌==◌, ◌&&◌, ◌||◌, Bool, false, not, List, [], ◌∷◌, ◌++◌, map, take, slice_get, slice_index, if◌then◌else◌}
+use Rattle.std.specs.Prelude.{ℕ, ◌+◌, ◌==◌, ◌&&◌, ◌||◌, Bool, false, not, List, [], ◌∷◌, ◌++◌, map}
+use Rattle.std.specs.Prelude.{take, slice_get, slice_index, if◌then◌else◌}
 use Rattle.std.specs.List.{enumerate_from, filter, filter_map, list_all, list_any}
 use Rattle.std.specs.Str.{bytes_eq}
 use Rattle.std.proofs.Math.Bool.{beq}
@@ -32,7 +33,8 @@ is_first funcs i f = not (list_any (has_name f.name) (take i funcs))
 
 -- the entries that are the first of their names, in order
 abbrev pub first_entries : List Func → List Func
-first_entries funcs = map (λ (e : ℕ × Func). e.1) (filter (λ (e : ℕ × Func). is_first funcs e.0 e.1) (enumerate_from 0 funcs))
+first_entries funcs = map (λ (e : ℕ × Func). e.1)
+    (filter (λ (e : ℕ × Func). is_first funcs e.0 e.1) (enumerate_from 0 funcs))
 
 -- the chosen functions: the first entry of each name whose entries agree, in order
 unfoldable pub chosen_funcs : (ℕ → ℕ) → List Func → List Func
@@ -45,19 +47,30 @@ prototypes_of nodes fs = filter_map (λ (f : Func). slice_get nodes f.proto) fs
 -- FUNC with the name and the linkage of a function, and a node as its prototype
 abbrev pub func_type : ℕ → Func → CType
 func_type proto f = record {
-  label = record { kind = 12; name = f.name; flag = false; size = 0; extra = if f.external then 1 else 0; parts = [] };
+  label = record {
+    kind = 12;
+    name = f.name;
+    flag = false;
+    size = 0;
+    extra = if f.external then 1 else 0;
+    parts = [];
+  };
   targets = Node proto ∷ [];
 }
 
--- FUNC for each function; the prototypes are nodes that stand one behind the other from a first one on
+-- FUNC for each function; the prototypes are nodes that stand one behind the other from a first one
+-- on
 abbrev pub funcs_from : ℕ → List Func → List CType
 funcs_from first fs = map (λ (e : ℕ × Func). func_type e.0 e.1) (enumerate_from first fs)
 
--- the nodes of the graph of the chosen functions: the first of the graph's nodes, the prototypes of the chosen functions,
+-- the nodes of the graph of the chosen functions: the first of the graph's nodes, the prototypes of
+-- the chosen functions,
 -- and a FUNC for each of them
 unfoldable pub chosen_nodes : (ℕ → ℕ) → ℕ → List CType → List Func → List CType
-chosen_nodes class plain nodes funcs = take plain nodes ++ prototypes_of nodes (chosen_funcs class funcs) ++ funcs_from plain (chosen_funcs class funcs)
+chosen_nodes class plain nodes funcs = take plain nodes
+    ++ prototypes_of nodes (chosen_funcs class funcs) ++ funcs_from plain (chosen_funcs class funcs)
 
 -- the graph of the chosen functions, which has no base nodes
 abbrev pub chosen_graph : (ℕ → ℕ) → ℕ → List CType → List Func → Shape
-chosen_graph class plain nodes funcs = record { base = 0; nodes = chosen_nodes class plain nodes funcs }
+chosen_graph class plain nodes funcs =
+    record { base = 0; nodes = chosen_nodes class plain nodes funcs }

@@ -1,5 +1,7 @@
--- What is kept of units that are read one after the other: their function entries, and where their types stand.
-use Rattle.std.specs.Prelude.{ℕ, ◌+◌, ◌≡◌, List, [], ◌∷◌, ◌++◌, length, map, Bool, Result, Ok, Err, if◌then◌else◌}
+-- What is kept of units that are read one after the other: their function entries, and where their
+-- types stand.
+use Rattle.std.specs.Prelude.{ℕ, ◌+◌, ◌≡◌, List, [], ◌∷◌, ◌++◌, length, map, Bool, Result, Ok, Err}
+use Rattle.std.specs.Prelude.{if◌then◌else◌}
 use Rattle.c_model.specs.declared.graph.CType.{CType}
 use Rattle.c_types.specs.Types.{types_of_unit_of}
 use Rattle.type_attributes.specs.declared.source.UnitTypes.{UnitTypes}
@@ -29,12 +31,15 @@ pub record HasTypes (u : FileUnit) : Type 0 where
   pub types : UnitTypes
   pub read : types_of_unit_of u.bytes u.unit ≡ Ok types
 
--- what is held of units, the first of which has a number in the list of all: their function entries, and the rows and the number
+-- what is held of units, the first of which has a number in the list of all: their function
+-- entries, and the rows and the number
 -- of their nodes, which are counted from the first that is held
 pub record IsFound (from : ℕ) (units : List FileUnit) (f : Found) : Type 0 where
   pub funcs : functions_from from [] units ≡ Ok f.funcs.items
-  pub rows : (n : ℕ) (rs : List Read) → reads from units ≡ Ok rs → f.rows.items ≡ rows_from 0 (sources_from n rs)
-  pub count : (n : ℕ) (rs : List Read) → reads from units ≡ Ok rs → f.count ≡ length (sources_from n rs)
+  pub rows : (n : ℕ) (rs : List Read) → reads from units ≡ Ok rs
+      → f.rows.items ≡ rows_from 0 (sources_from n rs)
+  pub count : (n : ℕ) (rs : List Read) → reads from units ≡ Ok rs
+      → f.count ≡ length (sources_from n rs)
 
 -- what a worker answers: what it holds, or the fault of the first unit that is refused
 abbrev pub GivesFound : ℕ → List FileUnit → Result Found FuncFault → Type 0
@@ -48,8 +53,10 @@ pub record Joins (p q r : Found) : Type 0 where
   pub count : r.count ≡ p.count + q.count
 
 -- linked prototypes stand behind the nodes before them, and the entries have their numbers
-abbrev pub Follows : List CType → ℕ → List FileFunc → Result Linked Out → Result (List CType) Out → Type 0
-Follows before count fs (Ok l) (Ok protos) = (l.nodes ≡ before ++ protos) × (l.funcs.items ≡ numbered count fs)
+abbrev pub Follows : List CType → ℕ → List FileFunc → Result Linked Out
+    → Result (List CType) Out → Type 0
+Follows before count fs (Ok l) (Ok protos) =
+    (l.nodes ≡ before ++ protos) × (l.funcs.items ≡ numbered count fs)
 Follows before count fs (Err o) (Err p) = o ≡ p
 Follows before count fs (Ok l) (Err p) = ⊥
 Follows before count fs (Err o) (Ok protos) = ⊥

@@ -9,18 +9,20 @@ use thiserror::Error;
 /// Why the functions of some units have no graph of prototypes.
 #[derive(Clone, Copy, Debug, PartialEq, Eq, Error)]
 pub enum FuncFault {
-    /// This unit, counted from 0 among all units, of this file is refused by one of its functions, and none before it.
+    /// This unit, counted from 0 among all units, of this file is refused by one of its functions,
+    /// and none before it.
     #[error("unit {unit} of file {file}: {fault}")]
     Unit {
         file: u32,
         unit: u32,
         fault: TypeFault,
     },
-    /// With a prototype and a FUNC for each function entry there would be so many nodes, which are more than the limit.
+    /// With a prototype and a FUNC for each function entry there would be so many nodes, which are
+    /// more than the limit.
     #[error("{0} nodes")]
     NodesTooMany(u64),
-    /// The entry at `from` of this file refers to the offset `to`, where no type of the file begins. `tag` is the
-    /// tag of the entry that begins there, or 0.
+    /// The entry at `from` of this file refers to the offset `to`, where no type of the file
+    /// begins. `tag` is the tag of the entry that begins there, or 0.
     #[error("the entry at {from} of file {file} refers to {to}, which has the tag {tag}")]
     TypeRefOut {
         file: u32,

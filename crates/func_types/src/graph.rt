@@ -13,7 +13,8 @@ use c_model::{Classes, Graph, TypeGraph};
 use packed_graph::PackedGraph;
 use std::alloc::{AllocError, Global};
 
-/// The graph of the chosen functions, packed, as `chosen` says it. The graph of the prototypes may be kept in any way.
+/// The graph of the chosen functions, packed, as `chosen` says it. The graph of the prototypes may
+/// be kept in any way.
 pub fn chosen_packed<'a, G: TypeGraph<'a>>(
     alloc: Global,
     base: u32,
@@ -37,7 +38,8 @@ pub fn chosen_packed<'a, G: TypeGraph<'a>>(
     Ok(graph)
 }
 
-/// The same with the places of the chosen functions among the entries, in the order of their prototypes.
+/// The same with the places of the chosen functions among the entries, in the order of their
+/// prototypes.
 pub fn chosen_with_places<'a, G: TypeGraph<'a>>(
     alloc: Global,
     base: u32,
@@ -55,7 +57,8 @@ pub fn chosen_with_places<'a, G: TypeGraph<'a>>(
         (G.shape protos.now.graph).nodes protos.now.funcs) }
     ensures formed { IfOk result (λ r. All IsWellFormed (G.shape protos.now.graph).nodes
         → All (λ f. HasNoNul f.name) protos.now.funcs → All IsWellFormed r.0.nodes) }
-    ensures fitting { IfOk result (λ r. HasFittingForwards (G.shape protos.now.graph) → HasFittingForwards r.0) }
+    ensures fitting { IfOk result
+        (λ r. HasFittingForwards (G.shape protos.now.graph) → HasFittingForwards r.0) }
     ensures places { IfOk result (λ r. filter_map (slice_get protos.now.funcs) r.1.items
         ≡ chosen_funcs (class_behind base classes.now) protos.now.funcs) }
     ensures are_places { IfOk result (λ r. All (λ i. i < length protos.now.funcs) r.1.items) }
@@ -70,12 +73,14 @@ pub fn chosen_with_places<'a, G: TypeGraph<'a>>(
     Ok((PackedGraph::new(0, nodes), places))
 }
 
-/// The graph of the chosen functions. It has no base nodes and three parts, one after the other: the first `plain` nodes
-/// of the graph of the prototypes; the first prototype of each chosen name, in the order of first entries; and in the same
-/// order a FUNC for each chosen name, with that prototype as its target.
+/// The graph of the chosen functions. It has no base nodes and three parts, one after the other:
+/// the first `plain` nodes of the graph of the prototypes; the first prototype of each chosen name,
+/// in the order of first entries; and in the same order a FUNC for each chosen name, with that
+/// prototype as its target.
 ///
-/// A name is chosen if its function entries all have one linkage, and prototypes of one class. `classes` has the numbers
-/// of `base` nodes of a base, and then one for each node of the graph of the prototypes.
+/// A name is chosen if its function entries all have one linkage, and prototypes of one class.
+/// `classes` has the numbers of `base` nodes of a base, and then one for each node of the graph of
+/// the prototypes.
 pub fn chosen<'a>(
     alloc: Global,
     base: u32,

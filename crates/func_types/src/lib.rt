@@ -1,5 +1,5 @@
-//! The functions of a program as BTF has them: their prototypes, which of them are chosen, and the graph with a FUNC for
-//! each.
+//! The functions of a program as BTF has them: their prototypes, which of them are chosen, and the
+//! graph with a FUNC for each.
 #![tactic(auto)]
 
 pub mod fault;

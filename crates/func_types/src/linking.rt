@@ -22,8 +22,8 @@ pub struct Linked<'a> {
     pub funcs: Vec<Func<'a>>,
 }
 
-/// Puts the prototypes of function entries behind `count` types, whose places these are; or the first reference of a
-/// prototype that names none of the types.
+/// Puts the prototypes of function entries behind `count` types, whose places these are; or the
+/// first reference of a prototype that names none of the types.
 pub fn link_prototypes<'a>(
     alloc: Global,
     places: &Places,
@@ -34,7 +34,9 @@ pub fn link_prototypes<'a>(
     requires few { count + length funcs.now < 2 ^ 32 }
     requires places { (all : List Source) × Numbers places.now all × (length all ≡ count) }
     requires within { RefersWithin count nodes }
-    ensures linked { IfOk result (λ r. (all : List Source) → Numbers places.now all → length all ≡ count → Follows nodes.entry count funcs.now r (nodes_from all [] (prototypes_in count funcs.now))) }
+    ensures linked { IfOk result (λ r. (all : List Source) → Numbers places.now all
+        → length all ≡ count → Follows nodes.entry count funcs.now r
+        (nodes_from all [] (prototypes_in count funcs.now))) }
     ensures within { IfOk result (λ r. IfOk r (λ l. RefersWithin count l.nodes)) }
 {
     let mut nodes = nodes;

@@ -1,5 +1,6 @@
 //! The nodes of the graph of the chosen functions.
-ghost use Rattle.std.specs.Prelude.{◌≡◌, ◌<◌, ◌≤◌, ◌+◌, ◌-◌, ◌^◌, ◌++◌, ◌∷◌, [], ℕ, All, length, slice_get, take, Some, IfOk, OnOk};
+ghost use Rattle.std.specs.Prelude.{◌≡◌, ◌<◌, ◌≤◌, ◌+◌, ◌-◌, ◌^◌, ◌++◌, ◌∷◌, [], ℕ, All, length};
+ghost use Rattle.std.specs.Prelude.{slice_get, take, Some, IfOk, OnOk};
 ghost use Rattle.std.specs.List.{filter_map};
 ghost use Rattle.c_model.specs.Graph.{RefersWithin};
 ghost use Rattle.c_model.specs.Numberings.{IsNumbering};
@@ -48,7 +49,8 @@ fn push_node<'a, G: TypeGraph<'a>>(
 ) -> Result<(), AllocError>
     requires node { x < length (G.shape graph.now).nodes }
     requires within { RefersWithin (2 ^ 32 - 1) (G.shape graph.now).nodes }
-    ensures { OnOk result ((t : CType) → slice_get (G.shape graph.now).nodes x ≡ Some t → nodes.new ≡ nodes.old ++ t ∷ []) }
+    ensures { OnOk result ((t : CType) → slice_get (G.shape graph.now).nodes x ≡ Some t
+        → nodes.new ≡ nodes.old ++ t ∷ []) }
 {
     let label = copy_of_label(alloc, graph.label(x))?;
     let targets = targets_of(alloc, graph, x)?;
@@ -67,13 +69,15 @@ fn push_alike<'a, G: TypeGraph<'a>>(
     requires first { first < length nodes.old }
     requires label { label_at nodes.old first ≡ label_at (G.shape graph.now).nodes x }
     requires within { RefersWithin (2 ^ 32 - 1) (G.shape graph.now).nodes }
-    ensures { OnOk result ((t : CType) → slice_get (G.shape graph.now).nodes x ≡ Some t → nodes.new ≡ nodes.old ++ t ∷ []) }
+    ensures { OnOk result ((t : CType) → slice_get (G.shape graph.now).nodes x ≡ Some t
+        → nodes.new ≡ nodes.old ++ t ∷ []) }
 {
     let targets = targets_of(alloc, graph, x)?;
     nodes.push_alike(first, &targets)
 }
 
-/// The first nodes of a graph that numbers its labels: one that an earlier node has is not looked for again.
+/// The first nodes of a graph that numbers its labels: one that an earlier node has is not looked
+/// for again.
 fn first_by_numbers<'a, G: TypeGraph<'a>>(
     alloc: Global,
     graph: &G,
@@ -82,7 +86,8 @@ fn first_by_numbers<'a, G: TypeGraph<'a>>(
 ) -> Result<PackedNodes<'a>, AllocError>
     requires count { count ≤ length (G.shape graph.now).nodes }
     requires within { RefersWithin (2 ^ 32 - 1) (G.shape graph.now).nodes }
-    requires numbers { IsNumbering (label_at (G.shape graph.now).nodes) (length (G.shape graph.now).nodes) numbers.now }
+    requires numbers { IsNumbering (label_at (G.shape graph.now).nodes)
+        (length (G.shape graph.now).nodes) numbers.now }
     requires below { All (λ k. k < length (G.shape graph.now).nodes) numbers.now }
     ensures { IfOk result (λ nodes. nodes ≡ take count (G.shape graph.now).nodes) }
 {
@@ -133,7 +138,8 @@ pub fn push_prototypes<'a, G: TypeGraph<'a>>(
     requires protos { All (λ f. f.proto < length (G.shape graph.now).nodes) funcs.now }
     requires places { All (λ i. i < length funcs.now) places.now }
     requires within { RefersWithin (2 ^ 32 - 1) (G.shape graph.now).nodes }
-    ensures { OnOk result (nodes.new ≡ nodes.old ++ prototypes_of (G.shape graph.now).nodes (filter_map (slice_get funcs.now) places.now)) }
+    ensures { OnOk result (nodes.new ≡ nodes.old
+        ++ prototypes_of (G.shape graph.now).nodes (filter_map (slice_get funcs.now) places.now)) }
 {
     for place in places {
         let func = func_at(funcs, *place as usize);
@@ -160,7 +166,8 @@ fn func_label<'a>(alloc: Global, func: &Func<'a>) -> Label<'a>
     }
 }
 
-/// Appends a FUNC for each of the functions in these places. Their prototypes are the nodes from `first` on.
+/// Appends a FUNC for each of the functions in these places. Their prototypes are the nodes from
+/// `first` on.
 pub fn push_funcs<'a>(
     alloc: Global,
     nodes: &mut PackedNodes<'a>,
@@ -170,7 +177,8 @@ pub fn push_funcs<'a>(
 ) -> Result<(), AllocError>
     requires places { All (λ i. i < length funcs.now) places.now }
     requires few { first + length places.now < 2 ^ 32 }
-    ensures { OnOk result (nodes.new ≡ nodes.old ++ funcs_from first (filter_map (slice_get funcs.now) places.now)) }
+    ensures { OnOk result
+        (nodes.new ≡ nodes.old ++ funcs_from first (filter_map (slice_get funcs.now) places.now)) }
 {
     let mut proto = first;
     for place in places {

@@ -1,5 +1,6 @@
 //! The places of the first entries of names, and of those whose names are chosen.
-ghost use Rattle.std.specs.Prelude.{◌≡◌, ◌<◌, ◌≤◌, ◌+◌, ◌^◌, All, length, slice_get, Some, IfOk, OnOk};
+ghost use Rattle.std.specs.Prelude.{◌≡◌, ◌<◌, ◌≤◌, ◌+◌, ◌^◌, All, length, slice_get, Some, IfOk};
+ghost use Rattle.std.specs.Prelude.{OnOk};
 ghost use Rattle.std.specs.List.{filter_map};
 ghost use Rattle.func_types.specs.Chosen.{class_behind, is_alike, chosen_funcs};
 ghost use Rattle.func_types.specs.Places.{Notes, AreFirsts, AreAgreed};
@@ -62,7 +63,8 @@ fn agreements(
     requires few { length classes.now < 2 ^ 32 }
     requires protos { All (λ f. base + f.proto < length classes.now) funcs.now }
     requires firsts { AreFirsts funcs.now (length funcs.now) firsts.now }
-    ensures { IfOk result (λ v. AreAgreed (class_behind base classes.now) funcs.now firsts.now (length funcs.now) v.items) }
+    ensures { IfOk result (λ v.
+        AreAgreed (class_behind base classes.now) funcs.now firsts.now (length funcs.now) v.items) }
 {
     let mut agreed = vec![in alloc; true; funcs.len()]?;
     for i in 0..funcs.len() {
@@ -84,7 +86,8 @@ pub fn chosen_places(
     requires entries { length funcs.now < 2 ^ 32 }
     requires few { length classes.now < 2 ^ 32 }
     requires protos { All (λ f. base + f.proto < length classes.now) funcs.now }
-    ensures places { IfOk result (λ v. filter_map (slice_get funcs.now) v.items ≡ chosen_funcs (class_behind base classes.now) funcs.now) }
+    ensures places { IfOk result (λ v. filter_map (slice_get funcs.now) v.items
+        ≡ chosen_funcs (class_behind base classes.now) funcs.now) }
     ensures within { IfOk result (λ v. All (λ i. i < length funcs.now) v.items) }
     ensures few { IfOk result (λ v. length v.items ≤ length funcs.now) }
 {

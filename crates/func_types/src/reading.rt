@@ -14,8 +14,8 @@ use func_entries::{FuncEntries, UnitFuncs, functions_of_unit_with};
 use std::alloc::{AllocError, Global};
 use unit_graph::{LastTable, Row, UnitAt, table_for};
 
-/// What is read of some units: their function entries, where their types stand, and how many nodes these are. Nodes are
-/// numbered from the first that is held.
+/// What is read of some units: their function entries, where their types stand, and how many nodes
+/// these are. Nodes are numbered from the first that is held.
 #[derive(Drop)]
 pub struct Found<'a> {
     pub funcs: Vec<FileFunc<'a>>,
@@ -59,7 +59,8 @@ pub(crate) fn added(count: u32, more: u32) -> Result<u32, AllocError>
     }
 }
 
-/// Appends the places of a file's nodes, which are numbered from `first` on, and gives the next number.
+/// Appends the places of a file's nodes, which are numbered from `first` on, and gives the next
+/// number.
 fn push_rows(rows: &mut Vec<Row>, file: u32, first: u32, places: &[u64]) -> Result<u32, AllocError>
     ensures rows { OnOk result (rows.new.items ≡ rows.old.items ++ rows_of first file places.now) }
     ensures next { IfOk result (λ n. n ≡ first + length places.now) }
@@ -93,17 +94,20 @@ fn push_funcs<'a>(
 
 /// What is read, with one unit more.
 fn push_unit<'a>(found: &mut Found<'a>, file: u32, unit: UnitFuncs<'a>) -> Result<(), AllocError>
-    ensures funcs { OnOk result (found.new.funcs.items ≡ found.old.funcs.items ++ of_file file unit.entry.funcs) }
-    ensures rows { OnOk result (found.new.rows.items ≡ found.old.rows.items ++ rows_of found.old.count file unit.entry.places) }
-    ensures count { OnOk result (found.new.count ≡ found.old.count + length unit.entry.places + index_count unit.entry.has_array) }
+    ensures funcs { OnOk result
+        (found.new.funcs.items ≡ found.old.funcs.items ++ of_file file unit.entry.funcs) }
+    ensures rows { OnOk result (found.new.rows.items
+        ≡ found.old.rows.items ++ rows_of found.old.count file unit.entry.places) }
+    ensures count { OnOk result (found.new.count
+        ≡ found.old.count + length unit.entry.places + index_count unit.entry.has_array) }
 {
     let next = push_rows(&mut found.rows, file, found.count, unit.places.items())?;
     found.count = added(next, u32::from(unit.has_array))?;
     push_funcs(&mut found.funcs, file, unit.funcs)
 }
 
-/// What a worker reads: units one after the other, the first of which has the number `from` in the list of all. Or the
-/// fault of the first that is refused.
+/// What a worker reads: units one after the other, the first of which has the number `from` in the
+/// list of all. Or the fault of the first that is refused.
 pub fn read_piece<'a>(
     alloc: Global,
     from: u32,

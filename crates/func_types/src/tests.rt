@@ -1,4 +1,5 @@
-//! Which names of a list of function entries are chosen. Each prototype is told from the others by its size.
+//! Which names of a list of function entries are chosen. Each prototype is told from the others by
+//! its size.
 ghost use Rattle.std.specs.Prelude.{◌≡◌, ◌<◌, ◌≤◌, ◌+◌, All, length, IfOk, IsTrue};
 ghost use Rattle.c_model.specs.Graph.{RefersWithin};
 
@@ -113,8 +114,8 @@ fn has_funcs(nodes: &[CType<'_>], rows: &[Row]) -> bool
     true
 }
 
-/// Whether exactly the functions `want` are chosen. The classes are those of the nodes of a base, of `int`, and of
-/// each prototype.
+/// Whether exactly the functions `want` are chosen. The classes are those of the nodes of a base,
+/// of `int`, and of each prototype.
 fn chooses(
     alloc: Global,
     base: u32,

@@ -24,8 +24,8 @@ use unit_graph::{Places, UnitAt, find_tag};
 /// A unit of a file whose functions are read.
 pub type FuncUnit<'a> = UnitAt<'a>;
 
-/// How many nodes there are with a prototype and a FUNC for each function entry. A number that does not fit is want of
-/// memory.
+/// How many nodes there are with a prototype and a FUNC for each function entry. A number that does
+/// not fit is want of memory.
 fn count_nodes(plain: u32, funcs: usize) -> Result<u64, AllocError>
     ensures { IfOk result (λ n. n ≡ plain + 2 * funcs) }
 {
@@ -38,7 +38,8 @@ fn count_nodes(plain: u32, funcs: usize) -> Result<u64, AllocError>
     }
 }
 
-/// The graph of the prototypes of function entries that are read, packed. The types of the graph are not copied.
+/// The graph of the prototypes of function entries that are read, packed. The types of the graph
+/// are not copied.
 fn link_found<'a>(
     alloc: Global,
     most: u32,
@@ -50,7 +51,8 @@ fn link_found<'a>(
     requires readable { All IsReadable units.now }
     requires types { IsGraphOf units.now graph.nodes }
     requires funcs { functions_from 0 [] units.now ≡ Ok found.funcs.items }
-    requires rows { (all : List Source) → gathered 0 [] units.now ≡ Ok all → found.rows.items ≡ rows_from 0 all }
+    requires rows { (all : List Source) → gathered 0 [] units.now ≡ Ok all
+        → found.rows.items ≡ rows_from 0 all }
     ensures protos { Gives (λ p. p) result (prototypes_of_units most units.now graph.entry.nodes) }
     // What `chosen` asks of it.
     ensures alone { IfOk result (λ p. p.graph.base ≡ 0) }
@@ -85,8 +87,8 @@ fn link_found<'a>(
     }
 }
 
-/// The graph of the prototypes of some units' functions, packed, as `prototypes` gives it, read by at most so many
-/// workers. The types of the graph are not copied.
+/// The graph of the prototypes of some units' functions, packed, as `prototypes` gives it, read by
+/// at most so many workers. The types of the graph are not copied.
 pub fn prototypes_packed<'a, R: Threads + Sync>(
     rt: &R,
     alloc: Global,
@@ -116,16 +118,18 @@ pub fn prototypes_packed<'a, R: Threads + Sync>(
     link_found(alloc, most, graph, units, found)
 }
 
-/// The graph of the types of some units, and behind it the prototype of each function entry of these, in the order of the
-/// units and then of the entries. The graph that is given is that of the units' types. Units of one number are of one file.
+/// The graph of the types of some units, and behind it the prototype of each function entry of
+/// these, in the order of the units and then of the entries. The graph that is given is that of the
+/// units' types. Units of one number are of one file.
 ///
-/// A prototype refers to the types of its file, in its unit or not. Each node is well formed, none of the prototypes
-/// declares a tag, and no name has a NUL.
+/// A prototype refers to the types of its file, in its unit or not. Each node is well formed, none
+/// of the prototypes declares a tag, and no name has a NUL.
 ///
-/// The first of these refuses: `Unit`, the first unit that one of its functions refuses; `NodesTooMany` where the types,
-/// and two nodes for each function entry, are more than `most`; `TypeRefOut`, the first reference, in the order of the
-/// prototypes and then of their targets, that names no type of its file. `Memory` comes only where memory can't be
-/// found. One worker reads.
+/// The first of these refuses: `Unit`, the first unit that one of its functions refuses;
+/// `NodesTooMany` where the types, and two nodes for each function entry, are more than `most`;
+/// `TypeRefOut`, the first reference, in the order of the prototypes and then of their targets,
+/// that names no type of its file. `Memory` comes only where memory can't be found. One worker
+/// reads.
 pub fn prototypes<'a>(
     alloc: Global,
     most: u32,

@@ -1,8 +1,9 @@
 //! Reading the function entries of units in pieces, each by a worker.
 //!
-//! Workers share nothing: each answers what it holds of its units, or the fault of the first of them that is refused,
-//! and what they answer is put together in the order of the pieces.
-ghost use Rattle.std.specs.Prelude.{◌≡◌, ◌<◌, ◌≤◌, ◌+◌, ◌++◌, ◌^◌, [], ℕ, All, List, Ok, length, IfOk, IfErr, OnOk};
+//! Workers share nothing: each answers what it holds of its units, or the fault of the first of
+//! them that is refused, and what they answer is put together in the order of the pieces.
+ghost use Rattle.std.specs.Prelude.{◌≡◌, ◌<◌, ◌≤◌, ◌+◌, ◌++◌, ◌^◌, [], ℕ, All, List, Ok, length};
+ghost use Rattle.std.specs.Prelude.{IfOk, IfErr, OnOk};
 ghost use Rattle.std.specs.Thread.{IsSync};
 ghost use Rattle.unit_graph.specs.Numbers.{rows_from};
 ghost use Rattle.unit_graph.specs.Sources.{FileUnit, IsReadable, Source, gathered};
@@ -52,12 +53,15 @@ fn follow<'a>(first: Found<'a>, second: Found<'a>) -> Result<Found<'a>, AllocErr
     })
 }
 
-/// What two workers answer: the second's behind the first's, or the fault of the first of them that has one.
+/// What two workers answer: the second's behind the first's, or the fault of the first of them that
+/// has one.
 fn put_together<'a>(
     first: Result<Found<'a>, FuncFault>,
     second: Result<Found<'a>, FuncFault>,
 ) -> Result<Found<'a>, FuncFault>
-    ensures { (from middle : ℕ) (us vs : List FileUnit) → middle ≡ from + length us → GivesFound from us first.entry → GivesFound middle vs second.entry → GivesFound from (us ++ vs) result }
+    ensures { (from middle : ℕ) (us vs : List FileUnit) → middle ≡ from + length us
+        → GivesFound from us first.entry → GivesFound middle vs second.entry
+        → GivesFound from (us ++ vs) result }
 {
     let first = first?;
     let second = second?;
@@ -91,26 +95,29 @@ fn read_pieces<'a, R: Threads + Sync>(
     let (first, second) = join_mut(
         rt,
         &mut || -> Result<Found<'_>, FuncFault>
-            requires { IsSync R.row × (1 ≤ half) × (from + length left.now < 2 ^ 32) × All IsReadable left.now × AreOfFiles left.now × All HasTypes left.now }
+            requires { IsSync R.row × (1 ≤ half) × (from + length left.now < 2 ^ 32)
+                × All IsReadable left.now × AreOfFiles left.now × All HasTypes left.now }
             ensures { GivesFound from left.entry.now result }
         { read_pieces(rt, alloc, half, from, left) },
         &mut || -> Result<Found<'_>, FuncFault>
-            requires { IsSync R.row × (1 ≤ rest) × (middle + length right.now < 2 ^ 32) × All IsReadable right.now × AreOfFiles right.now × All HasTypes right.now }
+            requires { IsSync R.row × (1 ≤ rest) × (middle + length right.now < 2 ^ 32)
+                × All IsReadable right.now × AreOfFiles right.now × All HasTypes right.now }
             ensures { GivesFound middle right.entry.now result }
         { read_pieces(rt, alloc, rest, middle, right) },
     );
     put_together(first, second)
 }
 
-/// The function entries of units and the places of their types, read by one worker; or the fault of the first unit that is
-/// refused.
+/// The function entries of units and the places of their types, read by one worker; or the fault of
+/// the first unit that is refused.
 pub fn read_alone<'a>(alloc: Global, units: &[UnitAt<'a>]) -> Result<Found<'a>, FuncFault>
     requires few { length units.now < 2 ^ 32 }
     requires readable { All IsReadable units.now }
     requires files { AreOfFiles units.now }
     requires types { (all : List Source) × (gathered 0 [] units.now ≡ Ok all) }
     ensures funcs { IfOk result (λ found. functions_from 0 [] units.now ≡ Ok found.funcs.items) }
-    ensures rows { IfOk result (λ found. (all : List Source) → gathered 0 [] units.now ≡ Ok all → found.rows.items ≡ rows_from 0 all) }
+    ensures rows { IfOk result (λ found. (all : List Source) → gathered 0 [] units.now ≡ Ok all
+        → found.rows.items ≡ rows_from 0 all) }
     ensures refused { IfErr result (λ e. Fails e (unit_faults (functions_from 0 [] units.now))) }
 {
     read_piece(alloc, 0, units)
@@ -129,7 +136,8 @@ pub fn read_functions<'a, R: Threads + Sync>(
     requires files { AreOfFiles units.now }
     requires types { (all : List Source) × (gathered 0 [] units.now ≡ Ok all) }
     ensures funcs { IfOk result (λ found. functions_from 0 [] units.now ≡ Ok found.funcs.items) }
-    ensures rows { IfOk result (λ found. (all : List Source) → gathered 0 [] units.now ≡ Ok all → found.rows.items ≡ rows_from 0 all) }
+    ensures rows { IfOk result (λ found. (all : List Source) → gathered 0 [] units.now ≡ Ok all
+        → found.rows.items ≡ rows_from 0 all) }
     ensures refused { IfErr result (λ e. Fails e (unit_faults (functions_from 0 [] units.now))) }
 {
     read_pieces(rt, alloc, jobs, 0, units)

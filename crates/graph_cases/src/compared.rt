@@ -73,7 +73,8 @@ impl Tally {
     }
 }
 
-/// The graph and its classes that the proved program finds, and whether the plain one finds the same relation.
+/// The graph and its classes that the proved program finds, and whether the plain one finds the
+/// same relation.
 pub fn decided<R: Threads + Sync>(
     rt: &R,
     alloc: Global,

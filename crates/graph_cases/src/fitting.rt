@@ -51,7 +51,8 @@ pub fn refer_below(limit: u32, nodes: &[CType<'_>]) -> bool
     true
 }
 
-/// The graph of these types, the first `base` of them those of a base. `None` where a reference leaves it.
+/// The graph of these types, the first `base` of them those of a base. `None` where a reference
+/// leaves it.
 pub fn graph_from<'a>(base: u32, nodes: Vec<CType<'a>>) -> Option<Graph<'a>>
     ensures { IfSome result (λ g. (g.base ≡ base) × (g.nodes ≡ nodes.entry.items)) }
 {
@@ -68,7 +69,8 @@ pub fn graph_from<'a>(base: u32, nodes: Vec<CType<'a>>) -> Option<Graph<'a>>
 /// Whether a declaration has no targets.
 fn is_leaf(graph: &Graph<'_>, x: u32) -> bool
     requires { x < length graph.now.nodes }
-    ensures { IsTrue result → ((tag : Tag) → declaration_at graph.now.nodes x ≡ Some tag → length (targets_at graph.now.nodes x) ≡ 0) }
+    ensures { IsTrue result → ((tag : Tag) → declaration_at graph.now.nodes x ≡ Some tag
+        → length (targets_at graph.now.nodes x) ≡ 0) }
 {
     let node = graph.node(x);
     declared_family(&node.label).is_none() || node.targets.items().is_empty()
@@ -78,7 +80,8 @@ fn is_leaf(graph: &Graph<'_>, x: u32) -> bool
 fn is_like(graph: &Graph<'_>, x: u32, y: u32) -> bool
     requires x { x < length graph.now.nodes }
     requires y { y < length graph.now.nodes }
-    ensures { IsTrue result → ((tag : Tag) → forward_at graph.now x ≡ Some tag → forward_at graph.now y ≡ Some tag → label_at graph.now.nodes x ≡ label_at graph.now.nodes y) }
+    ensures { IsTrue result → ((tag : Tag) → forward_at graph.now x ≡ Some tag → forward_at
+        graph.now y ≡ Some tag → label_at graph.now.nodes x ≡ label_at graph.now.nodes y) }
 {
     let (a, b) = (&graph.node(x).label, &graph.node(y).label);
     a.name.bytes() != b.name.bytes()
@@ -91,7 +94,9 @@ fn is_like(graph: &Graph<'_>, x: u32, y: u32) -> bool
 /// Whether all forwards of node `x`'s tag have its label, or it is no forward.
 fn are_like(graph: &Graph<'_>, x: u32) -> bool
     requires { x < length graph.now.nodes }
-    ensures { IsTrue result → ((y : ℕ) (tag : Tag) → y < length graph.now.nodes → forward_at graph.now x ≡ Some tag → forward_at graph.now y ≡ Some tag → label_at graph.now.nodes x ≡ label_at graph.now.nodes y) }
+    ensures { IsTrue result → ((y : ℕ) (tag : Tag) → y < length graph.now.nodes
+        → forward_at graph.now x ≡ Some tag → forward_at graph.now y ≡ Some tag
+        → label_at graph.now.nodes x ≡ label_at graph.now.nodes y) }
 {
     if !FwdIndex::is_forward(graph, x) {
         return true;
@@ -128,8 +133,9 @@ fn is_text(name: &Name<'_>) -> bool
     true
 }
 
-/// What the types of a kind have: limits of the size and of the extra number, whether kind_flag may be set, the number
-/// of types that it refers to besides those of its parts, and whether these refer to types, where it has parts.
+/// What the types of a kind have: limits of the size and of the extra number, whether kind_flag may
+/// be set, the number of types that it refers to besides those of its parts, and whether these
+/// refer to types, where it has parts.
 #[derive(Clone, Copy)]
 struct KindRow {
     size: u64,
@@ -141,7 +147,13 @@ struct KindRow {
 
 /// The row of a kind of the table of kinds that graphs here have.
 fn row_at(kind: u8) -> Option<KindRow>
-    ensures { IfSome result (λ r. row_of kind ≡ Some (record { size = r.size; extra = r.extra; flag = r.flag; targets = r.targets; parts = parts_by r.refers })) }
+    ensures { IfSome result (λ r. row_of kind ≡ Some (record {
+      size = r.size;
+      extra = r.extra;
+      flag = r.flag;
+      targets = r.targets;
+      parts = parts_by r.refers;
+    })) }
 {
     let none = KindRow {
         size: 1,

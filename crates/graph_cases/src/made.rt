@@ -1,5 +1,5 @@
-//! Made graphs: rows are drawn, and mostly repeated with their references moved, so that equal types and cycles
-//! occur. Definitions are now and then replaced by declarations.
+//! Made graphs: rows are drawn, and mostly repeated with their references moved, so that equal
+//! types and cycles occur. Definitions are now and then replaced by declarations.
 use crate::rows::{
     ENUM, ENUM64, FWD, Head, INT, PTR, Piece, Row, STRUCT, TYPEDEF, Table, UNION, bare, parted,
 };

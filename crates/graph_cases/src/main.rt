@@ -1,5 +1,5 @@
-//! Coarsest partitions compared with a plain program over pairs: of worked graphs, of made graphs, and of graphs at
-//! the limits of size.
+//! Coarsest partitions compared with a plain program over pairs: of worked graphs, of made graphs,
+//! and of graphs at the limits of size.
 #![tactic(auto)]
 
 mod compared;
@@ -52,7 +52,8 @@ fn main(rt: HostRuntime) -> ExitCode {
     }
 }
 
-/// Whether both programs find the classes that are written beside a graph, and the table is the one there.
+/// Whether both programs find the classes that are written beside a graph, and the table is the one
+/// there.
 fn worked_agrees<R: Threads + Sync>(
     rt: &R,
     alloc: Global,
@@ -66,7 +67,8 @@ fn worked_agrees<R: Threads + Sync>(
     Ok(same && are_wanted && is_table(alloc, &table, worked)?)
 }
 
-/// How many of these graphs have other classes or another table than are written beside them. Names them.
+/// How many of these graphs have other classes or another table than are written beside them. Names
+/// them.
 fn differing<R: Print + Threads + Sync>(
     rt: &R,
     alloc: Global,

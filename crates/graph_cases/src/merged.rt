@@ -1,5 +1,6 @@
 //! The partition that the proved program finds.
-ghost use Rattle.std.specs.Prelude.{◌≡◌, ◌<◌, ◌≤◌, ◌+◌, ◌*◌, ◌^◌, ◌++◌, ℕ, length, take, IfOk, OnOk};
+ghost use Rattle.std.specs.Prelude.{◌≡◌, ◌<◌, ◌≤◌, ◌+◌, ◌*◌, ◌^◌, ◌++◌, ℕ, length, take, IfOk};
+ghost use Rattle.std.specs.Prelude.{OnOk};
 ghost use Rattle.c_model.specs.Graph.{references};
 ghost use Rattle.c_model.specs.Partition.{IsCoarsest};
 ghost use Rattle.c_model.specs.Forwards.{IsIndexOf, HasFittingForwards};
@@ -68,10 +69,12 @@ fn joined<'a>(alone: Graph<'a>, own: Vec<CType<'a>>) -> Result<Graph<'a>, Fault>
 /// How many nodes a graph has at most whose classes are compared pair by pair.
 const COMPARED_AT_MOST: u32 = 4_096;
 
-/// How many nodes a graph has at most, of those with more, whose classes are found by several numbers of workers.
+/// How many nodes a graph has at most, of those with more, whose classes are found by several
+/// numbers of workers.
 const SHARED_AT_MOST: u32 = 100_000;
 
-/// Whether the classes of a large graph, packed, have the same numbers whatever number of workers finds them.
+/// Whether the classes of a large graph, packed, have the same numbers whatever number of workers
+/// finds them.
 fn workers_agree<R: Threads + Sync, L: Ledger>(
     rt: &R,
     alloc: Global,
@@ -89,8 +92,9 @@ fn workers_agree<R: Threads + Sync, L: Ledger>(
     Ok(alone.numbers() == wanted.numbers() && together.numbers() == wanted.numbers())
 }
 
-/// Whether classes by halves are the same over the graph packed, both split from labels on and behind a guess. Where
-/// a graph has fewer than 2^d nodes, each of the two takes at most 2 d steps for each reference.
+/// Whether classes by halves are the same over the graph packed, both split from labels on and
+/// behind a guess. Where a graph has fewer than 2^d nodes, each of the two takes at most 2 d steps
+/// for each reference.
 fn others_agree<R: Threads + Sync, L: Ledger>(
     rt: &R,
     alloc: Global,
@@ -101,7 +105,8 @@ fn others_agree<R: Threads + Sync, L: Ledger>(
 ) -> Result<bool, AllocError>
     requires index { IsIndexOf graph.now forwards.now }
     requires fitting { HasFittingForwards graph.now }
-    ensures cost { OnOk result ((d : ℕ) → length graph.now.nodes < 2 ^ d → steps.new ≤ steps.old + 2 * (2 * (references graph.now.nodes * d))) }
+    ensures cost { OnOk result ((d : ℕ) → length graph.now.nodes < 2 ^ d
+        → steps.new ≤ steps.old + 2 * (2 * (references graph.now.nodes * d))) }
 {
     if graph.len() > COMPARED_AT_MOST {
         return Ok(true);

@@ -66,7 +66,8 @@ fn head(
     }
 }
 
-/// A name whose second eight bytes are the multiplier of std's hash: the eight before them make no difference to it.
+/// A name whose second eight bytes are the multiplier of std's hash: the eight before them make no
+/// difference to it.
 const HIDDEN: &[u8] = b"the_name\x15\x7c\x4a\x7f\xb9\x79\x37\x9e_of_both";
 
 /// Another name of the same hash.
@@ -92,7 +93,8 @@ fn labels() -> [Head; 14] {
     ]
 }
 
-/// Whether labels that differ in one thing are told apart, and are known again: all are listed twice.
+/// Whether labels that differ in one thing are told apart, and are known again: all are listed
+/// twice.
 pub fn labels_are_told(alloc: Global) -> Result<bool, AllocError> {
     let labels = labels();
     let mut nodes = PackedNodes::new(alloc)?;
@@ -114,7 +116,8 @@ const TO_FIRST: &[Ref] = &[Ref::Node(0)];
 /// A reference to the last of two types.
 const TO_LAST: &[Ref] = &[Ref::Node(1)];
 
-/// Puts two types into an empty list, the first of which refers to the last and the last to the first.
+/// Puts two types into an empty list, the first of which refers to the last and the last to the
+/// first.
 fn push_pair(
     alloc: Global,
     nodes: &mut PackedNodes<'static>,
@@ -142,8 +145,8 @@ fn refer_to(nodes: &PackedNodes<'_>, wanted: &[u32]) -> bool {
     nodes.len() == wanted.len()
 }
 
-/// Whether lists that follow one another are one list, with the references moved: lists of two types with empty ones
-/// before, between and behind them.
+/// Whether lists that follow one another are one list, with the references moved: lists of two
+/// types with empty ones before, between and behind them.
 pub fn lists_follow(alloc: Global) -> Result<bool, AllocError> {
     let none = PackedNodes::new(alloc)?;
     let mut first = PackedNodes::new(alloc)?;

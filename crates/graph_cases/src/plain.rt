@@ -1,5 +1,6 @@
-//! The coarsest agreeing partition of a small graph, straight from its definition: all pairs are related at first,
-//! and a pair that has no licence is taken away, until none is. It works on the rows of a table alone.
+//! The coarsest agreeing partition of a small graph, straight from its definition: all pairs are
+//! related at first, and a pair that has no licence is taken away, until none is. It works on the
+//! rows of a table alone.
 use crate::rows::{ENUM, ENUM64, FWD, Head, Row, STRUCT, Table, UNION};
 use c_model::Ref;
 use std::alloc::{AllocError, Global};

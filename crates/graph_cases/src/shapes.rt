@@ -1,5 +1,5 @@
-//! Graphs in shapes that are hard to split: rings, chains and trees, references of one node at many positions, and
-//! declarations whose definitions part late.
+//! Graphs in shapes that are hard to split: rings, chains and trees, references of one node at many
+//! positions, and declarations whose definitions part late.
 use crate::rows::{FWD, PTR, Piece, Row, STRUCT, Table, bare, parted};
 use c_model::Ref;
 use std::alloc::{AllocError, Global};
@@ -7,15 +7,15 @@ use std::alloc::{AllocError, Global};
 /// A shape of graphs.
 #[derive(Clone, Copy)]
 pub enum Shape {
-    /// For each word a ring of structures, one for each letter, which gives its size. Each refers to the next, the last
-    /// to the first.
+    /// For each word a ring of structures, one for each letter, which gives its size. Each refers
+    /// to the next, the last to the first.
     Rings(&'static [&'static str]),
     /// The same without the last reference.
     Chains(&'static [&'static str]),
     /// Structures of two members: their sizes, and the numbers of what they refer to.
     Pairs(&'static [(u32, [u32; 2])]),
-    /// Chains, and for each tag a declaration, a pointer to it, and for each chain a definition that refers to its first
-    /// structure.
+    /// Chains, and for each tag a declaration, a pointer to it, and for each chain a definition
+    /// that refers to its first structure.
     Tags {
         tags: &'static [&'static str],
         ends: &'static [&'static str],
@@ -132,7 +132,8 @@ const ODD_TREE: [(u32, [u32; 2]); 7] = [
     (2, [NONE, NONE]),
 ];
 
-/// Five nodes that are one by all that they reach, one with a void member, one that reaches another size, and that.
+/// Five nodes that are one by all that they reach, one with a void member, one that reaches another
+/// size, and that.
 const SELVES: [(u32, [u32; 2]); 8] = [
     (8, [0, 0]),
     (8, [1, 1]),
@@ -144,7 +145,8 @@ const SELVES: [(u32, [u32; 2]); 8] = [
     (4, [NONE, NONE]),
 ];
 
-/// Two chains of three that differ at the end, and all pairs of their first nodes, one of them twice.
+/// Two chains of three that differ at the end, and all pairs of their first nodes, one of them
+/// twice.
 const TWICE: [(u32, [u32; 2]); 11] = [
     (8, [1, NONE]),
     (8, [2, NONE]),
@@ -189,7 +191,8 @@ fn reference(number: u32) -> Ref {
     }
 }
 
-/// Appends a structure for each letter of a word. Each refers to the next, and the last one to `end`.
+/// Appends a structure for each letter of a word. Each refers to the next, and the last one to
+/// `end`.
 fn push_word(alloc: Global, rows: &mut Vec<Row>, word: &str, end: u32) -> Result<(), AllocError> {
     let mut left = word.len();
     for letter in word.bytes() {

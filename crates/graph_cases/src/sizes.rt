@@ -53,8 +53,9 @@ pub fn ring_has_two_classes<R: Threads + Sync>(
 /// How many of the structures below are declared.
 const DECLARED: u32 = 20;
 
-/// Four rows: a structure that refers to a pointer; the pointer, to a declaration of the structure; that, or behind the
-/// first few a pointer to the structure, as the one before; and an INT of a size of its own. They begin at number `x`.
+/// Four rows: a structure that refers to a pointer; the pointer, to a declaration of the structure;
+/// that, or behind the first few a pointer to the structure, as the one before; and an INT of a
+/// size of its own. They begin at number `x`.
 fn push_four(alloc: Global, rows: &mut Vec<Row>, x: u32) -> Result<(), AllocError> {
     let declared = x < 4 * DECLARED;
     let to = if declared { x.saturating_add(2) } else { x };

@@ -59,8 +59,8 @@ pub fn is_table(alloc: Global, table: &TableOut<'_>, worked: &Worked) -> Result<
     )
 }
 
-/// Whether the graph of a declaring base and a defining file, of at most so many nodes, is what it should be; or why there is
-/// none.
+/// Whether the graph of a declaring base and a defining file, of at most so many nodes, is what it
+/// should be; or why there is none.
 pub fn joined(alloc: Global, most: u32) -> Result<Result<bool, TableFault>, Fault> {
     let types = listed(alloc, DECLARED)?;
     if types.len() > 1000 || !refer_below(types.len() as u32, &types) {

@@ -1,4 +1,5 @@
-//! Graphs whose coarsest partition is known from C's rules for compatible types, and whose table follows from it, by hand.
+//! Graphs whose coarsest partition is known from C's rules for compatible types, and whose table
+//! follows from it, by hand.
 use crate::rows::{ARRAY, ENUM, FWD, Head, INT, PTR, Piece, Row, STRUCT, TYPEDEF, Table, UNION};
 use crate::worked::Type::{
     AOfB, BOfA, BOfTwo, BOfX, EOfA, Fields, FooOf4, FooOf8, FooOfX, Grid, Index, ListHead,
@@ -484,7 +485,8 @@ const FORWARD: &[Worked] = &[
         own: &[(SomeFoo, &[])],
         names: b"\0foo\0",
     },
-    // Two structures that point to each other: each in a unit that declares the other, and both in a third.
+    // Two structures that point to each other: each in a unit that declares the other, and both in
+    // a third.
     Worked {
         name: "through declarations",
         base: 0,
@@ -538,7 +540,8 @@ const FORWARD: &[Worked] = &[
         ],
         names: b"\0int\0B\0x\0A\0b\0y\0",
     },
-    // A declared enumeration is with its definition. A declared structure is not with a union of its name.
+    // A declared enumeration is with its definition. A declared structure is not with a union of
+    // its name.
     Worked {
         name: "sorts of tags",
         base: 0,
@@ -589,8 +592,8 @@ const BASE: &[Worked] = &[
         own: &[],
         names: b"",
     },
-    // A base with two equal structures of a name leaves the file's declaration open, so that it is with them; the base's own
-    // declaration is apart.
+    // A base with two equal structures of a name leaves the file's declaration open, so that it is
+    // with them; the base's own declaration is apart.
     Worked {
         name: "open beside a base",
         base: 3,
@@ -607,7 +610,8 @@ const BASE: &[Worked] = &[
         own: &[(Pointer, &[0])],
         names: b"",
     },
-    // A base with a structure of two pointers to itself, and two units with the same, one with a typedef of it.
+    // A base with a structure of two pointers to itself, and two units with the same, one with a
+    // typedef of it.
     Worked {
         name: "list heads over a base",
         base: 2,

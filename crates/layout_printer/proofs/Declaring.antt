@@ -1,5 +1,6 @@
 -- Declarations, a type at a time.
-use Rattle.std.proofs.Common.{◌≡◌, ℕ, suc, ◌+◌, ◌-◌, ◌<◌, ◌≤◌, true, false, cond, List, [], ◌∷◌, ◌++◌, Option, codes, refl, sym, ap, ◌∙◌, arith}
+use Rattle.std.proofs.Common.{◌≡◌, ℕ, suc, ◌+◌, ◌-◌, ◌<◌, ◌≤◌, true, false, cond, List, [], ◌∷◌}
+use Rattle.std.proofs.Common.{◌++◌, Option, codes, refl, sym, ap, ◌∙◌, arith}
 use Rattle.std.proofs.lemmas.Bool.{cond-true, cond-false}
 use Rattle.std.proofs.lemmas.List.{append-nil, append_assoc}
 use Rattle.std.proofs.lemmas.List.Concat.{flat_map-append}
@@ -7,10 +8,13 @@ use Rattle.std.specs.List.{flat_map, range_with_len}
 use Rattle.c_model.specs.declared.graph.CType.{CType}
 use Rattle.c_model.specs.declared.graph.Ref.{Ref}
 use Rattle.layout_printer.specs.Sizes.{type_of}
-use Rattle.layout_printer.specs.Declarations.{Written, after, around, attribute, decl_at, decl_in, is_passed, kind_of, leads, leads_to_pointer, member_type, past, spaced, tagged}
+use Rattle.layout_printer.specs.Declarations.{Written, after, around, attribute, decl_at, decl_in}
+use Rattle.layout_printer.specs.Declarations.{is_passed, kind_of, leads, leads_to_pointer}
+use Rattle.layout_printer.specs.Declarations.{member_type, past, spaced, tagged}
 use Rattle.layout_printer.proofs.Holes.{range_push}
 
-past_suc : (n : ℕ) (types : List CType) (r : Ref) → past (suc n) types r ≡ cond (is_passed (kind_of types r)) (past n types (member_type types r 0)) r
+past_suc : (n : ℕ) (types : List CType) (r : Ref) → past (suc n) types r
+    ≡ cond (is_passed (kind_of types r)) (past n types (member_type types r 0)) r
 unfolding past
 past_suc n types r = refl
 
@@ -18,66 +22,90 @@ one_left : (n k : ℕ) → k < n → n - k ≡ suc (n - (k + 1))
 one_left n k h = omega arith
 
 -- at a type that is not passed
-pub past_stop : (n k : ℕ) (types : List CType) (r : Ref) (whole : Ref) → k < n → is_passed (kind_of types r) ≡ false → past (n - k) types r ≡ whole → r ≡ whole
+pub past_stop : (n k : ℕ) (types : List CType) (r : Ref) (whole : Ref) → k < n
+    → is_passed (kind_of types r) ≡ false → past (n - k) types r ≡ whole → r ≡ whole
 past_stop n k types r whole h e inv =
-    sym (ap (λ i. past i types r) (one_left n k h) ∙ past_suc (n - (k + 1)) types r ∙ cond-false _ _ _ e) ∙ inv
+    sym (ap (λ i. past i types r) (one_left n k h) ∙ past_suc (n - (k + 1)) types r
+    ∙ cond-false _ _ _ e) ∙ inv
 
 -- past a type
-pub past_on : (n k : ℕ) (types : List CType) (r next : Ref) (whole : Ref) → k < n → is_passed (kind_of types r) ≡ true → next ≡ member_type types r 0 → past (n - k) types r ≡ whole → past (n - (k + 1)) types next ≡ whole
+pub past_on : (n k : ℕ) (types : List CType) (r next : Ref) (whole : Ref) → k < n
+    → is_passed (kind_of types r) ≡ true → next ≡ member_type types r 0
+    → past (n - k) types r ≡ whole → past (n - (k + 1)) types next ≡ whole
 past_on n k types r next whole h e to inv =
-    ap (past (n - (k + 1)) types) to ∙ sym (ap (λ i. past i types r) (one_left n k h) ∙ past_suc (n - (k + 1)) types r ∙ cond-true _ _ _ e) ∙ inv
+    ap (past (n - (k + 1)) types) to ∙ sym (ap (λ i. past i types r) (one_left n k h)
+    ∙ past_suc (n - (k + 1)) types r ∙ cond-true _ _ _ e) ∙ inv
 
 past_zero : (types : List CType) (r : Ref) → past 0 types r ≡ r
 unfolding past
 past_zero types r = refl
 
 -- where no more are passed
-pub past_end : (n k : ℕ) (types : List CType) (r : Ref) (whole : Ref) → n ≤ k → past (n - k) types r ≡ whole → r ≡ whole
-past_end n k types r whole h inv = let none : n - k ≡ 0 = omega arith in sym (ap (λ i. past i types r) none ∙ past_zero types r) ∙ inv
+pub past_end : (n k : ℕ) (types : List CType) (r : Ref) (whole : Ref) → n ≤ k
+    → past (n - k) types r ≡ whole → r ≡ whole
+past_end n k types r whole h inv = let none : n - k ≡ 0 = omega arith in
+    sym (ap (λ i. past i types r) none ∙ past_zero types r) ∙ inv
 
 module _ (lists : Ref → List ℕ) (types : List CType) where
-  decl_suc : (n : ℕ) (r : Ref) (d : List ℕ) → decl_in lists (suc n) types r d ≡ decl_at (decl_in lists n types) types (lists r) (type_of types r) d
+  decl_suc : (n : ℕ) (r : Ref) (d : List ℕ) → decl_in lists (suc n) types r d
+      ≡ decl_at (decl_in lists n types) types (lists r) (type_of types r) d
   unfolding decl_in
   decl_suc n r d = refl
 
-  decl_zero : (r : Ref) (d : List ℕ) → decl_in lists 0 types r d ≡ record { type_part = codes "..."; name_part = d }
+  decl_zero : (r : Ref) (d : List ℕ)
+      → decl_in lists 0 types r d ≡ record { type_part = codes "..."; name_part = d }
   unfolding decl_in
   decl_zero r d = refl
 
   -- a type is written
-  pub followed : (n k : ℕ) (list : List ℕ) (r : Ref) (front d back front' d' back' : List ℕ) (next : Option Ref) (whole : Written) → k < n → list ≡ lists r
+  pub followed : (n k : ℕ) (list : List ℕ) (r : Ref) (front d back front' d' back' : List ℕ)
+      (next : Option Ref) (whole : Written) → k < n → list ≡ lists r
       → around front (decl_in lists (n - k) types r d) back ≡ whole
-      → ((rest : Ref → List ℕ → Written) → leads rest front' d' back' next ≡ around front (decl_at rest types list (type_of types r) d) back)
+      → ((rest : Ref → List ℕ → Written) → leads rest front' d' back' next
+      ≡ around front (decl_at rest types list (type_of types r) d) back)
       → leads (decl_in lists (n - (k + 1)) types) front' d' back' next ≡ whole
   followed n k list r front d back front' d' back' next whole h e inv step =
       step (decl_in lists (n - (k + 1)) types)
-      ∙ ap (λ (l : List ℕ). around front (decl_at (decl_in lists (n - (k + 1)) types) types l (type_of types r) d) back) e
-      ∙ ap (λ (w : Written). around front w back) (sym (ap (λ i. decl_in lists i types r d) (one_left n k h) ∙ decl_suc (n - (k + 1)) r d))
+      ∙ ap (λ (l : List ℕ). around front
+      (decl_at (decl_in lists (n - (k + 1)) types) types l (type_of types r) d) back) e
+      ∙ ap (λ (w : Written). around front w back)
+      (sym (ap (λ i. decl_in lists i types r d) (one_left n k h) ∙ decl_suc (n - (k + 1)) r d))
       ∙ inv
 
   -- no more types are followed
-  pub cut_off : (n k : ℕ) (r : Ref) (front d back front' : List ℕ) (whole : Written) → n ≤ k → around front (decl_in lists (n - k) types r d) back ≡ whole → front' ≡ front ++ codes "..."
+  pub cut_off : (n k : ℕ) (r : Ref) (front d back front' : List ℕ) (whole : Written) → n ≤ k
+      → around front (decl_in lists (n - k) types r d) back ≡ whole → front' ≡ front ++ codes "..."
       → let w : Written = record { type_part = front' ++ back; name_part = d } in w ≡ whole
   cut_off n k r front d back front' whole h inv e =
       let none : n - k ≡ 0 = omega arith in
-      let joined : front' ++ back ≡ front ++ (codes "..." ++ back) = ap (λ (t : List ℕ). t ++ back) e ∙ append_assoc front (codes "...") back in
+      let joined : front' ++ back ≡ front ++ (codes "..." ++ back) =
+      ap (λ (t : List ℕ). t ++ back) e ∙ append_assoc front (codes "...") back in
       ap (λ (t : List ℕ). let w : Written = record { type_part = t; name_part = d } in w) joined
-      ∙ sym (ap (λ (w : Written). around front w back) (ap (λ i. decl_in lists i types r d) none ∙ decl_zero r d))
+      ∙ sym (ap (λ (w : Written). around front w back)
+      (ap (λ i. decl_in lists i types r d) none ∙ decl_zero r d))
       ∙ inv
 
 -- a tag more stands behind the type part, before those that stand there
-pub tag_more : (rest : Ref → List ℕ → Written) (types : List CType) (tag : List ℕ) (r : Ref) (front d back back' : List ℕ) → leads_to_pointer types r ≡ false → back' ≡ (32 ∷ attribute tag) ++ back
+pub tag_more : (rest : Ref → List ℕ → Written) (types : List CType) (tag : List ℕ) (r : Ref) (front
+    d back back' : List ℕ) → leads_to_pointer types r ≡ false → back' ≡ (32 ∷ attribute tag) ++ back
     → around front (rest r d) back' ≡ around front (tagged rest types tag r d) back
 tag_more rest types tag r front d back back' other e =
     let w : Written = rest r d in
-    let behind : w.type_part ++ back' ≡ (w.type_part ++ 32 ∷ attribute tag) ++ back = ap (λ (b : List ℕ). w.type_part ++ b) e ∙ sym (append_assoc w.type_part (32 ∷ attribute tag) back) in
-    ap (λ (t : List ℕ). let v : Written = record { type_part = front ++ t; name_part = w.name_part } in v) behind
-    ∙ ap (λ (v : Written). around front v back) (sym (cond-false (leads_to_pointer types r) (rest r (attribute tag ++ spaced d)) (after w (32 ∷ attribute tag)) other))
+    let behind : w.type_part ++ back' ≡ (w.type_part ++ 32 ∷ attribute tag) ++ back =
+    ap (λ (b : List ℕ). w.type_part ++ b) e
+    ∙ sym (append_assoc w.type_part (32 ∷ attribute tag) back) in
+    ap (λ (t : List ℕ).
+    let v : Written = record { type_part = front ++ t; name_part = w.name_part } in v) behind
+    ∙ ap (λ (v : Written). around front v back) (sym (cond-false (leads_to_pointer types r)
+    (rest r (attribute tag ++ spaced d)) (after w (32 ∷ attribute tag)) other))
 
 -- one more place
-pub places_more : (f : ℕ → List ℕ) (n : ℕ) (front out more : List ℕ) → out ≡ front ++ flat_map f (range_with_len 0 n) → more ≡ out ++ f n → more ≡ front ++ flat_map f (range_with_len 0 (n + 1))
+pub places_more : (f : ℕ → List ℕ) (n : ℕ) (front out more : List ℕ) → out ≡ front ++ flat_map f
+    (range_with_len 0 n) → more ≡ out ++ f n → more ≡ front ++ flat_map f (range_with_len 0 (n + 1))
 places_more f n front out more e m =
     m
     ∙ ap (λ (xs : List ℕ). xs ++ f n) e
     ∙ append_assoc front (flat_map f (range_with_len 0 n)) (f n)
-    ∙ ap (λ (xs : List ℕ). front ++ xs) (ap (λ (xs : List ℕ). flat_map f (range_with_len 0 n) ++ xs) (sym (append-nil (f n))) ∙ sym (flat_map-append f (range_with_len 0 n) (n ∷ [])) ∙ ap (flat_map f) (sym (range_push n)))
+    ∙ ap (λ (xs : List ℕ). front ++ xs)
+    (ap (λ (xs : List ℕ). flat_map f (range_with_len 0 n) ++ xs) (sym (append-nil (f n))) ∙ sym
+    (flat_map-append f (range_with_len 0 n) (n ∷ [])) ∙ ap (flat_map f) (sym (range_push n)))

@@ -1,5 +1,7 @@
 -- C declarations of BTF's types: a type part and a name part, in the notation of ISO C, 6.7.
-use Rattle.std.specs.Prelude.{ℕ, zero, suc, ◌+◌, ◌==◌, ◌&&◌, ◌||◌, Bool, true, false, List, [], ◌∷◌, ◌++◌, Option, Some, None, codes, decimal, length, slice_get, if◌then◌else◌}
+use Rattle.std.specs.Prelude.{ℕ, zero, suc, ◌+◌, ◌==◌, ◌&&◌, ◌||◌, Bool, true, false, List, [], ◌∷◌}
+use Rattle.std.specs.Prelude.{◌++◌, Option, Some, None, codes, decimal, length, slice_get}
+use Rattle.std.specs.Prelude.{if◌then◌else◌}
 use Rattle.std.specs.Option.{option_map_or}
 use Rattle.std.specs.List.{flat_map, range_with_len}
 use Rattle.c_model.specs.declared.label.Label.{Label}
@@ -10,7 +12,9 @@ use Rattle.c_model.specs.declared.graph.Ref.TheVariants.{Void, Node}
 use Rattle.btf_codec.specs.Fields.{target_at}
 use Rattle.layout_printer.specs.Sizes.{type_of}
 use Rattle.layout_printer.specs.declared.shapes.Shape.{Shape}
-use Rattle.layout_printer.specs.declared.shapes.Shape.TheVariants.{Named, Tagged, Pointer, Qualifier, Array, Function, Annotation, Other}
+use Rattle.layout_printer.specs.declared.shapes.Shape.TheVariants.{Named, Tagged, Pointer}
+use Rattle.layout_printer.specs.declared.shapes.Shape.TheVariants.{Qualifier, Array, Function}
+use Rattle.layout_printer.specs.declared.shapes.Shape.TheVariants.{Annotation, Other}
 
 -- a declaration: what stands for the type, and what stands for the name
 pub record Written : Type 0 where
@@ -51,7 +55,8 @@ tag_name [] = codes "{...}"
 tag_name (x ∷ xs) = x ∷ xs
 
 abbrev pub qualifier_word : ℕ → List ℕ
-qualifier_word k = if k == 9 then codes "volatile" else if k == 10 then codes "const" else codes "restrict"
+qualifier_word k =
+    if k == 9 then codes "volatile" else if k == 10 then codes "const" else codes "restrict"
 
 -- a space before it, where there is something
 abbrev pub spaced : List ℕ → List ℕ
@@ -74,7 +79,8 @@ abbrev pub part_name : List Part → ℕ → List ℕ
 part_name parts k = option_map_or (λ (p : Part). p.name) (slice_get parts k) []
 
 abbrev pub member_name : List CType → Ref → ℕ → List ℕ
-member_name types r k = option_map_or (λ (t : CType). part_name t.label.parts k) (type_of types r) []
+member_name types r k =
+    option_map_or (λ (t : CType). part_name t.label.parts k) (type_of types r) []
 
 -- the number of parts of what a reference is to
 abbrev pub part_count : List CType → Ref → ℕ
@@ -87,11 +93,13 @@ is_passed k = (k == 9) || (k == 10) || (k == 11) || (k == 18)
 -- what stands behind at most so many qualifiers and tags
 unfoldable pub past : ℕ → List CType → Ref → Ref
 past zero types r = r
-past (suc n) types r = if is_passed (kind_of types r) then past n types (member_type types r 0) else r
+past (suc n) types r =
+    if is_passed (kind_of types r) then past n types (member_type types r 0) else r
 
 -- whether an array or a function stands behind qualifiers and tags, and whether a pointer does
 abbrev pub leads_to_list : List CType → Ref → Bool
-leads_to_list types r = (kind_of types (past 64 types r) == 3) || (kind_of types (past 64 types r) == 13)
+leads_to_list types r =
+    (kind_of types (past 64 types r) == 3) || (kind_of types (past 64 types r) == 13)
 
 abbrev pub leads_to_pointer : List CType → Ref → Bool
 leads_to_pointer types r = kind_of types (past 64 types r) == 2
@@ -108,33 +116,45 @@ after w back = record { type_part = w.type_part ++ back; name_part = w.name_part
 abbrev pub attribute : List ℕ → List ℕ
 attribute name = codes "__attribute__((btf_type_tag(\"" ++ (name ++ codes "\")))")
 
--- the declaration of a type with a type tag: before the name where the type is a pointer, else behind the type part
+-- the declaration of a type with a type tag: before the name where the type is a pointer, else
+-- behind the type part
 abbrev pub tagged : (Ref → List ℕ → Written) → List CType → List ℕ → Ref → List ℕ → Written
 tagged rest types tag r d =
-    if leads_to_pointer types r then rest r (attribute tag ++ spaced d) else after (rest r d) (32 ∷ attribute tag)
+    if leads_to_pointer types r then rest r (attribute tag ++ spaced d)
+    else after (rest r d) (32 ∷ attribute tag)
 
--- the declaration of a type by its shape, given those of the types behind it and the text of its parameters
-abbrev pub decl_by : (Ref → List ℕ → Written) → List CType → List ℕ → Shape → CType → List ℕ → Written
+-- the declaration of a type by its shape, given those of the types behind it and the text of its
+-- parameters
+abbrev pub decl_by : (Ref → List ℕ → Written) → List CType → List ℕ → Shape → CType
+    → List ℕ → Written
 decl_by rest types list Named t d = record { type_part = t.label.name; name_part = d }
-decl_by rest types list Tagged t d = record { type_part = tag_word t.label ++ 32 ∷ tag_name t.label.name; name_part = d }
+decl_by rest types list Tagged t d =
+    record { type_part = tag_word t.label ++ 32 ∷ tag_name t.label.name; name_part = d }
 decl_by rest types list Pointer t d =
-    rest (target_at t.targets 0) (if leads_to_list types (target_at t.targets 0) then codes "(*" ++ (d ++ codes ")") else codes "*" ++ d)
+    rest (target_at t.targets 0) (if leads_to_list types (target_at t.targets 0)
+    then codes "(*" ++ (d ++ codes ")") else codes "*" ++ d)
 decl_by rest types list Qualifier t d =
-    if leads_to_pointer types (target_at t.targets 0) then rest (target_at t.targets 0) (qualifier_word t.label.kind ++ spaced d)
+    if leads_to_pointer types (target_at t.targets 0)
+    then rest (target_at t.targets 0) (qualifier_word t.label.kind ++ spaced d)
     else before (qualifier_word t.label.kind ++ codes " ") (rest (target_at t.targets 0) d)
-decl_by rest types list Array t d = rest (target_at t.targets 0) (d ++ (codes "[" ++ (bound t.label.extra ++ codes "]")))
-decl_by rest types list Function t d = rest (target_at t.targets 0) (d ++ (codes "(" ++ (list ++ codes ")")))
+decl_by rest types list Array t d =
+    rest (target_at t.targets 0) (d ++ (codes "[" ++ (bound t.label.extra ++ codes "]")))
+decl_by rest types list Function t d =
+    rest (target_at t.targets 0) (d ++ (codes "(" ++ (list ++ codes ")")))
 decl_by rest types list Annotation t d = tagged rest types t.label.name (target_at t.targets 0) d
 decl_by rest types list Other t d = record { type_part = codes "?"; name_part = d }
 
-abbrev pub decl_at : (Ref → List ℕ → Written) → List CType → List ℕ → Option CType → List ℕ → Written
+abbrev pub decl_at : (Ref → List ℕ → Written) → List CType → List ℕ → Option CType
+    → List ℕ → Written
 decl_at rest types list None d = record { type_part = codes "void"; name_part = d }
 decl_at rest types list (Some t) d = decl_by rest types list (shape_of t.label.kind) t d
 
--- the declaration of a name of a type, where at most so many types are followed, given the texts of parameters
+-- the declaration of a name of a type, where at most so many types are followed, given the texts of
+-- parameters
 unfoldable pub decl_in : (Ref → List ℕ) → ℕ → List CType → Ref → List ℕ → Written
 decl_in lists zero types r d = record { type_part = codes "..."; name_part = d }
-decl_in lists (suc n) types r d = decl_at (decl_in lists n types) types (lists r) (type_of types r) d
+decl_in lists (suc n) types r d =
+    decl_at (decl_in lists n types) types (lists r) (type_of types r) d
 
 -- in a parameter every list of parameters is written `...`
 abbrev pub hidden : Ref → List ℕ
@@ -156,18 +176,21 @@ parameter_text types last r name =
 -- the parameter of a function in a place, behind a comma where it is not the first
 abbrev pub parameter_at : List CType → Ref → ℕ → List ℕ
 parameter_at types r k =
-    (if k == 0 then [] else codes ", ") ++ parameter_text types (k + 1 == part_count types r) (member_type types r (k + 1)) (member_name types r k)
+    (if k == 0 then [] else codes ", ") ++ parameter_text types (k + 1 == part_count types r)
+    (member_type types r (k + 1)) (member_name types r k)
 
 -- the parameters of a function, `void` where there are none
 abbrev pub parameters : List CType → Ref → List ℕ
 parameters types r =
-    if part_count types r == 0 then codes "void" else flat_map (parameter_at types r) (range_with_len 0 (part_count types r))
+    if part_count types r == 0 then codes "void"
+    else flat_map (parameter_at types r) (range_with_len 0 (part_count types r))
 
 -- only functions have parameters
 abbrev pub list_at : List CType → Ref → List ℕ
 list_at types r = if kind_of types r == 13 then parameters types r else []
 
--- the declaration of a name of a type: 64 types are followed, and what is behind them is written `...`
+-- the declaration of a name of a type: 64 types are followed, and what is behind them is written
+-- `...`
 abbrev pub decl : List CType → Ref → List ℕ → Written
 decl types r name = decl_in (list_at types) 64 types r name
 

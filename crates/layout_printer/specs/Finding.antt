@@ -7,7 +7,8 @@ use Rattle.c_model.specs.declared.graph.Ref.TheVariants.{Void, Node}
 use Rattle.btf_codec.specs.Fields.{target_at}
 use Rattle.layout_printer.specs.Sizes.{fitting, size_by, size_of, size_rule}
 use Rattle.layout_printer.specs.declared.sizes.SizeRule.{SizeRule}
-use Rattle.layout_printer.specs.declared.sizes.SizeRule.TheVariants.{Stated, Pointer, Elements, Target, Unsized}
+use Rattle.layout_printer.specs.declared.sizes.SizeRule.TheVariants.{Stated, Pointer, Elements}
+use Rattle.layout_printer.specs.declared.sizes.SizeRule.TheVariants.{Target, Unsized}
 use Rattle.layout_printer.specs.declared.finding.Way.{Way}
 
 -- the type that a type has its size from; void where it has it from none
@@ -66,12 +67,15 @@ IsChain types [] at = Unit {0}
 IsChain types (y ∷ ys) at = IsLink types y (first_on ys at) × IsChain types ys at
 
 -- each size that is known is the type's, but for the types of a path
-pub record AreFound (types : List CType) (pointer : ℕ) (path : List ℕ) (found : List (Option (Option ℕ))) : Type 0 where
+pub record AreFound (types : List CType) (pointer : ℕ) (path : List ℕ)
+    (found : List (Option (Option ℕ))) : Type 0 where
   pub covers : length found ≡ length types
-  pub right : (y : ℕ) (o : Option ℕ) → slice_get found y ≡ Some (Some o) → (o ≡ size_of types pointer (Node y)) ⊎ IsOn y path
+  pub right : (y : ℕ) (o : Option ℕ) → slice_get found y ≡ Some (Some o)
+      → (o ≡ size_of types pointer (Node y)) ⊎ IsOn y path
 
 -- a way, with the size of what is behind its last type
-pub record IsWay (types : List CType) (pointer : ℕ) (found : List (Option (Option ℕ))) (way : Way) : Type 0 where
+pub record IsWay (types : List CType) (pointer : ℕ) (found : List (Option (Option ℕ)))
+    (way : Way) : Type 0 where
   pub at : Ref
   pub chain : IsChain types way.path.items at
   pub size : way.size ≡ size_of types pointer at

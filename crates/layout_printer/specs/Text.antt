@@ -1,5 +1,8 @@
--- The text that shows a layout. Texts are lists of bytes: 9 is a tab, 10 the end of a line, 32 a space.
-use Rattle.std.specs.Prelude.{ℕ, ◌+◌, ◌*◌, ◌-◌, ◌/◌, ◌%◌, ◌==◌, ◌&&◌, ◌||◌, nat_lt, Bool, List, [], ◌∷◌, ◌++◌, codes, decimal, length, take, slice_get, sum_by, count_by, if◌then◌else◌}
+-- The text that shows a layout. Texts are lists of bytes: 9 is a tab, 10 the end of a line, 32 a
+-- space.
+use Rattle.std.specs.Prelude.{ℕ, ◌+◌, ◌*◌, ◌-◌, ◌/◌, ◌%◌, ◌==◌, ◌&&◌, ◌||◌, nat_lt, Bool, List, []}
+use Rattle.std.specs.Prelude.{◌∷◌, ◌++◌, codes, decimal, length, take, slice_get, sum_by, count_by}
+use Rattle.std.specs.Prelude.{if◌then◌else◌}
 use Rattle.std.specs.Option.{option_map_or}
 use Rattle.std.specs.List.{flat_map, list_all, range_with_len}
 use Rattle.c_model.specs.declared.graph.CType.{CType}
@@ -25,7 +28,8 @@ byte_holes slots = count_by (λ (s : Slot). nat_lt 0 (s.hole / 8)) slots
 -- the line of an id: its name, its size in bytes and the number of its holes with whole bytes
 abbrev pub sizes_line : List CType → ℕ → TypeLayout → List ℕ
 sizes_line types id shown =
-    joined (name_of types (ref_of id) ∷ codes "\t" ∷ decimal shown.size ∷ codes "\t" ∷ decimal (byte_holes shown.slots) ∷ codes "\n" ∷ [])
+    joined (name_of types (ref_of id) ∷ codes "\t" ∷ decimal shown.size ∷ codes "\t" ∷ decimal
+    (byte_holes shown.slots) ∷ codes "\n" ∷ [])
 
 -- whether an id is a typedef, and the keyword of the structure or union that is shown
 abbrev pub is_typedef : List CType → ℕ → Bool
@@ -37,19 +41,24 @@ structure_word types id = if kind_of types (ref_of id) == 5 then codes "union" e
 -- the first line, and the last
 abbrev pub head_text : List CType → ℕ → ℕ → List ℕ
 head_text types id structure =
-    if is_typedef types id then joined (codes "typedef " ∷ structure_word types structure ∷ codes " {\n" ∷ [])
-    else joined (structure_word types structure ∷ codes " " ∷ name_of types (ref_of id) ∷ codes " {\n" ∷ [])
+    if is_typedef types id
+    then joined (codes "typedef " ∷ structure_word types structure ∷ codes " {\n" ∷ [])
+    else joined
+    (structure_word types structure ∷ codes " " ∷ name_of types (ref_of id) ∷ codes " {\n" ∷ [])
 
 abbrev pub foot_text : List CType → ℕ → List ℕ
 foot_text types id =
-    if is_typedef types id then joined (codes "} " ∷ name_of types (ref_of id) ∷ codes ";\n" ∷ []) else codes "};\n"
+    if is_typedef types id then joined (codes "} " ∷ name_of types (ref_of id) ∷ codes ";\n" ∷ [])
+    else codes "};\n"
 
 -- the lines of a hole of so many bits
 abbrev pub hole_text : ℕ → List ℕ
 hole_text hole =
     (if nat_lt 0 hole then codes "\n" else [])
-    ++ ((if nat_lt 0 (hole % 8) then joined (codes "\t/* XXX " ∷ decimal (hole % 8) ∷ codes " bits hole, try to pack */\n" ∷ []) else [])
-    ++ ((if nat_lt 0 (hole / 8) then joined (codes "\t/* XXX " ∷ decimal (hole / 8) ∷ codes " bytes hole, try to pack */\n" ∷ []) else [])
+    ++ ((if nat_lt 0 (hole % 8) then joined (codes "\t/* XXX " ∷ decimal (hole % 8)
+    ∷ codes " bits hole, try to pack */\n" ∷ []) else [])
+    ++ ((if nat_lt 0 (hole / 8) then joined (codes "\t/* XXX " ∷ decimal (hole / 8)
+    ∷ codes " bytes hole, try to pack */\n" ∷ []) else [])
     ++ (if nat_lt 0 hole then codes "\n" else [])))
 
 -- the cache line that a member begins in, where cache lines have so many bytes
@@ -62,16 +71,19 @@ opens line earlier n = nat_lt 0 n && list_all (λ (e : Slot). nat_lt (line_of li
 
 -- the line of a boundary, and how many bytes ago it was
 abbrev pub ago_text : ℕ → List ℕ
-ago_text bytes = if nat_lt 0 bytes then joined (codes "was " ∷ decimal bytes ∷ codes " bytes ago " ∷ []) else []
+ago_text bytes =
+    if nat_lt 0 bytes then joined (codes "was " ∷ decimal bytes ∷ codes " bytes ago " ∷ []) else []
 
 abbrev pub crossed_text : ℕ → ℕ → ℕ → List ℕ
 crossed_text number boundary byte =
-    joined (codes "\t/* --- cacheline " ∷ decimal number ∷ codes " boundary (" ∷ decimal boundary ∷ codes " bytes) " ∷ [])
+    joined (codes "\t/* --- cacheline " ∷ decimal number ∷ codes " boundary (" ∷ decimal boundary
+    ∷ codes " bytes) " ∷ [])
     ++ (ago_text (byte - boundary) ++ codes "--- */\n")
 
 abbrev pub boundary_text : ℕ → List Slot → Slot → List ℕ
 boundary_text line earlier s =
-    if opens line earlier (line_of line s) then crossed_text (line_of line s) (line_of line s * line) (s.start / 8) else []
+    if opens line earlier (line_of line s)
+    then crossed_text (line_of line s) (line_of line s * line) (s.start / 8) else []
 
 -- where a member lies, in bytes or in bits
 abbrev pub is_in_bits : Slot → Bool
@@ -79,16 +91,20 @@ is_in_bits s = s.field || nat_lt 0 (s.start % 8)
 
 abbrev pub place_text : Slot → List ℕ
 place_text s =
-    if is_in_bits s then joined (codes "/* " ∷ right (s.start / 8) 5 ∷ codes ":" ∷ decimal (s.start % 8) ∷ codes " " ∷ right s.bits 3 ∷ codes " */\n" ∷ [])
-    else joined (codes "/* " ∷ right (s.start / 8) 5 ∷ codes " " ∷ right (s.bits / 8) 5 ∷ codes " */\n" ∷ [])
+    if is_in_bits s then joined (codes "/* " ∷ right (s.start / 8) 5 ∷ codes ":" ∷ decimal
+    (s.start % 8) ∷ codes " " ∷ right s.bits 3 ∷ codes " */\n" ∷ [])
+    else joined (codes "/* " ∷ right (s.start / 8) 5 ∷ codes " " ∷ right (s.bits / 8) 5
+    ∷ codes " */\n" ∷ [])
 
 -- the name part of a member, with the width of a bit field
 abbrev pub name_text : List ℕ → Slot → List ℕ
-name_text name s = name ++ ((if s.field then joined (codes ":" ∷ decimal s.bits ∷ []) else []) ++ codes ";")
+name_text name s =
+    name ++ ((if s.field then joined (codes ":" ∷ decimal s.bits ∷ []) else []) ++ codes ";")
 
 -- the line of a declaration
 abbrev pub declared_text : List ℕ → List ℕ → Slot → List ℕ
-declared_text type name s = joined (codes "\t" ∷ left type 26 ∷ codes " " ∷ left name 21 ∷ codes " " ∷ []) ++ place_text s
+declared_text type name s =
+    joined (codes "\t" ∷ left type 26 ∷ codes " " ∷ left name 21 ∷ codes " " ∷ []) ++ place_text s
 
 abbrev pub written_text : Written → Slot → List ℕ
 written_text w s = declared_text w.type_part (name_text w.name_part s) s
@@ -96,13 +112,16 @@ written_text w s = declared_text w.type_part (name_text w.name_part s) s
 -- the lines of the member in a place, given the slots of the earlier ones and its own
 abbrev pub member_text : List CType → Ref → ℕ → List Slot → ℕ → Slot → List ℕ
 member_text types r line earlier k s =
-    hole_text s.hole ++ (boundary_text line earlier s ++ written_text (decl types (member_type types r k) (member_name types r k)) s)
+    hole_text s.hole ++ (boundary_text line earlier s
+    ++ written_text (decl types (member_type types r k) (member_name types r k)) s)
 
 abbrev pub member_at : List CType → Ref → ℕ → List Slot → ℕ → List ℕ
-member_at types r line slots k = option_map_or (member_text types r line (take k slots) k) (slice_get slots k) []
+member_at types r line slots k =
+    option_map_or (member_text types r line (take k slots) k) (slice_get slots k) []
 
 abbrev pub members_text : List CType → Ref → ℕ → List Slot → List ℕ
-members_text types r line slots = flat_map (member_at types r line slots) (range_with_len 0 (length slots))
+members_text types r line slots =
+    flat_map (member_at types r line slots) (range_with_len 0 (length slots))
 
 -- sums over all members
 abbrev pub bit_holes : List Slot → ℕ
@@ -133,30 +152,38 @@ size_text line shown =
 abbrev pub byte_holes_text : ℕ → ℕ → ℕ → List ℕ
 byte_holes_text bits holes bytes =
     if nat_lt 0 holes then
-    joined (codes "\t/* sum members: " ∷ decimal (bits / 8) ∷ codes ", holes: " ∷ decimal holes ∷ codes ", sum holes: " ∷ decimal bytes ∷ codes " */\n" ∷ [])
+    joined (codes "\t/* sum members: " ∷ decimal (bits / 8) ∷ codes ", holes: " ∷ decimal holes
+    ∷ codes ", sum holes: " ∷ decimal bytes ∷ codes " */\n" ∷ [])
     else []
 
 abbrev pub bit_holes_text : ℕ → ℕ → List ℕ
 bit_holes_text holes bits =
-    if nat_lt 0 holes then joined (codes "\t/* bit holes: " ∷ decimal holes ∷ codes ", sum bit holes: " ∷ decimal bits ∷ codes " bits */\n" ∷ []) else []
+    if nat_lt 0 holes then joined (codes "\t/* bit holes: " ∷ decimal holes
+    ∷ codes ", sum bit holes: " ∷ decimal bits ∷ codes " bits */\n" ∷ []) else []
 
 abbrev pub holes_text : List Slot → List ℕ
-holes_text slots = byte_holes_text (all_bits slots) (byte_holes slots) (hole_bytes slots) ++ bit_holes_text (bit_holes slots) (hole_bits slots)
+holes_text slots = byte_holes_text (all_bits slots) (byte_holes slots) (hole_bytes slots)
+    ++ bit_holes_text (bit_holes slots) (hole_bits slots)
 
 abbrev pub padding_text : ℕ → List ℕ
 padding_text padding =
-    (if nat_lt 0 (padding / 8) then joined (codes "\t/* padding: " ∷ decimal (padding / 8) ∷ codes " */\n" ∷ []) else [])
-    ++ (if nat_lt 0 (padding % 8) then joined (codes "\t/* bit_padding: " ∷ decimal (padding % 8) ∷ codes " bits */\n" ∷ []) else [])
+    (if nat_lt 0 (padding / 8)
+    then joined (codes "\t/* padding: " ∷ decimal (padding / 8) ∷ codes " */\n" ∷ []) else [])
+    ++ (if nat_lt 0 (padding % 8) then joined
+    (codes "\t/* bit_padding: " ∷ decimal (padding % 8) ∷ codes " bits */\n" ∷ []) else [])
 
 abbrev pub last_line_text : ℕ → ℕ → List ℕ
 last_line_text line size =
-    if nat_lt 0 (size % line) then joined (codes "\t/* last cacheline: " ∷ decimal (size % line) ∷ codes " bytes */\n" ∷ []) else []
+    if nat_lt 0 (size % line) then joined
+    (codes "\t/* last cacheline: " ∷ decimal (size % line) ∷ codes " bytes */\n" ∷ []) else []
 
 abbrev pub summary_text : ℕ → TypeLayout → List ℕ
-summary_text line shown = size_text line shown ++ (holes_text shown.slots ++ (padding_text shown.padding ++ last_line_text line shown.size))
+summary_text line shown = size_text line shown
+    ++ (holes_text shown.slots ++ (padding_text shown.padding ++ last_line_text line shown.size))
 
 -- the text of an id, which is the layout's or a typedef of it, where cache lines have so many bytes
 unfoldable pub text_of : List CType → ℕ → TypeLayout → ℕ → List ℕ
 text_of types id shown line =
     head_text types id shown.id
-    ++ (members_text types (ref_of shown.id) line shown.slots ++ (summary_text line shown ++ foot_text types id))
+    ++ (members_text types (ref_of shown.id) line shown.slots
+    ++ (summary_text line shown ++ foot_text types id))

@@ -1,6 +1,7 @@
 -- The working form of sums over all members.
 use Rattle.std.specs.Prelude.{◌≡◌, ℕ, List, ◌++◌}
-use Rattle.layout_printer.specs.Text.{all_bits, bit_holes, bit_holes_text, byte_holes, byte_holes_text, hole_bits, hole_bytes}
+use Rattle.layout_printer.specs.Text.{all_bits, bit_holes, bit_holes_text, byte_holes}
+use Rattle.layout_printer.specs.Text.{byte_holes_text, hole_bits, hole_bytes}
 use Rattle.layout_printer.specs.declared.slots.Slot.{Slot}
 use Rattle.layout_printer.specs.declared.summary.Totals.{Totals}
 
@@ -14,4 +15,5 @@ pub record AreTotals (slots : List Slot) (all : Totals) : Type 0 where
 
 -- the lines of the holes by the sums
 abbrev pub sums_text : Totals → List ℕ
-sums_text all = byte_holes_text all.bits all.byte_holes all.hole_bytes ++ bit_holes_text all.bit_holes all.hole_bits
+sums_text all = byte_holes_text all.bits all.byte_holes all.hole_bytes
+    ++ bit_holes_text all.bit_holes all.hole_bits

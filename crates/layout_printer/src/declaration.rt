@@ -1,8 +1,13 @@
 //! C declarations of types.
-ghost use Rattle.std.specs.Prelude.{◌≡◌, ◌∷◌, ◌++◌, ◌+◌, ◌==◌, ◌<◌, ◌≤◌, List, [], ℕ, OnOk, IfOk, codes, if◌then◌else◌};
+ghost use Rattle.std.specs.Prelude.{◌≡◌, ◌∷◌, ◌++◌, ◌+◌, ◌==◌, ◌<◌, ◌≤◌, List, [], ℕ, OnOk, IfOk};
+ghost use Rattle.std.specs.Prelude.{codes, if◌then◌else◌};
 ghost use Rattle.c_model.specs.declared.graph.Ref.{Ref};
 ghost use Rattle.layout_printer.specs.Sizes.{type_of};
-ghost use Rattle.layout_printer.specs.Declarations.{Written, around, attribute, bound, decl, decl_at, decl_by, decl_in, ended, hidden, leads, list_at, parameter_at, parameter_decl, parameter_text, parameters, part_count, shape_of, spaced, tagged};
+ghost use Rattle.layout_printer.specs.Declarations.{Written, around, attribute, bound, decl};
+ghost use Rattle.layout_printer.specs.Declarations.{decl_at, decl_by, decl_in, ended, hidden};
+ghost use Rattle.layout_printer.specs.Declarations.{leads, list_at, parameter_at, parameter_decl};
+ghost use Rattle.layout_printer.specs.Declarations.{parameter_text, parameters, part_count};
+ghost use Rattle.layout_printer.specs.Declarations.{shape_of, spaced, tagged};
 
 use crate::lookups::{target_at, type_of};
 use crate::pieces::{Piece, put, put_if};
@@ -23,8 +28,8 @@ pub struct Declaration {
     pub name_part: Vec<u8>,
 }
 
-/// A declaration that is being written: what stands before the type part of what is still to be written, what stands
-/// behind it, and what stands for the name.
+/// A declaration that is being written: what stands before the type part of what is still to be
+/// written, what stands behind it, and what stands for the name.
 #[derive(Drop)]
 struct Draft {
     front: Vec<u8>,
@@ -32,14 +37,18 @@ struct Draft {
     name: Vec<u8>,
 }
 
-/// The declaration of a name of a type. 64 types are followed, and what is behind them is written `...`.
+/// The declaration of a name of a type. 64 types are followed, and what is behind them is written
+/// `...`.
 pub fn declare(
     alloc: Global,
     types: &[CType<'_>],
     r: Ref,
     name: &[u8],
 ) -> Result<Declaration, AllocError>
-    ensures { IfOk result (λ w. record { type_part = w.type_part.items; name_part = w.name_part.items } ≡ decl types.now r name.now) }
+    ensures { IfOk result (λ w. record {
+      type_part = w.type_part.items;
+      name_part = w.name_part.items;
+    } ≡ decl types.now r name.now) }
 {
     let mut draft = named(alloc, name)?;
     let mut at = r;
@@ -106,7 +115,8 @@ fn finish(draft: Draft) -> Result<Declaration, AllocError>
     })
 }
 
-/// Writes a type, and gives the next one that is to be written. `list` is the text of its parameters.
+/// Writes a type, and gives the next one that is to be written. `list` is the text of its
+/// parameters.
 fn follow(
     alloc: Global,
     types: &[CType<'_>],
@@ -116,7 +126,8 @@ fn follow(
 ) -> Result<Option<Ref>, AllocError>
     ensures { IfOk result (λ next. (rest : Ref → List ℕ → Written) →
         leads rest draft.new.front.items draft.new.name.items draft.new.back.items next
-        ≡ around draft.old.front.items (decl_at rest types.now list.now (type_of types.now r) draft.old.name.items) draft.old.back.items) }
+        ≡ around draft.old.front.items (decl_at rest types.now list.now
+        (type_of types.now r) draft.old.name.items) draft.old.back.items) }
 {
     match type_of(types, r) {
         None => {
@@ -137,7 +148,8 @@ fn write_type(
     ensures { IfOk result (λ next. (rest : Ref → List ℕ → Written) →
         leads rest draft.new.front.items draft.new.name.items draft.new.back.items next
         ≡ around draft.old.front.items
-        (decl_by rest types.now list.now (shape_of t.now.label.kind) t.now draft.old.name.items) draft.old.back.items) }
+        (decl_by rest types.now list.now (shape_of t.now.label.kind) t.now draft.old.name.items)
+        draft.old.back.items) }
 {
     let target = target_at(t.targets.items(), 0);
     match shape_of(t.label.kind) {
@@ -199,7 +211,8 @@ fn annotate(
 ) -> Result<(), AllocError>
     ensures { OnOk result ((rest : Ref → List ℕ → Written) →
         around draft.new.front.items (rest target draft.new.name.items) draft.new.back.items
-        ≡ around draft.old.front.items (tagged rest types.now tag.now target draft.old.name.items) draft.old.back.items) }
+        ≡ around draft.old.front.items
+        (tagged rest types.now tag.now target draft.old.name.items) draft.old.back.items) }
 {
     if leads_to_pointer(types, target) {
         draft.name = annotated_name(alloc, tag, &draft.name)?;
@@ -245,7 +258,8 @@ fn put_attribute(out: &mut Vec<u8>, tag: &[u8]) -> Result<(), AllocError>
 
 /// What stands for the name of a pointer; in parentheses before an array or a function.
 fn pointer_name(alloc: Global, nested: bool, name: &[u8]) -> Result<Vec<u8>, AllocError>
-    ensures { IfOk result (λ v. v.items ≡ (if nested then codes "(*" ++ (name.now ++ codes ")") else codes "*" ++ name.now)) }
+    ensures { IfOk result (λ v. v.items
+        ≡ (if nested then codes "(*" ++ (name.now ++ codes ")") else codes "*" ++ name.now)) }
 {
     let mut out = Vec::new(alloc);
     if nested {

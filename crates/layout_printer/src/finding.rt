@@ -1,8 +1,9 @@
-//! How the sizes of all types of a table are found, each in one step: types that have their sizes from other ones are followed
-//! to one whose size is known, and from there back.
+//! How the sizes of all types of a table are found, each in one step: types that have their sizes
+//! from other ones are followed to one whose size is known, and from there back.
 ghost use Rattle.std.specs.Prelude.{◌≡◌, ◌<◌, ℕ, [], length, IfOk, OnOk};
 ghost use Rattle.c_model.specs.declared.graph.Ref.TheVariants.{Node};
-ghost use Rattle.layout_printer.specs.Finding.{AreFound, IsKnown, IsWay, StaysKnown, behind, found_at, sized, unknown_at};
+ghost use Rattle.layout_printer.specs.Finding.{AreFound, IsKnown, IsWay, StaysKnown, behind};
+ghost use Rattle.layout_printer.specs.Finding.{found_at, sized, unknown_at};
 
 use crate::lookups::target_at;
 use crate::sizes::{SizeRule, fitting, size_rule};
@@ -36,7 +37,8 @@ pub fn find(
     Ok(())
 }
 
-/// Follows the types from one on. Those on the way are known to have no size until it is found, so that a cycle ends.
+/// Follows the types from one on. Those on the way are known to have no size until it is found, so
+/// that a cycle ends.
 fn follow(
     alloc: Global,
     types: &[CType<'_>],

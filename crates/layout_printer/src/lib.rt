@@ -1,7 +1,8 @@
 //! How structures and unions lie in memory, and the text that shows it.
 //!
-//! A layout gives each member its first bit, its bits and the bits before it that no earlier member lies below; and
-//! the bits behind all members. The text is that of pahole(1), in this project's profile.
+//! A layout gives each member its first bit, its bits and the bits before it that no earlier member
+//! lies below; and the bits behind all members. The text is that of pahole(1), in this project's
+//! profile.
 #![tactic(auto)]
 
 mod declaration;

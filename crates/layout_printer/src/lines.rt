@@ -1,7 +1,9 @@
 //! The lines of members.
 ghost use Rattle.std.specs.Prelude.{◌≡◌, ◌++◌, ◌<◌, ◌/◌, ◌*◌, ◌≤◌, List, IfOk, OnOk, max};
 ghost use Rattle.layout_printer.specs.declared.slots.Slot.{Slot};
-ghost use Rattle.layout_printer.specs.Text.{ago_text, boundary_text, crossed_text, declared_text, hole_text, is_in_bits, line_of, member_text, members_text, name_text, place_text};
+ghost use Rattle.layout_printer.specs.Text.{ago_text, boundary_text, crossed_text, declared_text};
+ghost use Rattle.layout_printer.specs.Text.{hole_text, is_in_bits, line_of, member_text};
+ghost use Rattle.layout_printer.specs.Text.{members_text, name_text, place_text};
 ghost use Rattle.layout_printer.specs.Lines.{greatest_line};
 
 use crate::declaration::declare;
@@ -31,7 +33,8 @@ pub fn put_members(
     Ok(())
 }
 
-/// Appends the lines of a member. Of the earlier ones `greatest` is the last cache line that one begins in.
+/// Appends the lines of a member. Of the earlier ones `greatest` is the last cache line that one
+/// begins in.
 fn put_member(
     alloc: Global,
     out: &mut Vec<u8>,
@@ -81,7 +84,8 @@ fn put_hole(out: &mut Vec<u8>, hole: u64) -> Result<(), AllocError>
     put_if(out, hole > 0, &[Piece::Text(b"\n")])
 }
 
-/// Appends the line of a boundary of cache lines, where the member is the first that begins behind it.
+/// Appends the line of a boundary of cache lines, where the member is the first that begins behind
+/// it.
 fn put_boundary(out: &mut Vec<u8>, line: u32, greatest: u64, slot: &Slot) -> Result<(), AllocError>
     requires { 0 < line }
     ensures { OnOk result ((earlier : List Slot) → greatest ≡ greatest_line line earlier →
@@ -144,7 +148,8 @@ fn put_declared<'p>(
     name: &'p [u8],
     slot: &Slot,
 ) -> Result<(), AllocError>
-    ensures { OnOk result (out.new.items ≡ out.old.items ++ declared_text type_part.now name.now slot.now) }
+    ensures { OnOk result
+        (out.new.items ≡ out.old.items ++ declared_text type_part.now name.now slot.now) }
 {
     put(
         out,

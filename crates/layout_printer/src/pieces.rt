@@ -1,5 +1,6 @@
 //! Pieces of text.
-ghost use Rattle.std.specs.Prelude.{◌≡◌, ◌++◌, ◌≤◌, OnOk, length, decimal, replicate, if◌then◌else◌, [], ◌-◌};
+ghost use Rattle.std.specs.Prelude.{◌≡◌, ◌++◌, ◌≤◌, OnOk, length, decimal, replicate};
+ghost use Rattle.std.specs.Prelude.{if◌then◌else◌, [], ◌-◌};
 ghost use Rattle.layout_printer.specs.Pieces.{text_of, texts, spaces};
 
 use itoa::Buffer;
@@ -67,7 +68,8 @@ fn put_wide(out: &mut Vec<u8>, number: u128) -> Result<(), AllocError>
 }
 
 fn put_right(out: &mut Vec<u8>, number: u64, width: usize) -> Result<(), AllocError>
-    ensures { OnOk result (out.new.items ≡ out.old.items ++ (spaces (width - length (decimal number)) ++ decimal number)) }
+    ensures { OnOk result (out.new.items
+        ≡ out.old.items ++ (spaces (width - length (decimal number)) ++ decimal number)) }
 {
     let mut buffer = Buffer::new();
     let digits = buffer.format(number).as_bytes();

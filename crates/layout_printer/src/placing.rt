@@ -1,10 +1,12 @@
 //! Where the members of a structure or union lie.
-ghost use Rattle.std.specs.Prelude.{◌≡◌, ◌<◌, ◌≤◌, ◌-◌, ◌^◌, ◌≢◌, ℕ, List, All, Err, Some, None, IfOk, length, max, ◌+◌, ◌*◌};
+ghost use Rattle.std.specs.Prelude.{◌≡◌, ◌<◌, ◌≤◌, ◌-◌, ◌^◌, ◌≢◌, ℕ, List, All, Err, Some, None};
+ghost use Rattle.std.specs.Prelude.{IfOk, length, max, ◌+◌, ◌*◌};
 ghost use Rattle.c_model.specs.Graph.{IsBelow, RefersWithin};
 ghost use Rattle.c_model.specs.declared.graph.CType.{CType};
 ghost use Rattle.btf_codec.specs.Fields.{id_of};
 ghost use Rattle.layout_printer.specs.Sizes.{AreSizes, ref_of, type_of};
-ghost use Rattle.layout_printer.specs.Layout.{AreSlots, IsFirstLacking, IsLayout, IsSlot, IsStructure, bits_of, end_of, start_of, width_of};
+ghost use Rattle.layout_printer.specs.Layout.{AreSlots, IsFirstLacking, IsLayout, IsSlot};
+ghost use Rattle.layout_printer.specs.Layout.{IsStructure, bits_of, end_of, start_of, width_of};
 ghost use Rattle.layout_printer.specs.Measuring.{farthest};
 ghost use Rattle.layout_printer.specs.declared.slots.Slot.{Slot};
 
@@ -15,8 +17,9 @@ use btf_codec::Table;
 use c_model::{CType, Ref};
 use std::alloc::Global;
 
-/// The layout of the structure or union of an id, by the sizes of the table. `NoSize` exactly where a member that is no bit
-/// field has a type without a size, with the id of the first such type. It takes as many steps as there are members.
+/// The layout of the structure or union of an id, by the sizes of the table. `NoSize` exactly where
+/// a member that is no bit field has a type without a size, with the id of the first such type. It
+/// takes as many steps as there are members.
 pub fn layout(
     alloc: Global,
     table: &Table<'_>,
@@ -29,7 +32,8 @@ pub fn layout(
     requires within { RefersWithin (length table.now.types) table.now.types }
     ensures ok { IfOk result (IsLayout table.now.types sizes.now.pointer id) }
     ensures no_size { (n : ℕ) (t : CType) → result ≡ Err (LayoutFault.NoSize n) →
-        type_of table.now.types (ref_of id) ≡ Some t → IsFirstLacking table.now.types sizes.now.pointer t n }
+        type_of table.now.types (ref_of id) ≡ Some t
+        → IsFirstLacking table.now.types sizes.now.pointer t n }
 {
     let types = table.types.items();
     let t = &types[id as usize - 1];
@@ -50,7 +54,8 @@ fn slots_of(alloc: Global, sizes: &Sizes, t: &CType<'_>) -> Result<Vec<Slot>, La
     requires { All (IsBelow (2 ^ 32 - 1)) t.now.targets }
     ensures ok { IfOk result (λ v. (types : List CType) → AreSizes types sizes.now →
         AreSlots types sizes.now.pointer t.now v.items) }
-    ensures no_size { (n : ℕ) (types : List CType) → result ≡ Err (LayoutFault.NoSize n) → AreSizes types sizes.now →
+    ensures no_size { (n : ℕ) (types : List CType) → result ≡ Err (LayoutFault.NoSize n)
+        → AreSizes types sizes.now →
         IsFirstLacking types sizes.now.pointer t.now n }
 {
     let parts = t.label.parts.items();
@@ -76,7 +81,8 @@ fn slot_of(
     requires { IsBelow (2 ^ 32 - 1) target }
     ensures ok { IfOk result (λ s. (types : List CType) (earlier : List Slot) → AreSizes types sizes.now →
         end ≡ farthest earlier → IsSlot types sizes.now.pointer flag earlier value target s) }
-    ensures no_size { (n : ℕ) (types : List CType) → result ≡ Err (LayoutFault.NoSize n) → AreSizes types sizes.now →
+    ensures no_size { (n : ℕ) (types : List CType) → result ≡ Err (LayoutFault.NoSize n)
+        → AreSizes types sizes.now →
         (bits_of types sizes.now.pointer flag value target ≡ None) × (n ≡ id_of target) }
     ensures no_memory { result ≢ Err LayoutFault.Memory }
 {

@@ -1,6 +1,9 @@
 //! What declarations ask of types.
 ghost use Rattle.std.specs.Prelude.{◌≡◌, ◌<◌};
-ghost use Rattle.layout_printer.specs.Declarations.{is_passed, is_void, kind_of, leads_to_list, leads_to_pointer, member_name, member_type, part_count, past, qualifier_word, shape_of, tag_name, tag_word};
+ghost use Rattle.layout_printer.specs.Declarations.{is_passed, is_void, kind_of, leads_to_list};
+ghost use Rattle.layout_printer.specs.Declarations.{leads_to_pointer, member_name, member_type};
+ghost use Rattle.layout_printer.specs.Declarations.{part_count, past, qualifier_word, shape_of};
+ghost use Rattle.layout_printer.specs.Declarations.{tag_name, tag_word};
 
 use crate::lookups::{target_at, type_of};
 use c_model::{CType, Label, Ref};

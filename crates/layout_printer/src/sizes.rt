@@ -3,7 +3,8 @@ ghost use Rattle.std.specs.Prelude.{◌≡◌, ◌<◌, ◌≤◌, ◌^◌, List
 ghost use Rattle.std.specs.Option.{option_flatten};
 ghost use Rattle.c_model.specs.declared.graph.CType.{CType};
 ghost use Rattle.layout_printer.specs.Finding.{kept_at};
-ghost use Rattle.layout_printer.specs.Sizes.{AreSizes, fitting, is_long, pointer_of, size_of, size_rule};
+ghost use Rattle.layout_printer.specs.Sizes.{AreSizes, fitting, is_long, pointer_of, size_of};
+ghost use Rattle.layout_printer.specs.Sizes.{size_rule};
 
 use crate::finding::find;
 use btf_codec::Table;
@@ -40,8 +41,10 @@ pub struct Sizes {
 impl Sizes {
     /// The size of what a reference is to; `None` where it has none.
     pub fn of(&self, r: Ref) -> Option<u64>
-        ensures value { (types : List CType) → AreSizes types self.now → result ≡ size_of types self.now.pointer r }
-        ensures fits { (types : List CType) → AreSizes types self.now → IfSome result (λ s. s ≤ 2 ^ 60) }
+        ensures value { (types : List CType) → AreSizes types self.now
+            → result ≡ size_of types self.now.pointer r }
+        ensures fits { (types : List CType) → AreSizes types self.now
+            → IfSome result (λ s. s ≤ 2 ^ 60) }
     {
         kept_at(&self.items, r)
     }
@@ -60,7 +63,8 @@ fn kept_at(sizes: &[Option<u64>], r: Ref) -> Option<u64>
     }
 }
 
-/// How many bytes the pointers of a table have: the size of its first INT of 4 or 8 bytes that is named `long`, `long int`,
+/// How many bytes the pointers of a table have: the size of its first INT of 4 or 8 bytes that is
+/// named `long`, `long int`,
 /// `unsigned long` or `long unsigned int`, and 8 where it has none.
 pub fn pointer_of(table: &Table<'_>) -> u32
     ensures { result ≡ pointer_of table.now.types }
@@ -98,7 +102,8 @@ pub fn size_rule(kind: u8) -> SizeRule
     }
 }
 
-/// The sizes of all types of a table, where pointers have `pointer` bytes. It takes as many steps as there are types.
+/// The sizes of all types of a table, where pointers have `pointer` bytes. It takes as many steps
+/// as there are types.
 pub fn sizes_of(alloc: Global, table: &Table<'_>, pointer: u32) -> Result<Sizes, AllocError>
     requires { length table.now.types < 2 ^ 32 }
     ensures pointer { IfOk result (λ s. s.pointer ≡ pointer) }

@@ -736,8 +736,8 @@ fn long_chain(alloc: Global, first: CType<'static>) -> Result<Table<'static>, Fa
     })
 }
 
-/// Whether all structures of a long chain have a layout without padding (`true`), or none has one. Following the chain for each
-/// member takes ten thousand million steps.
+/// Whether all structures of a long chain have a layout without padding (`true`), or none has one.
+/// Following the chain for each member takes ten thousand million steps.
 fn are_whole(alloc: Global, table: &Table<'_>) -> Result<bool, Fail> {
     let types = table.types.items();
     if types.len() > 1_000_000 || !are_within(types.len(), types) {

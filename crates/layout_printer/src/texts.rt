@@ -2,7 +2,8 @@
 ghost use Rattle.std.specs.Prelude.{◌≡◌, ◌++◌, ◌<◌, IfOk, OnOk};
 ghost use Rattle.layout_printer.specs.Sizes.{ref_of};
 ghost use Rattle.layout_printer.specs.Declarations.{kind_of};
-ghost use Rattle.layout_printer.specs.Text.{foot_text, head_text, name_of, sizes_line, structure_word, text_of};
+ghost use Rattle.layout_printer.specs.Text.{foot_text, head_text, name_of, sizes_line};
+ghost use Rattle.layout_printer.specs.Text.{structure_word, text_of};
 
 use crate::lines::put_members;
 use crate::lookups::{ref_of, type_of};
@@ -15,8 +16,8 @@ use c_model::{CType, Ref};
 use dw_base::Bytes;
 use std::alloc::{AllocError, Global};
 
-/// The line of an id: its name, a tab, its size in bytes, a tab, the number of its holes with whole bytes. `shown` is the
-/// layout of the id, or of the structure that it is a typedef of.
+/// The line of an id: its name, a tab, its size in bytes, a tab, the number of its holes with whole
+/// bytes. `shown` is the layout of the id, or of the structure that it is a typedef of.
 pub fn sizes_line(
     alloc: Global,
     table: &Table<'_>,
@@ -50,8 +51,9 @@ pub fn name_of<'t, 'a>(types: &'t [CType<'a>], r: Ref) -> &'a [u8]
     }
 }
 
-/// The text of an id, where cache lines have `line` bytes. `shown` is the layout of the id, or of the structure that it is a
-/// typedef of. A declaration follows at most 64 types, and so does each parameter in it.
+/// The text of an id, where cache lines have `line` bytes. `shown` is the layout of the id, or of
+/// the structure that it is a typedef of. A declaration follows at most 64 types, and so does each
+/// parameter in it.
 pub fn text(
     alloc: Global,
     table: &Table<'_>,

@@ -1,13 +1,16 @@
 -- One print.
-use Rattle.std.proofs.Common.{◌≡◌, ◌≢◌, ◌++◌, ◌∷◌, List, [], ℕ, Result, Ok, Err, ap, sym, subst, arith, refl, Option, None, Some}
+use Rattle.std.proofs.Common.{◌≡◌, ◌≢◌, ◌++◌, ◌∷◌, List, [], ℕ, Result, Ok, Err, ap, sym, subst}
+use Rattle.std.proofs.Common.{arith, refl, Option, None, Some}
 use Rattle.std.proofs.lemmas.List.{append-nil}
 use Rattle.std.specs.Option.{option_map}
 use Rattle.world_io.specs.Meaning.{Meaning}
 use Rattle.world_io.specs.Calls.{Prints, raised}
 use Rattle.world_io.specs.declared.fault.OutFault.{OutFault}
-use Rattle.world_io.specs.declared.fault.OutFault.TheVariants.{Failed as OutFailed, Memory as OutMemory}
+use Rattle.world_io.specs.declared.fault.OutFault.TheVariants.{Failed as OutFailed}
+use Rattle.world_io.specs.declared.fault.OutFault.TheVariants.{Memory as OutMemory}
 use Rattle.pahole_run.specs.Layers.{of_print}
-use Rattle.pahole_run.specs.Steps.{Counted, PrintCause, PrintKept, Printed, PrintsOut, ended_as, prints_for}
+use Rattle.pahole_run.specs.Steps.{Counted, PrintCause, PrintKept, Printed, PrintsOut, ended_as}
+use Rattle.pahole_run.specs.Steps.{prints_for}
 use Rattle.pahole_run.proofs.LoadLemmas.{called_once, counted_once, none_counted}
 
 append_none : (o : Option (List ℕ)) → o ≡ option_map (λ (xs : List ℕ). xs ++ []) o
@@ -20,17 +23,23 @@ print_none text w none =
     record {
       rest = refl;
       calls = λ c e. (c, e, omega arith);
-      exact = subst (λ (t : List ℕ). Counted (prints_for t) w.calls w.calls) (sym none) (none_counted w.calls);
+      exact = subst (λ (t : List ℕ). Counted (prints_for t) w.calls w.calls) (sym none)
+          (none_counted w.calls);
       cause = refl;
       kept = subst (λ (t : List ℕ). Printed t w w) (sym none) (append_none w.printed);
     }
 
 print_rest :
     (before after : Meaning)
-    → after ≡ record before { printed = after.printed; calls = option_map raised before.calls; prints = after.prints }
+    → after ≡ record before {
+      printed = after.printed;
+      calls = option_map raised before.calls;
+      prints = after.prints;
+    }
     → after ≡ record before { printed = after.printed; calls = after.calls; prints = after.prints }
 print_rest before after rest =
-    subst (λ (k : Option ℕ). after ≡ record before { printed = after.printed; calls = k; prints = after.prints })
+    subst (λ (k : Option ℕ).
+    after ≡ record before { printed = after.printed; calls = k; prints = after.prints })
     (sym (ap (λ (w : Meaning). w.calls) rest)) rest
 
 -- a text that is not empty is printed by one call
@@ -61,7 +70,8 @@ print_some text before after r some p =
     record {
       rest = print_rest before after p.rest;
       calls = called_once before.calls after.calls (ap (λ (w : Meaning). w.calls) p.rest);
-      exact = printed_once text before.calls after.calls some (ap (λ (w : Meaning). w.calls) p.rest);
+      exact =
+          printed_once text before.calls after.calls some (ap (λ (w : Meaning). w.calls) p.rest);
       cause = print_cause text before after r p;
       kept = print_kept text before after r p;
     }

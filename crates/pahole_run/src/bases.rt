@@ -14,7 +14,8 @@ use btf_codec::Table;
 use dw_base::{Bytes, Order};
 use std::alloc::Global;
 
-/// The table of a base, where there is one, in the wanted byte order. The number of the base is that of its load.
+/// The table of a base, where there is one, in the wanted byte order. The number of the base is
+/// that of its load.
 #[tactic(auto, using(crate::proofs::BtfLemmas::base_told, crate::proofs::BtfLemmas::btf_refused, crate::proofs::BtfLemmas::btf_own))]
 pub fn read_before<'a>(
     alloc: Global,

@@ -1,5 +1,6 @@
 //! The functions of files: their prototypes, and the graph of those that are chosen.
-ghost use Rattle.std.specs.Prelude.{◌≡◌, ◌<◌, ◌≤◌, ◌+◌, ◌*◌, ◌^◌, All, Ok, true, length, IfOk, IfSome};
+ghost use Rattle.std.specs.Prelude.{◌≡◌, ◌<◌, ◌≤◌, ◌+◌, ◌*◌, ◌^◌, All, Ok, true, length, IfOk};
+ghost use Rattle.std.specs.Prelude.{IfSome};
 ghost use Rattle.std.specs.Option.{option_map};
 ghost use Rattle.std.specs.Result.{result_err};
 ghost use Rattle.btf_codec.specs.Gives.{before_of};
@@ -29,7 +30,8 @@ use packed_graph::PackedGraph;
 use std::thread::Threads;
 use unit_encoder::UnitAt;
 
-/// Adds the functions of files to the graph of their types, where that is asked for: the chosen ones, each with its prototype.
+/// Adds the functions of files to the graph of their types, where that is asked for: the chosen
+/// ones, each with its prototype.
 pub fn add_functions<'a, R: Threads + Sync, G>(
     context: &Context<'_, R, G>,
     funcs: bool,
@@ -45,10 +47,14 @@ pub fn add_functions<'a, R: Threads + Sync, G>(
     requires well { All IsWellFormed sources.graph.nodes }
     requires fitting { HasFittingForwards sources.graph }
     requires parted { IfSome sources.classes (λ p. IsPartedBy sources.graph p) }
-    ensures told { Tells (first (funcs_checks funcs context.now.limits.nodes (option_map before_of sources.entry.base)
-        (prototypes_of_units context.now.limits.nodes sources.entry.units.items sources.entry.graph.nodes)))
-        (λ s. AreTheOnly (AreNodesOf funcs (option_map before_of sources.entry.base) sources.entry.graph.nodes
-        (prototypes_of_units context.now.limits.nodes sources.entry.units.items sources.entry.graph.nodes))
+    ensures told { Tells (first
+        (funcs_checks funcs context.now.limits.nodes (option_map before_of sources.entry.base)
+        (prototypes_of_units context.now.limits.nodes sources.entry.units.items
+        sources.entry.graph.nodes)))
+        (λ s. AreTheOnly
+        (AreNodesOf funcs (option_map before_of sources.entry.base) sources.entry.graph.nodes
+        (prototypes_of_units context.now.limits.nodes sources.entry.units.items
+        sources.entry.graph.nodes))
         s.graph.nodes) result }
     ensures units { IfOk result (λ s. s.units.items ≡ sources.entry.units.items) }
     ensures same { IfOk result (λ s. s.base ≡ sources.entry.base) }
@@ -81,7 +87,8 @@ pub fn add_functions<'a, R: Threads + Sync, G>(
     })
 }
 
-/// The graph of the chosen functions, over the base, where there is one, and its classes where they are known.
+/// The graph of the chosen functions, over the base, where there is one, and its classes where they
+/// are known.
 fn with_functions<'a, R: Threads + Sync, G>(
     context: &Context<'_, R, G>,
     base: Option<&Table<'a>>,
@@ -98,9 +105,12 @@ fn with_functions<'a, R: Threads + Sync, G>(
     requires well { All IsWellFormed graph.nodes }
     requires fitting { HasFittingForwards graph }
     ensures told { Tells (first (funcs_checks true context.now.limits.nodes
-        (option_map (λ b. before_of b.now) base.entry) (prototypes_of_units context.now.limits.nodes units.now graph.entry.nodes)))
-        (λ c. AreTheOnly (AreNodesOf true (option_map (λ b. before_of b.now) base.entry) graph.entry.nodes
-        (prototypes_of_units context.now.limits.nodes units.now graph.entry.nodes)) c.graph.nodes) result }
+        (option_map (λ b. before_of b.now) base.entry)
+        (prototypes_of_units context.now.limits.nodes units.now graph.entry.nodes)))
+        (λ c.
+        AreTheOnly (AreNodesOf true (option_map (λ b. before_of b.now) base.entry) graph.entry.nodes
+        (prototypes_of_units context.now.limits.nodes units.now graph.entry.nodes))
+        c.graph.nodes) result }
     ensures alone { IfOk result (λ c. c.graph.base ≡ 0) }
     ensures well { IfOk result (λ c. All IsWellFormed c.graph.nodes) }
     ensures fitting { IfOk result (λ c. HasFittingForwards c.graph) }
@@ -126,8 +136,10 @@ fn read_prototypes<'a, R: Threads + Sync, G>(
     requires well { All IsWellFormed graph.nodes }
     requires fitting { HasFittingForwards graph }
     ensures told { Tells
-        (seen_as of_funcs (result_err (prototypes_of_units context.now.limits.nodes units.now graph.entry.nodes)))
-        (λ p. prototypes_of_units context.now.limits.nodes units.now graph.entry.nodes ≡ Ok p) result }
+        (seen_as of_funcs
+        (result_err (prototypes_of_units context.now.limits.nodes units.now graph.entry.nodes)))
+        (λ p.
+        prototypes_of_units context.now.limits.nodes units.now graph.entry.nodes ≡ Ok p) result }
     ensures alone { IfOk result (λ p. p.graph.base ≡ 0) }
     ensures plain { IfOk result (λ p. p.plain ≤ length p.graph.nodes) }
     ensures within { IfOk result (λ p. RefersWithin p.plain p.graph.nodes) }
@@ -168,7 +180,8 @@ fn choose<'a, R: Threads + Sync, G>(
     requires names { All (λ f. HasNoNul f.name) protos.funcs }
     ensures told { Tells (over_check context.now.limits.nodes (option_map (λ b. before_of b.now) base.entry)
         protos.entry.graph.nodes)
-        (λ c. AreTheChosen (option_map (λ b. before_of b.now) base.entry) protos.entry c.graph.nodes) result }
+        (λ c. AreTheChosen
+        (option_map (λ b. before_of b.now) base.entry) protos.entry c.graph.nodes) result }
     ensures alone { IfOk result (λ c. c.graph.base ≡ 0) }
     ensures well { IfOk result (λ c. All IsWellFormed c.graph.nodes) }
     ensures fitting { IfOk result (λ c. HasFittingForwards c.graph) }

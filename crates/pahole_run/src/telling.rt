@@ -1,5 +1,6 @@
 //! The line that tells of the table of a made input.
-ghost use Rattle.std.specs.Prelude.{◌≡◌, ◌++◌, ◌<◌, ◌≤◌, ◌^◌, All, decimal, length, IfOk, OnOk, None, false};
+ghost use Rattle.std.specs.Prelude.{◌≡◌, ◌++◌, ◌<◌, ◌≤◌, ◌^◌, All, decimal, length, IfOk, OnOk};
+ghost use Rattle.std.specs.Prelude.{None, false};
 ghost use Rattle.command_line.specs.declared.job.Format.TheVariants.{Dwarf};
 ghost use Rattle.pahole_run.specs.Files.{HasImage};
 ghost use Rattle.pahole_run.specs.Line.{counts_line};
@@ -16,8 +17,8 @@ use std::alloc::{AllocError, Global};
 use std::thread::Threads;
 use world_io::Gate;
 
-/// The steps from patched ELF files to the line that tells how many units they have, how many nodes their graph, and how many
-/// types and bytes their table.
+/// The steps from patched ELF files to the line that tells how many units they have, how many nodes
+/// their graph, and how many types and bytes their table.
 pub fn make_line<R: Threads + Sync, G: Gate>(
     context: &Context<'_, R, G>,
     files: &[Bytes],
@@ -35,7 +36,8 @@ pub fn make_line<R: Threads + Sync, G: Gate>(
 
 /// The line of a table that has so many bytes.
 fn line_of(alloc: Global, made: &Made<'_>, bytes: u64) -> Result<Bytes, Ended>
-    ensures told { Tells None (λ v. v ≡ counts_line made.now.units made.now.nodes (length made.now.table.types) bytes) result }
+    ensures told { Tells None (λ v.
+        v ≡ counts_line made.now.units made.now.nodes (length made.now.table.types) bytes) result }
     ensures own { IsOwn result }
 {
     let types = made.table.types.items().len() as u64;

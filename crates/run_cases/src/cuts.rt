@@ -7,7 +7,8 @@ use std::alloc::{AllocError, Global};
 use std::thread::Threads;
 use world_io::{Files, HeldFile, Stops};
 
-/// A line of `cuts`: a case, the least and the greatest length of its file, and what is complained of each.
+/// A line of `cuts`: a case, the least and the greatest length of its file, and what is complained
+/// of each.
 #[derive(Drop)]
 pub struct Cut<'a> {
     pub case: &'a str,

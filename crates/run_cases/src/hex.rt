@@ -1,8 +1,8 @@
 //! Bytes as lower-case hex.
 use std::alloc::{AllocError, Global};
 
-/// The bytes that a text gives in lower-case hex, two digits for each. Other characters are passed over, and so is a last digit
-/// that stands alone.
+/// The bytes that a text gives in lower-case hex, two digits for each. Other characters are passed
+/// over, and so is a last digit that stands alone.
 pub fn unhex(alloc: Global, text: &[u8]) -> Result<Vec<u8>, AllocError> {
     let mut bytes = Vec::with_capacity(alloc, text.len() / 2)?;
     let mut first = None;

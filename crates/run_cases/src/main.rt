@@ -1,6 +1,7 @@
-//! Runs each case of `data/` over a world in memory and compares its status, its complaint, what it prints and what it
-//! stores with what the case's folder says (`data/README.md`). Cases that `stopped` names are run again with each call of the
-//! world stopped, and those of `cuts` with their file cut off.
+//! Runs each case of `data/` over a world in memory and compares its status, its complaint, what it
+//! prints and what it stores with what the case's folder says (`data/README.md`). Cases that
+//! `stopped` names are run again with each call of the world stopped, and those of `cuts` with
+//! their file cut off.
 #![tactic(auto)]
 
 mod case;

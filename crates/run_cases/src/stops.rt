@@ -1,4 +1,5 @@
-//! Runs of a case in which one call of the world fails, each call in turn, after each number of bytes.
+//! Runs of a case in which one call of the world fails, each call in turn, after each number of
+//! bytes.
 use crate::case::Case;
 use crate::runs::{Ran, is_whole, run_with};
 use std::alloc::{AllocError, Global};
@@ -45,7 +46,8 @@ pub fn stop_each<R: Threads + Sync>(
     Ok(())
 }
 
-/// Runs a case with one call stopped, after each number of bytes up to one more than it puts out; whether there is such a call.
+/// Runs a case with one call stopped, after each number of bytes up to one more than it puts out;
+/// whether there is such a call.
 fn stop_call<R: Threads + Sync>(
     rt: &R,
     alloc: Global,
@@ -77,8 +79,9 @@ fn most_bytes(case: &Case) -> u64 {
     stored.max(case.printed.len()).max(case.complaint.len()) as u64
 }
 
-/// Whether a run with a stopped call ended as it has to: with status 3, the complaint of that call, and a beginning of the output where it was
-/// put out; where a complaint failed, as without a stop, with a beginning of the complaint.
+/// Whether a run with a stopped call ended as it has to: with status 3, the complaint of that call,
+/// and a beginning of the output where it was put out; where a complaint failed, as without a stop,
+/// with a beginning of the complaint.
 fn ends_well(case: &Case, call: u64, takes: u64, ran: &Ran) -> bool {
     let faults = ran.world.faults();
     let (complained, printed, stored) = (
@@ -128,7 +131,8 @@ fn takes_value(word: &str) -> bool {
     matches!(word, "-C" | "-H" | "-c" | "-F")
 }
 
-/// Whether a complaint tells that the load of this number failed: the files are loaded in the order of the words, and then the base.
+/// Whether a complaint tells that the load of this number failed: the files are loaded in the order
+/// of the words, and then the base.
 fn tells_load(case: &Case, call: u64, complained: &[u8]) -> bool {
     let Some(rest) = complained.strip_prefix(b"pahole: cannot read ") else {
         return false;

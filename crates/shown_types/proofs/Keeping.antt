@@ -1,5 +1,6 @@
 -- Layouts that are kept, and their lines.
-use Rattle.std.proofs.Common.{refl, length, slice_get, ◌≡◌, ◌<◌, ℕ, suc, Bool, true, false, cond, eqb, eqb-true, List, [], ◌++◌, Option, None, Some, sym, ◌∙◌, subst}
+use Rattle.std.proofs.Common.{refl, length, slice_get, ◌≡◌, ◌<◌, ℕ, suc, Bool, true, false, cond}
+use Rattle.std.proofs.Common.{eqb, eqb-true, List, [], ◌++◌, Option, None, Some, sym, ◌∙◌, subst}
 use Rattle.std.specs.Map.{lookup}
 use Rattle.std.specs.Option.{option_and_then}
 use Rattle.std.proofs.lemmas.Option.{none-some, same_Some, slice_get_within}
@@ -15,13 +16,16 @@ kept_none types pointer style s shown e = absurd (none-some shown e)
 
 -- one layout more
 pub kept_more :
-    (types : List CType) (pointer : ℕ) (style : Style) (x s : ℕ) (shown : Counted) (old new : List (ℕ × Counted))
+    (types : List CType) (pointer : ℕ) (style : Style) (x s : ℕ) (shown : Counted)
+    (old new : List (ℕ × Counted))
     → structure_at types x ≡ Some s → IsShown types pointer x shown.layout → IsCounted style shown
     → ((q : ℕ) → lookup (eqb q) new ≡ cond (eqb s q) (Some shown) (lookup (eqb q) old))
     → AreKept types pointer style old → AreKept types pointer style new
-kept_more types pointer style x s shown old new is l counted updates k q other e = by (eqb s q) refl (sym (updates q) ∙ e)
+kept_more types pointer style x s shown old new is l counted updates k q other e =
+    by (eqb s q) refl (sym (updates q) ∙ e)
   where
-    by : (b : Bool) → eqb s q ≡ b → cond b (Some shown) (lookup (eqb q) old) ≡ Some other → IsKept types pointer style q other
+    by : (b : Bool) → eqb s q ≡ b → cond b (Some shown) (lookup (eqb q) old) ≡ Some other
+        → IsKept types pointer style q other
     by true at h =
         let here : l.structure ≡ q = same_Some l.structure s (sym l.is ∙ is) ∙ eqb-true s q at in
         let kept : IsKept types pointer style q shown = record {
@@ -31,7 +35,8 @@ kept_more types pointer style x s shown old new is l counted updates k q other e
         subst (λ (t : Counted). IsKept types pointer style q t) (same_Some shown other h) kept
     by false at h = k q other h
 
-there : (types : List CType) (x s : ℕ) (o : Option CType) → slice_get types x ≡ o → option_and_then (structure_by types x) o ≡ Some s → x < length types
+there : (types : List CType) (x s : ℕ) (o : Option CType) → slice_get types x ≡ o
+    → option_and_then (structure_by types x) o ≡ Some s → x < length types
 there types x s None at e = absurd (none-some s e)
 there types x s (Some t) at e = slice_get_within types x t at
 
@@ -41,7 +46,8 @@ place_within types x s e = there types x s (slice_get types x) refl e
 
 -- the line of a type: its name, and what is kept behind it
 pub line_is :
-    (types : List CType) (style : Style) (x : ℕ) (shown : Counted) → IsCounted style shown → style.sizes ≡ true
+    (types : List CType) (style : Style) (x : ℕ) (shown : Counted) → IsCounted style shown
+    → style.sizes ≡ true
     → piece types style (x, shown.layout) ≡ name_at types x ++ shown.line_end
 unfolding piece
 line_is types style x shown counted e = rw (counted.line_end, e) refl

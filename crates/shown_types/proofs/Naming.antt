@@ -1,5 +1,7 @@
 -- Types by their names, one more at a time.
-use Rattle.std.proofs.Common.{◌≡◌, ◌+◌, ◌-◌, ◌<◌, ◌≤◌, ◌++◌, ◌&&◌, ℕ, zero, suc, Bool, true, false, cond, List, [], ◌∷◌, Option, None, Some, refl, sym, ap, ◌∙◌, subst, arith, length, ⊎_elim, append_assoc}
+use Rattle.std.proofs.Common.{◌≡◌, ◌+◌, ◌-◌, ◌<◌, ◌≤◌, ◌++◌, ◌&&◌, ℕ, zero, suc, Bool, true, false}
+use Rattle.std.proofs.Common.{cond, List, [], ◌∷◌, Option, None, Some, refl, sym, ap, ◌∙◌, subst}
+use Rattle.std.proofs.Common.{arith, length, ⊎_elim, append_assoc}
 use Rattle.std.specs.List.{filter, find, range_with_len, slice_get}
 use Rattle.std.specs.Map.{lookup}
 use Rattle.std.specs.Option.{option_flatten}
@@ -16,12 +18,14 @@ use Rattle.shown_types.proofs.Ranges.{range_next}
 use denote.Bor.{Bor}
 
 -- an element that is written
-got_same : {X : Type 0} (xs : List X) (i : ℕ) (y : X) → i < length xs → slice_get (set xs i y) i ≡ Some y
+got_same : {X : Type 0} (xs : List X) (i : ℕ) (y : X) → i < length xs
+    → slice_get (set xs i y) i ≡ Some y
 got_same [] i y lt = absurd (omega arith)
 got_same (x ∷ xs) zero y lt = refl
 got_same (x ∷ xs) (suc i) y lt = got_same xs i y (omega arith)
 
-got_other : {X : Type 0} (xs : List X) (i j : ℕ) (y : X) → (j ≡ i → ⊥) → slice_get (set xs i y) j ≡ slice_get xs j
+got_other : {X : Type 0} (xs : List X) (i j : ℕ) (y : X) → (j ≡ i → ⊥)
+    → slice_get (set xs i y) j ≡ slice_get xs j
 got_other [] i j y ne = refl
 got_other (x ∷ xs) zero zero y ne = absurd (ne refl)
 got_other (x ∷ xs) zero (suc j) y ne = refl
@@ -40,34 +44,46 @@ bytes_eq_turned a b = turned a b (bytes_eq a b) (bytes_eq b a) refl refl
 
 -- the first place of a name, with one place more before
 first_step : (types : List CType) (name : List ℕ) (x : ℕ) → x < length types
-    → first_from types name x ≡ cond (has_name types name x) (Some x) (first_from types name (x + 1))
+    → first_from types name x
+    ≡ cond (has_name types name x) (Some x) (first_from types name (x + 1))
 first_step types name x lt = ap (find (has_name types name)) (range_next x (length types) lt)
 
-skipped : (types : List CType) (name : List ℕ) (x : ℕ) → x < length types → is_listed types x ≡ false → first_from types name x ≡ first_from types name (x + 1)
+skipped : (types : List CType) (name : List ℕ) (x : ℕ) → x < length types
+    → is_listed types x ≡ false → first_from types name x ≡ first_from types name (x + 1)
 skipped types name x lt hidden =
-    first_step types name x lt ∙ ap (λ (b : Bool). cond (b && bytes_eq (name_at types x) name) (Some x) (first_from types name (x + 1))) hidden
+    first_step types name x lt ∙ ap (λ (b : Bool).
+    cond (b && bytes_eq (name_at types x) name) (Some x) (first_from types name (x + 1))) hidden
 
 taken : (types : List CType) (name : List ℕ) (x : ℕ) → x < length types → is_listed types x ≡ true
-    → first_from types name x ≡ cond (bytes_eq (name_at types x) name) (Some x) (first_from types name (x + 1))
+    → first_from types name x
+    ≡ cond (bytes_eq (name_at types x) name) (Some x) (first_from types name (x + 1))
 taken types name x lt showable =
-    first_step types name x lt ∙ ap (λ (b : Bool). cond (b && bytes_eq (name_at types x) name) (Some x) (first_from types name (x + 1))) showable
+    first_step types name x lt ∙ ap (λ (b : Bool). cond (b && bytes_eq (name_at types x) name)
+    (Some x) (first_from types name (x + 1))) showable
 
 above : (x y : ℕ) → x ≤ y → (x ≡ y → ⊥) → x + 1 ≤ y
-above x y le ne = ⊎_elim (λ (lt : x < y). omega arith) (λ (ge : y ≤ x). absurd (ne (omega arith))) (cases_lt x y)
+above x y le ne =
+    ⊎_elim (λ (lt : x < y). omega arith) (λ (ge : y ≤ x). absurd (ne (omega arith))) (cases_lt x y)
 
 -- a type that can't be shown
-pub named_skip : (types : List CType) (x : ℕ) (first : List (Bor (List ℕ) × ℕ)) (next : List (Option ℕ)) → x < length types → is_listed types x ≡ false
+pub named_skip : (types : List CType) (x : ℕ) (first : List (Bor (List ℕ) × ℕ))
+    (next : List (Option ℕ)) → x < length types → is_listed types x ≡ false
     → AreNamed types (x + 1) first next → AreNamed types x first next
 named_skip types x first next lt hidden n = record {
   covers = n.covers;
   heads = λ name. n.heads name ∙ sym (skipped types name x lt hidden);
-  follows = λ y le showable. n.follows y (above x y le (λ e. let g : true ≡ false = sym showable ∙ (ap (is_listed types) (sym e) ∙ hidden) in cc)) showable;
+  follows = λ y le showable. n.follows y (above x y le (λ e. let g : true ≡ false = sym showable
+      ∙ (ap (is_listed types) (sym e) ∙ hidden) in cc)) showable;
 }
 
 -- one that can
-pub named_more : (types : List CType) (x : ℕ) (first new : List (Bor (List ℕ) × ℕ)) (next : List (Option ℕ)) (later : Option ℕ) (text : Bor (List ℕ))
-    → x < length types → is_listed types x ≡ true → text.now ≡ name_at types x → later ≡ place_of text.now first
-    → ((q : Bor (List ℕ)) → lookup (λ (k : Bor (List ℕ)). bytes_eq q.now k.now) new ≡ cond (bytes_eq text.now q.now) (Some x) (lookup (λ (k : Bor (List ℕ)). bytes_eq q.now k.now) first))
+pub named_more : (types : List CType) (x : ℕ) (first new : List (Bor (List ℕ) × ℕ))
+    (next : List (Option ℕ)) (later : Option ℕ) (text : Bor (List ℕ))
+    → x < length types → is_listed types x ≡ true → text.now ≡ name_at types x
+    → later ≡ place_of text.now first
+    → ((q : Bor (List ℕ))
+    → lookup (λ (k : Bor (List ℕ)). bytes_eq q.now k.now) new ≡ cond (bytes_eq text.now q.now)
+    (Some x) (lookup (λ (k : Bor (List ℕ)). bytes_eq q.now k.now) first))
     → AreNamed types (x + 1) first next → AreNamed types x new (set next x later)
 named_more types x first new next later text lt showable is old updates n = record {
   covers = length-set next x later ∙ n.covers;
@@ -81,33 +97,40 @@ named_more types x first new next later text lt showable is old updates n = reco
       got_other next x y later (λ e. omega (arith, less, e)) ∙ n.follows y (omega arith) listed)
       (λ (ge : y ≤ x).
       let same : x ≡ y = omega arith in
-      subst (λ (z : ℕ). slice_get (set next x later) z ≡ Some (first_from types (name_at types z) (z + 1))) same
+      subst (λ (z : ℕ).
+      slice_get (set next x later) z ≡ Some (first_from types (name_at types z) (z + 1))) same
       (got_same next x later (let c = n.covers in omega (arith, c, lt))
-      ∙ ap (λ (o : Option ℕ). Some o) (old ∙ n.heads text.now ∙ ap (λ (t : List ℕ). first_from types t (x + 1)) is)))
+      ∙ ap (λ (o : Option ℕ). Some o)
+      (old ∙ n.heads text.now ∙ ap (λ (t : List ℕ). first_from types t (x + 1)) is)))
       (cases_lt x y);
 }
 
 -- no type, at first
-pub none_named : (types : List CType) (first : List (Bor (List ℕ) × ℕ)) (next : List (Option ℕ)) → first ≡ [] → length next ≡ length types → AreNamed types (length types) first next
+pub none_named : (types : List CType) (first : List (Bor (List ℕ) × ℕ)) (next : List (Option ℕ))
+    → first ≡ [] → length next ≡ length types → AreNamed types (length types) first next
 none_named types first next e c = record {
   covers = c;
   heads = λ name.
       ap (place_of name) e
-      ∙ sym (ap (λ (n : ℕ). find (has_name types name) (range_with_len (length types) n)) (let z : length types - length types ≡ 0 = omega arith in z));
+      ∙ sym (ap (λ (n : ℕ). find (has_name types name) (range_with_len (length types) n))
+      (let z : length types - length types ≡ 0 = omega arith in z));
   follows = λ x le showable. absurd (past x le showable);
 }
   where
     past : (x : ℕ) → length types ≤ x → is_listed types x ≡ true → ⊥
-    past x le showable = let o = slice_get_past types x le in let g : true ≡ false = sym showable ∙ rw o refl in cc
+    past x le showable = let o = slice_get_past types x le in let g : true ≡ false =
+        sym showable ∙ rw o refl in cc
 
 -- places by a test
-find_no : (p : ℕ → Bool) (a m : ℕ) → find p (range_with_len a m) ≡ None → filter p (range_with_len a m) ≡ []
+find_no : (p : ℕ → Bool) (a m : ℕ) → find p (range_with_len a m) ≡ None
+    → filter p (range_with_len a m) ≡ []
 find_no p a zero e = refl
 find_no p a (suc m) e = by (p a) e (find_no p (a + 1) m)
   where
     by : (b : Bool) → cond b (Some a) (find p (range_with_len (a + 1) m)) ≡ None
         → (find p (range_with_len (a + 1) m) ≡ None → filter p (range_with_len (a + 1) m) ≡ [])
-        → cond b (a ∷ filter p (range_with_len (a + 1) m)) (filter p (range_with_len (a + 1) m)) ≡ []
+        → cond b (a ∷ filter p (range_with_len (a + 1) m))
+        (filter p (range_with_len (a + 1) m)) ≡ []
     by true e rest = absurd (none-some a (sym e))
     by false e rest = rest e
 
@@ -130,7 +153,8 @@ find_yes p a (suc m) k e = by (p a) refl e (find_yes p (a + 1) m k)
           from = omega arith;
           below = omega arith;
           holds = is;
-          rest = ap (λ (b : Bool). cond b (a ∷ filter p (range_with_len (a + 1) m)) (filter p (range_with_len (a + 1) m))) is
+          rest = ap (λ (b : Bool). cond b (a ∷ filter p (range_with_len (a + 1) m))
+              (filter p (range_with_len (a + 1) m))) is
               ∙ ap (λ (n : ℕ). a ∷ filter p (range_with_len (a + 1) n)) count;
         })
     by false is e later =
@@ -140,55 +164,70 @@ find_yes p a (suc m) k e = by (p a) refl e (find_yes p (a + 1) m k)
           from = let f = n.from in omega (arith, f);
           below = let b = n.below in omega (arith, b);
           holds = n.holds;
-          rest = ap (λ (b : Bool). cond b (a ∷ filter p (range_with_len (a + 1) m)) (filter p (range_with_len (a + 1) m))) is
+          rest = ap (λ (b : Bool). cond b (a ∷ filter p (range_with_len (a + 1) m))
+              (filter p (range_with_len (a + 1) m))) is
               ∙ n.rest ∙ ap (λ (n : ℕ). k ∷ filter p (range_with_len (k + 1) n)) count;
         }
 
 -- the places of a name so far, and the next one
-pub record IsGoing (types : List CType) (name : List ℕ) (count : ℕ) (all whole : List ℕ) (at : Option ℕ) : Type 0 where
+pub record IsGoing (types : List CType) (name : List ℕ) (count : ℕ) (all whole : List ℕ)
+    (at : Option ℕ) : Type 0 where
   pub from : ℕ
   pub far : count ≤ from
   pub next : at ≡ first_from types name from
   pub rest : all ++ filter (has_name types name) (range_with_len from (length types - from)) ≡ whole
 
-pub going : (types : List CType) (name all : List ℕ) (at : Option ℕ) → at ≡ first_from types name 0 → IsGoing types name 0 all (all ++ places_named types name) at
+pub going : (types : List CType) (name all : List ℕ) (at : Option ℕ) → at ≡ first_from types name 0
+    → IsGoing types name 0 all (all ++ places_named types name) at
 unfolding places_named
 going types name all at e = record {
   from = 0;
   far = omega arith;
   next = e;
-  rest = ap (λ (n : ℕ). all ++ filter (has_name types name) (range_with_len 0 n)) (let z : length types - 0 ≡ length types = omega arith in z);
+  rest = ap (λ (n : ℕ). all ++ filter (has_name types name) (range_with_len 0 n))
+      (let z : length types - 0 ≡ length types = omega arith in z);
 }
 
-pub gone : (types : List CType) (name all whole : List ℕ) (count : ℕ) → IsGoing types name count all whole None → all ≡ whole
+pub gone : (types : List CType) (name all whole : List ℕ) (count : ℕ)
+    → IsGoing types name count all whole None → all ≡ whole
 gone types name all whole count g =
-    sym (append-nil all) ∙ sym (ap (λ (l : List ℕ). all ++ l) (find_no (has_name types name) g.from (length types - g.from) (sym g.next))) ∙ g.rest
+    sym (append-nil all) ∙ sym (ap (λ (l : List ℕ). all ++ l)
+    (find_no (has_name types name) g.from (length types - g.from) (sym g.next))) ∙ g.rest
 
-pub gone_far : (types : List CType) (name all whole : List ℕ) (count : ℕ) (at : Option ℕ) → length types ≤ count → IsGoing types name count all whole at → all ≡ whole
+pub gone_far : (types : List CType) (name all whole : List ℕ) (count : ℕ) (at : Option ℕ)
+    → length types ≤ count → IsGoing types name count all whole at → all ≡ whole
 gone_far types name all whole count at le g =
     let none : length types - g.from ≡ 0 = (let f = g.far in omega (arith, f, le)) in
-    sym (append-nil all) ∙ sym (ap (λ (n : ℕ). all ++ filter (has_name types name) (range_with_len g.from n)) none) ∙ g.rest
+    sym (append-nil all) ∙ sym (ap
+    (λ (n : ℕ). all ++ filter (has_name types name) (range_with_len g.from n)) none) ∙ g.rest
 
 both : (a b : Bool) → (a && b) ≡ true → (a ≡ true) × (b ≡ true)
 both true true e = (refl, refl)
 both true false e = absurd (cc)
 both false b e = absurd (cc)
 
-pub go_on : (types : List CType) (name all new whole : List ℕ) (count x : ℕ) (first : List (Bor (List ℕ) × ℕ)) (next : List (Option ℕ)) (at : Option ℕ)
-    → AreNamed types 0 first next → IsGoing types name count all whole (Some x) → new ≡ all ++ x ∷ [] → at ≡ option_flatten (slice_get next x)
+pub go_on : (types : List CType) (name all new whole : List ℕ) (count x : ℕ)
+    (first : List (Bor (List ℕ) × ℕ)) (next : List (Option ℕ)) (at : Option ℕ)
+    → AreNamed types 0 first next → IsGoing types name count all whole (Some x)
+    → new ≡ all ++ x ∷ [] → at ≡ option_flatten (slice_get next x)
     → IsGoing types name (count + 1) new whole at
 go_on types name all new whole count x first next at n g pushed is =
     let s = find_yes (has_name types name) g.from (length types - g.from) x (sym g.next) in
     let b = both (is_listed types x) (bytes_eq (name_at types x) name) s.holds in
     let same : name_at types x ≡ name = (bytes_eq-Decides (name_at types x) name).0 b.1 in
-    let all_of : g.from + (length types - g.from) - (x + 1) ≡ length types - (x + 1) = (let k = s.below in let f = s.from in omega (arith, k, f)) in
+    let all_of : g.from + (length types - g.from) - (x + 1) ≡ length types - (x + 1) =
+    (let k = s.below in let f = s.from in omega (arith, k, f)) in
     record {
       from = x + 1;
       far = let f = g.far in let k = s.from in omega (arith, f, k);
-      next = is ∙ ap option_flatten (n.follows x (omega arith) b.0) ∙ ap (λ (t : List ℕ). first_from types t (x + 1)) same;
+      next = is ∙ ap option_flatten (n.follows x (omega arith) b.0)
+          ∙ ap (λ (t : List ℕ). first_from types t (x + 1)) same;
       rest =
-          ap (λ (l : List ℕ). l ++ filter (has_name types name) (range_with_len (x + 1) (length types - (x + 1)))) pushed
-          ∙ append_assoc all (x ∷ []) (filter (has_name types name) (range_with_len (x + 1) (length types - (x + 1))))
-          ∙ sym (ap (λ (l : List ℕ). all ++ l) (s.rest ∙ ap (λ (m : ℕ). x ∷ filter (has_name types name) (range_with_len (x + 1) m)) all_of))
+          ap (λ (l : List ℕ). l ++ filter (has_name types name)
+          (range_with_len (x + 1) (length types - (x + 1)))) pushed
+          ∙ append_assoc all (x ∷ [])
+          (filter (has_name types name) (range_with_len (x + 1) (length types - (x + 1))))
+          ∙ sym (ap (λ (l : List ℕ). all ++ l) (s.rest
+          ∙ ap (λ (m : ℕ). x ∷ filter (has_name types name) (range_with_len (x + 1) m)) all_of))
           ∙ g.rest;
     }

@@ -1,5 +1,6 @@
 -- Which types of a table can be shown. A place is a type's number from 0; its id is one more.
-use Rattle.std.specs.Prelude.{ℕ, ◌+◌, ◌-◌, ◌==◌, ◌&&◌, ◌||◌, not, Bool, List, [], ◌∷◌, length, slice_get, is_some, Option, None, Some, if◌then◌else◌}
+use Rattle.std.specs.Prelude.{ℕ, ◌+◌, ◌-◌, ◌==◌, ◌&&◌, ◌||◌, not, Bool, List, [], ◌∷◌, length}
+use Rattle.std.specs.Prelude.{slice_get, is_some, Option, None, Some, if◌then◌else◌}
 use Rattle.std.specs.List.{filter, flat_map, range_with_len}
 use Rattle.std.specs.Option.{option_and_then, option_map_or}
 use Rattle.std.specs.Str.{bytes_eq}
@@ -23,7 +24,8 @@ abbrev pub nameless_at : List CType → Ref → Option ℕ
 nameless_at types Void = None
 nameless_at types (Node y) = option_and_then (nameless_by y) (slice_get types y)
 
--- the place of the structure or union that a type in a place shows: its own where it is one with a name, and that of its
+-- the place of the structure or union that a type in a place shows: its own where it is one with a
+-- name, and that of its
 -- target where it is a typedef of one without
 abbrev pub structure_by : List CType → ℕ → CType → Option ℕ
 structure_by types x t =
@@ -50,7 +52,8 @@ has_name types name x = is_listed types x && bytes_eq (name_at types x) name
 unfoldable pub places_named : List CType → List ℕ → List ℕ
 places_named types name = filter (has_name types name) (range_with_len 0 (length types))
 
--- the places of what is shown: without names those of the types from a place on; else for each name in order those of all
+-- the places of what is shown: without names those of the types from a place on; else for each name
+-- in order those of all
 -- its types
 abbrev pub chosen : List CType → ℕ → Option (List (List ℕ)) → List ℕ
 chosen types from None = listed types from
@@ -59,7 +62,8 @@ chosen types from (Some names) = flat_map (places_named types) names
 -- the first name, counted from k, that no type has which can be shown
 abbrev pub missing_from : List CType → ℕ → List (List ℕ) → Option ℕ
 missing_from types k [] = None
-missing_from types k (n ∷ ns) = if length (places_named types n) == 0 then Some k else missing_from types (k + 1) ns
+missing_from types k (n ∷ ns) =
+    if length (places_named types n) == 0 then Some k else missing_from types (k + 1) ns
 
 abbrev pub missing : List CType → Option (List (List ℕ)) → Option ℕ
 missing types None = None

@@ -1,5 +1,8 @@
--- The whole text of what is shown, and why nothing is. A place is a type's number from 0; its id is one more.
-use Rattle.std.specs.Prelude.{ℕ, suc, ◌≡◌, ◌++◌, ◌||◌, codes, decimal, nat_eq, nat_le, is_none, Bool, List, [], ◌∷◌, length, map, All, ⊤, slice_get, find, Option, None, Some, Result, Ok, Err, if◌then◌else◌}
+-- The whole text of what is shown, and why nothing is. A place is a type's number from 0; its id is
+-- one more.
+use Rattle.std.specs.Prelude.{ℕ, suc, ◌≡◌, ◌++◌, ◌||◌, codes, decimal, nat_eq, nat_le, is_none}
+use Rattle.std.specs.Prelude.{Bool, List, [], ◌∷◌, length, map, All, ⊤, slice_get, find, Option}
+use Rattle.std.specs.Prelude.{None, Some, Result, Ok, Err, if◌then◌else◌}
 use Rattle.std.specs.Global.{Vec}
 use Rattle.std.specs.List.{filter, flat_map, range_with_len}
 use Rattle.std.specs.Map.{lookup}
@@ -22,21 +25,25 @@ value_at parts k = option_map_or (λ (p : Part). p.value) (slice_get parts k) 0
 
 -- a member's type has no size; bit fields need none
 abbrev pub lacks : List CType → ℕ → CType → ℕ → Bool
-lacks types pointer t k = is_none (bits_of types pointer t.label.flag (value_at t.label.parts k) (target_at t.targets k))
+lacks types pointer t k =
+    is_none (bits_of types pointer t.label.flag (value_at t.label.parts k) (target_at t.targets k))
 
 -- the id of the type of a structure's first member without a size
 abbrev pub lacking_of : List CType → ℕ → CType → Option ℕ
 lacking_of types pointer t =
-    option_map (λ (k : ℕ). id_of (target_at t.targets k)) (find (lacks types pointer t) (range_with_len 0 (length t.label.parts)))
+    option_map (λ (k : ℕ). id_of (target_at t.targets k))
+    (find (lacks types pointer t) (range_with_len 0 (length t.label.parts)))
 
 -- the same of the structure that the type in a place shows
 unfoldable pub no_size : List CType → ℕ → ℕ → Option ℕ
-no_size types pointer x = option_and_then (lacking_of types pointer) (option_and_then (slice_get types) (structure_at types x))
+no_size types pointer x = option_and_then (lacking_of types pointer)
+    (option_and_then (slice_get types) (structure_at types x))
 
 -- and of the first place that has one
 abbrev pub first_no_size : List CType → ℕ → List ℕ → Option ℕ
 first_no_size types pointer [] = None
-first_no_size types pointer (x ∷ xs) = option_or (no_size types pointer x) (first_no_size types pointer xs)
+first_no_size types pointer (x ∷ xs) =
+    option_or (no_size types pointer x) (first_no_size types pointer xs)
 
 -- the layout of the structure that the type in a place shows
 pub record IsShown (types : List CType) (pointer x : ℕ) (shown : TypeLayout) : Type 0 where
@@ -51,7 +58,8 @@ has_holes style p = nat_le style.holes (layout.byte_holes p.1.slots)
 -- the text of a type: its line, or its structure
 unfoldable pub piece : List CType → Style → ℕ × TypeLayout → List ℕ
 piece types style p =
-    if style.sizes then layout.sizes_line types (suc p.0) p.1 else layout.text_of types (suc p.0) p.1 style.line
+    if style.sizes then layout.sizes_line types (suc p.0) p.1
+    else layout.text_of types (suc p.0) p.1 style.line
 
 -- between two structures is an empty line
 abbrev pub separator : Style → List ℕ
@@ -62,10 +70,12 @@ joined_by between [] = []
 joined_by between (x ∷ xs) = x ++ flat_map (λ (y : List ℕ). between ++ y) xs
 
 abbrev pub whole : List CType → Style → List (ℕ × TypeLayout) → List ℕ
-whole types style pairs = joined_by (separator style) (map (piece types style) (filter (has_holes style) pairs))
+whole types style pairs =
+    joined_by (separator style) (map (piece types style) (filter (has_holes style) pairs))
 
 -- the text of some places: each with its layout
-pub record IsText (types : List CType) (pointer : ℕ) (style : Style) (places text : List ℕ) : Type 0 where
+pub record IsText (types : List CType) (pointer : ℕ) (style : Style)
+    (places text : List ℕ) : Type 0 where
   pub pairs : List (ℕ × TypeLayout)
   pub places_are : map (λ (p : ℕ × TypeLayout). p.0) pairs ≡ places
   pub each : All (λ (p : ℕ × TypeLayout). IsShown types pointer p.0 p.1) pairs
@@ -74,9 +84,11 @@ pub record IsText (types : List CType) (pointer : ℕ) (style : Style) (places t
 -- what is put before and for a type, where it has holes enough; and whether a text has started then
 abbrev pub put_for : List CType → Style → ℕ × TypeLayout → Bool → List ℕ
 put_for types style p started =
-    if has_holes style p then (if started then separator style else []) ++ piece types style p else []
+    if has_holes style p
+    then (if started then separator style else []) ++ piece types style p else []
 
-pub record PutsPiece (types : List CType) (style : Style) (p : ℕ × TypeLayout) (started : Bool) (old new : List ℕ) (now : Bool) : Type 0 where
+pub record PutsPiece (types : List CType) (style : Style) (p : ℕ × TypeLayout) (started : Bool)
+    (old new : List ℕ) (now : Bool) : Type 0 where
   pub text_is : new ≡ old ++ put_for types style p started
   pub started_is : now ≡ (started || has_holes style p)
 
@@ -89,15 +101,18 @@ Chooses types from names (Err Memory) = ⊤
 
 -- what a layout of a place answers
 abbrev pub LaysOut : List CType → ℕ → ℕ → Result TypeLayout ShowFault → Type 0
-LaysOut types pointer x (Ok shown) = (no_size types pointer x ≡ None) × IsShown types pointer x shown
+LaysOut types pointer x (Ok shown) =
+    (no_size types pointer x ≡ None) × IsShown types pointer x shown
 LaysOut types pointer x (Err (NoName k)) = ⊥
 LaysOut types pointer x (Err (NoSize n)) = no_size types pointer x ≡ Some n
 LaysOut types pointer x (Err Memory) = ⊤
 
 -- what showing a place answers, given what is put before
-abbrev pub ShowsPlace : List CType → ℕ → Style → ℕ → Bool → List ℕ → List ℕ → Result Bool ShowFault → Type 0
+abbrev pub ShowsPlace : List CType → ℕ → Style → ℕ → Bool → List ℕ → List ℕ
+    → Result Bool ShowFault → Type 0
 ShowsPlace types pointer style x started old new (Ok now) =
-    (shown : TypeLayout) × (LaysOut types pointer x (Ok shown)) × (PutsPiece types style (x, shown) started old new now)
+    (shown : TypeLayout) × (LaysOut types pointer x (Ok shown))
+    × (PutsPiece types style (x, shown) started old new now)
 ShowsPlace types pointer style x started old new (Err (NoName k)) = ⊥
 ShowsPlace types pointer style x started old new (Err (NoSize n)) = no_size types pointer x ≡ Some n
 ShowsPlace types pointer style x started old new (Err Memory) = ⊤
@@ -106,7 +121,8 @@ ShowsPlace types pointer style x started old new (Err Memory) = ⊤
 abbrev pub line_end : Style → TypeLayout → List ℕ
 line_end style shown =
     if style.sizes then
-    layout.joined (codes "\t" ∷ decimal shown.size ∷ codes "\t" ∷ decimal (layout.byte_holes shown.slots) ∷ codes "\n" ∷ [])
+    layout.joined (codes "\t" ∷ decimal shown.size ∷ codes "\t" ∷ decimal
+    (layout.byte_holes shown.slots) ∷ codes "\n" ∷ [])
     else []
 
 -- what is counted of a layout is so
@@ -115,23 +131,29 @@ pub record IsCounted (style : Style) (shown : Counted) : Type 0 where
   pub line_end : shown.line_end ≡ line_end style shown.layout
 
 -- what is kept for the structure in a place: its layout, counted
-pub record IsKept (types : List CType) (pointer : ℕ) (style : Style) (s : ℕ) (shown : Counted) : Type 0 where
+pub record IsKept (types : List CType) (pointer : ℕ) (style : Style) (s : ℕ)
+    (shown : Counted) : Type 0 where
   pub layout : IsLayout types pointer (suc s) shown.layout
   pub counted : IsCounted style shown
 
 -- so with each that is kept, by the places of their structures
 abbrev pub AreKept : List CType → ℕ → Style → List (ℕ × Counted) → Type 0
-AreKept types pointer style entries = (s : ℕ) (shown : Counted) → lookup (nat_eq s) entries ≡ Some shown → IsKept types pointer style s shown
+AreKept types pointer style entries = (s : ℕ) (shown : Counted)
+    → lookup (nat_eq s) entries ≡ Some shown → IsKept types pointer style s shown
 
 -- what showing some places answers
 abbrev pub ShowsPlaces : List CType → ℕ → Style → List ℕ → Result (List ℕ) ShowFault → Type 0
-ShowsPlaces types pointer style places (Ok text) = (first_no_size types pointer places ≡ None) × IsText types pointer style places text
+ShowsPlaces types pointer style places (Ok text) =
+    (first_no_size types pointer places ≡ None) × IsText types pointer style places text
 ShowsPlaces types pointer style places (Err (NoName k)) = ⊥
-ShowsPlaces types pointer style places (Err (NoSize n)) = first_no_size types pointer places ≡ Some n
+ShowsPlaces types pointer style places (Err (NoSize n)) =
+    first_no_size types pointer places ≡ Some n
 ShowsPlaces types pointer style places (Err Memory) = ⊤
 
--- what showing answers: the text, or the first name that nothing has, or else the first member without a size
-abbrev pub Shows : List CType → ℕ → ℕ → Option (List (List ℕ)) → Style → Result (List ℕ) ShowFault → Type 0
+-- what showing answers: the text, or the first name that nothing has, or else the first member
+-- without a size
+abbrev pub Shows : List CType → ℕ → ℕ → Option (List (List ℕ)) → Style
+    → Result (List ℕ) ShowFault → Type 0
 Shows types from pointer names style (Ok text) =
     (missing types names ≡ None) × (first_no_size types pointer (chosen types from names) ≡ None)
     × IsText types pointer style (chosen types from names) text

@@ -10,7 +10,8 @@ use c_model::CType;
 use command_line::Text;
 use std::alloc::Global;
 
-/// The places of the types that are shown: those of the names, or all from a place on that can be shown.
+/// The places of the types that are shown: those of the names, or all from a place on that can be
+/// shown.
 pub fn choose(
     alloc: Global,
     types: &[CType<'_>],

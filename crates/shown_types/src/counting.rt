@@ -8,13 +8,15 @@ use dw_base::Bytes;
 use layout_printer::{TypeLayout, sizes_line};
 use std::alloc::{AllocError, Global};
 
-/// The layout of a structure, and what each type that shows it would else have to count over all members.
+/// The layout of a structure, and what each type that shows it would else have to count over all
+/// members.
 #[derive(Debug, Drop)]
 pub struct Counted {
     pub layout: TypeLayout,
     /// How many holes have whole bytes.
     pub holes: usize,
-    /// The line with its size and its holes from behind the name on, where lines are shown; else nothing.
+    /// The line with its size and its holes from behind the name on, where lines are shown; else
+    /// nothing.
     pub line_end: Bytes,
 }
 

@@ -1,7 +1,9 @@
 //! Which types can be shown.
-ghost use Rattle.std.specs.Prelude.{◌≡◌, ◌++◌, ◌<◌, ◌^◌, length, IfOk, OnOk, [], ◌∷◌, if◌then◌else◌};
+ghost use Rattle.std.specs.Prelude.{◌≡◌, ◌++◌, ◌<◌, ◌^◌, length, IfOk, OnOk, [], ◌∷◌};
+ghost use Rattle.std.specs.Prelude.{if◌then◌else◌};
 ghost use Rattle.btf_codec.specs.Fields.{target_at};
-ghost use Rattle.shown_types.specs.Listed.{is_structure, is_named, nameless_at, structure_by, structure_at, is_listed, listed};
+ghost use Rattle.shown_types.specs.Listed.{is_structure, is_named, nameless_at, structure_by};
+ghost use Rattle.shown_types.specs.Listed.{structure_at, is_listed, listed};
 
 use c_model::{CType, Ref};
 use std::alloc::{AllocError, Global};
@@ -64,7 +66,8 @@ fn structure_by(types: &[CType<'_>], x: u32, t: &CType<'_>) -> Option<u32>
     None
 }
 
-/// The place of the structure or union that the type in a place shows: its own, or that of its target.
+/// The place of the structure or union that the type in a place shows: its own, or that of its
+/// target.
 pub fn structure_at(types: &[CType<'_>], x: u32) -> Option<u32>
     ensures { result ≡ structure_at types.now x }
 {

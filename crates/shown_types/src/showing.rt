@@ -1,10 +1,12 @@
 //! The text of the types that are shown.
-ghost use Rattle.std.specs.Prelude.{◌≡◌, ◌++◌, ◌-◌, ◌⊎◌, ◌<◌, ◌^◌, IsTrue, All, length, IfOk, IfSome, OnOk};
+ghost use Rattle.std.specs.Prelude.{◌≡◌, ◌++◌, ◌-◌, ◌⊎◌, ◌<◌, ◌^◌, IsTrue, All, length, IfOk};
+ghost use Rattle.std.specs.Prelude.{IfSome, OnOk};
 ghost use Rattle.std.specs.Option.{option_copied};
 ghost use Rattle.c_model.specs.Graph.{RefersWithin};
 ghost use Rattle.layout_printer.specs.Sizes.{AreSizes};
 ghost use Rattle.shown_types.specs.Listed.{is_listed, name_at};
-ghost use Rattle.shown_types.specs.Shown.{separator, piece, PutsPiece, IsCounted, AreKept, LaysOut, ShowsPlace, ShowsPlaces, Shows};
+ghost use Rattle.shown_types.specs.Shown.{separator, piece, PutsPiece, IsCounted, AreKept, LaysOut};
+ghost use Rattle.shown_types.specs.Shown.{ShowsPlace, ShowsPlaces, Shows};
 
 use crate::by_name::name_at;
 use crate::choosing::choose;
@@ -30,11 +32,12 @@ pub struct Style {
     pub line: u32,
 }
 
-/// The whole text of the types that are shown: those of each name in order, or all of the table's own that can be
-/// shown. Texts are parted by an empty line, and lines by nothing.
+/// The whole text of the types that are shown: those of each name in order, or all of the table's
+/// own that can be shown. Texts are parted by an empty line, and lines by nothing.
 ///
-/// It is refused by `NoName` at the first name that no type has which can be shown; else by `NoSize` at the first
-/// member, in the order of what would be shown, whose type has no size, also where it has too few holes to be shown.
+/// It is refused by `NoName` at the first name that no type has which can be shown; else by
+/// `NoSize` at the first member, in the order of what would be shown, whose type has no size, also
+/// where it has too few holes to be shown.
 pub fn show(
     alloc: Global,
     table: &Table<'_>,
@@ -80,8 +83,8 @@ fn show_places(
     Ok(Bytes::new(out))
 }
 
-/// Adds the text of the type in a place as `put_shown` does. Layouts are kept by the places of their structures, so that each
-/// structure is laid out once and its members are counted once.
+/// Adds the text of the type in a place as `put_shown` does. Layouts are kept by the places of
+/// their structures, so that each structure is laid out once and its members are counted once.
 fn show_place(
     alloc: Global,
     out: &mut Vec<u8>,
@@ -98,7 +101,8 @@ fn show_place(
     requires line { 0 < style.line }
     requires listed { IsTrue (is_listed table.now.types x) }
     requires kept { AreKept table.now.types sizes.now.pointer style kept.old.entries }
-    ensures shows { ShowsPlace table.now.types sizes.now.pointer style x started out.old.items out.new.items result }
+    ensures shows { ShowsPlace table.now.types sizes.now.pointer style x started out.old.items
+        out.new.items result }
     ensures kept { OnOk result (AreKept table.now.types sizes.now.pointer style kept.new.entries) }
 {
     let structure = structure_at(table.types.items(), x).unwrap();
@@ -139,8 +143,8 @@ fn separator(style: Style) -> &'static [u8]
     if style.sizes { b"" } else { b"\n" }
 }
 
-/// Adds the text of a type, where it has holes enough, and before it what parts it from the text before, where one
-/// has started. Answers whether one has started then.
+/// Adds the text of a type, where it has holes enough, and before it what parts it from the text
+/// before, where one has started. Answers whether one has started then.
 fn put_shown(
     alloc: Global,
     out: &mut Vec<u8>,
@@ -153,7 +157,10 @@ fn put_shown(
     requires line { 0 < style.line }
     requires few { x < 2 ^ 32 - 1 }
     requires counted { IsCounted style shown.now }
-    ensures { IfOk result (λ now. PutsPiece table.now.types style (x, shown.now.layout) started out.old.items out.new.items now) }
+    ensures { IfOk result (λ now. PutsPiece table.now.types style (
+      x,
+      shown.now.layout,
+    ) started out.old.items out.new.items now) }
 {
     if shown.holes < style.holes as usize {
         return Ok(started);
@@ -178,7 +185,8 @@ fn put_piece(
     requires line { 0 < style.line }
     requires few { x < 2 ^ 32 - 1 }
     requires counted { IsCounted style shown.now }
-    ensures { OnOk result (out.new.items ≡ out.old.items ++ piece table.now.types style (x, shown.now.layout)) }
+    ensures { OnOk result
+        (out.new.items ≡ out.old.items ++ piece table.now.types style (x, shown.now.layout)) }
 {
     if style.sizes {
         return put_line(out, table.types.items(), x, shown);
@@ -194,7 +202,8 @@ fn put_line(
     x: u32,
     shown: &Counted,
 ) -> Result<(), AllocError>
-    ensures { OnOk result (out.new.items ≡ out.old.items ++ (name_at types.now x ++ shown.now.line_end)) }
+    ensures { OnOk result
+        (out.new.items ≡ out.old.items ++ (name_at types.now x ++ shown.now.line_end)) }
 {
     out.extend_from_slice(name_at(types, x))?;
     out.extend_from_slice(shown.line_end.items())

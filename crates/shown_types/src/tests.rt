@@ -1,4 +1,5 @@
-//! Tests over two tables. The small one is of C's `struct a { int x; /* a hole of 4 bytes */ int y; };`, 12 bytes, and `typedef struct { int z; } t;`.
+//! Tests over two tables. The small one is of C's `struct a { int x; /* a hole of 4 bytes */ int y;
+//! };`, 12 bytes, and `typedef struct { int z; } t;`.
 ghost use Rattle.std.specs.Prelude.{◌≡◌, ◌+◌, All, IfOk, IsTrue, OnOk, length};
 ghost use Rattle.c_model.specs.Graph.{IsBelow, RefersWithin};
 
@@ -261,7 +262,8 @@ fn type_of(alloc: Global, row: Row) -> Result<CType<'static>, Fail> {
     })
 }
 
-/// A table with a type of every kind, of which those with the ids 2, 4, 7, 22, 23 and 25 can be shown.
+/// A table with a type of every kind, of which those with the ids 2, 4, 7, 22, 23 and 25 can be
+/// shown.
 fn every_kind(alloc: Global, base: u32) -> Result<Table<'static>, Fail> {
     let rows = [
         made(1, b"int", 4, 0, [0, 0, 0]),

@@ -1,5 +1,6 @@
-//! Tests over long tables: many names, and typedefs in long chains and cycles. They end in a moment, since each type and each
-//! name is passed once; no name goes over all types, and no member along its chain.
+//! Tests over long tables: many names, and typedefs in long chains and cycles. They end in a
+//! moment, since each type and each name is passed once; no name goes over all types, and no member
+//! along its chain.
 use crate::ShowFault;
 use crate::tests::{lines_shown, name, node};
 use btf_codec::Table;
@@ -94,8 +95,8 @@ fn two_of_each<'a>(alloc: Global, names: &'a [Text]) -> Result<Table<'a>, Fail> 
     Ok(table_of(types))
 }
 
-/// A table with typedefs by the name `t`, each of the one before it and the first of `first`, and structures of these names
-/// whose member is of the last typedef.
+/// A table with typedefs by the name `t`, each of the one before it and the first of `first`, and
+/// structures of these names whose member is of the last typedef.
 fn behind_a_chain<'a>(alloc: Global, names: &'a [Text], first: u32) -> Result<Table<'a>, Fail> {
     let mut types = first_types(alloc)?;
     types.push(node(alloc, 8, b"t", 0, &[], &[Ref::Node(first)])?)?;

@@ -1,11 +1,16 @@
 -- What the passes over the nodes keep while a table is made.
-use Rattle.std.specs.Prelude.{ℕ, ◌≡◌, ◌+◌, ◌-◌, ◌<◌, ◌==◌, ◌&&◌, ◌⊎◌, not, nat_lt, is_some, List, [], ◌∷◌, ◌++◌, length, slice_get, slice_index, slice_index_or, find, unwrap_or, All, Option, None, Some, Result, Ok, Err, if◌then◌else◌}
+use Rattle.std.specs.Prelude.{ℕ, ◌≡◌, ◌+◌, ◌-◌, ◌<◌, ◌==◌, ◌&&◌, ◌⊎◌, not, nat_lt, is_some, List}
+use Rattle.std.specs.Prelude.{[], ◌∷◌, ◌++◌, length, slice_get, slice_index, slice_index_or, find}
+use Rattle.std.specs.Prelude.{unwrap_or, All, Option, None, Some, Result, Ok, Err, if◌then◌else◌}
 use Rattle.std.specs.List.{filter, position_or_len, range_with_len}
 use Rattle.std.specs.Option.{option_map}
 use Rattle.btf_codec.specs.Spelling.{HasOffset}
 use Rattle.btf_codec.specs.declared.layout.Layout.{Layout}
-use Rattle.btf_codec.specs.declared.layout.Layout.TheVariants.{Int, Link, Array, Forward, TaggedLink, Float, Sized, Prototype}
-use Rattle.btf_codec.specs.declared.layout.PartLayout.TheVariants.{Member, Enumerator, WideEnumerator, Parameter, Variable}
+use Rattle.btf_codec.specs.declared.layout.Layout.TheVariants.{Int, Link, Array, Forward}
+use Rattle.btf_codec.specs.declared.layout.Layout.TheVariants.{TaggedLink, Float, Sized, Prototype}
+use Rattle.btf_codec.specs.declared.layout.PartLayout.TheVariants.{Member, Enumerator}
+use Rattle.btf_codec.specs.declared.layout.PartLayout.TheVariants.{WideEnumerator, Parameter}
+use Rattle.btf_codec.specs.declared.layout.PartLayout.TheVariants.{Variable}
 use Rattle.btf_strings.specs.Names.{Names, with_name}
 use Rattle.c_model.specs.Graph.{Shape}
 use Rattle.c_model.specs.Forwards.{forward_at}
@@ -28,17 +33,21 @@ place_from g p f =
 abbrev pub firsts_below : Shape → List ℕ → ℕ → List ℕ
 firsts_below g p x = filter (λ y. first_of p y == y) (range_with_len g.base (x - g.base))
 
--- the classes of the nodes below x have their places by their numbers, and their own first nodes are listed
-pub record IsPlaced (g : Shape) (p : List ℕ) (x : ℕ) (known : ℕ → Option ℕ) (firsts : List ℕ) : Type 0 where
+-- the classes of the nodes below x have their places by their numbers, and their own first nodes
+-- are listed
+pub record IsPlaced (g : Shape) (p : List ℕ) (x : ℕ) (known : ℕ → Option ℕ)
+    (firsts : List ℕ) : Type 0 where
   pub places :
       (number : ℕ)
-      → known number ≡ (if nat_lt (first_with p number) x then Some (place_from g p (first_with p number)) else None)
+      → known number ≡ (if nat_lt (first_with p number) x
+      then Some (place_from g p (first_with p number)) else None)
   pub listed : firsts ≡ firsts_below g p x
 
 -- a first node gets its place, and is listed where it is no base node
 abbrev pub TakesPlace : ℕ → ℕ → List ℕ → List ℕ → ℕ → Type 0
 TakesPlace base x old new place =
-    (place ≡ (if nat_lt x base then x else base + length old)) × (new ≡ (if nat_lt x base then old else old ++ x ∷ []))
+    (place ≡ (if nat_lt x base then x else base + length old))
+    × (new ≡ (if nat_lt x base then old else old ++ x ∷ []))
 
 -- the first node below x that is no forward and of the class at a place
 abbrev pub plain_below : Shape → List ℕ → ℕ → ℕ → Option ℕ
@@ -47,7 +56,8 @@ plain_below g places x place =
 
 -- of each own class such a node is noted
 pub record IsNoted (g : Shape) (places : List ℕ) (x : ℕ) (plain : List (Option ℕ)) : Type 0 where
-  pub each : (i : ℕ) → i < length plain → slice_index_or plain i None ≡ plain_below g places x (g.base + i)
+  pub each : (i : ℕ) → i < length plain
+      → slice_index_or plain i None ≡ plain_below g places x (g.base + i)
 
 -- the source of the class whose first node is f
 abbrev pub source_by : Shape → List ℕ → ℕ → ℕ
@@ -74,7 +84,8 @@ PutsNames old names new (Ok u) = ArePut old names new
 PutsNames old names new (Err e) =
     (e ≡ Memory) ⊎ (option_map (λ (at : ℕ). NamesTooLong at) (far_name old names) ≡ Some e)
 
--- how many words a type of a layout has besides those of its parts: its name, its info word, and what follows them
+-- how many words a type of a layout has besides those of its parts: its name, its info word, and
+-- what follows them
 abbrev pub words_besides : Option Layout → ℕ
 words_besides None = 2
 words_besides (Some Int) = 4

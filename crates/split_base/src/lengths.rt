@@ -1,5 +1,6 @@
 //! How many bytes a table takes.
-ghost use Rattle.std.specs.Prelude.{◌≡◌, ◌≤◌, ◌<◌, ◌+◌, ◌*◌, ◌^◌, ◌⊎◌, None, Some, All, length, IfErr, OnOk};
+ghost use Rattle.std.specs.Prelude.{◌≡◌, ◌≤◌, ◌<◌, ◌+◌, ◌*◌, ◌^◌, ◌⊎◌, None, Some, All, length};
+ghost use Rattle.std.specs.Prelude.{IfErr, OnOk};
 ghost use Rattle.std.specs.List.{flat_map};
 ghost use Rattle.btf_codec.specs.Fields.{fields_of, layout_of};
 ghost use Rattle.btf_strings.specs.Names.{own_section};
@@ -11,14 +12,17 @@ use crate::fault::TableFault;
 use btf_strings::Strings;
 use c_model::CType;
 
-/// Counts the bytes of own types and own strings. `TableTooLong` comes where a header can't say so many.
+/// Counts the bytes of own types and own strings. `TableTooLong` comes where a header can't say so
+/// many.
 pub fn check_length(types: &[CType<'_>], strings: &Strings<'_>) -> Result<(), TableFault>
     requires few { length types.now < 2 ^ 20 }
     requires formed { All IsWellFormed types.now }
-    ensures accepted { OnOk result (4 * length (flat_map fields_of types.now) + length (own_section strings.now) < 2 ^ 32) }
+    ensures accepted { OnOk result
+        (4 * length (flat_map fields_of types.now) + length (own_section strings.now) < 2 ^ 32) }
     ensures refusal { IfErr result (λ e.
         (2 ^ 32 ≤ 4 * length (flat_map fields_of types.now) + length (own_section strings.now))
-        × (e ≡ TableTooLong (4 * length (flat_map fields_of types.now) + length (own_section strings.now)))) }
+        × (e ≡ TableTooLong
+        (4 * length (flat_map fields_of types.now) + length (own_section strings.now)))) }
 {
     let bytes = 4 * word_count(types) + strings.bytes().len() as u64;
     if bytes > u64::from(u32::MAX) {

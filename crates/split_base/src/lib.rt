@@ -1,9 +1,9 @@
-//! The table of a partition: how the types of files, merged by classes, become the types of a BTF table, beside
-//! the types of a base.
+//! The table of a partition: how the types of files, merged by classes, become the types of a BTF
+//! table, beside the types of a base.
 //!
-//! A base is a table of types that the files' types may be of one class with: a module's types and those of the
-//! kernel that it is loaded into. Its types come first in the graph, as base nodes, so that a class with base
-//! nodes has a base node as its first node, and keeps its id.
+//! A base is a table of types that the files' types may be of one class with: a module's types and
+//! those of the kernel that it is loaded into. Its types come first in the graph, as base nodes, so
+//! that a class with base nodes has a base node as its first node, and keeps its id.
 #![tactic(auto)]
 
 pub mod fault;

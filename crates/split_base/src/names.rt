@@ -13,8 +13,8 @@ use c_model::CType;
 use dw_base::Name;
 use std::alloc::Global;
 
-/// The strings of the names of own types, over the base's section, where there is one. `NamesTooLong` comes at the
-/// first name that would get an offset past the last.
+/// The strings of the names of own types, over the base's section, where there is one.
+/// `NamesTooLong` comes at the first name that would get an offset past the last.
 pub fn put_names<'a>(
     alloc: Global,
     base: Option<&'a [u8]>,

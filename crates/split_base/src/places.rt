@@ -26,7 +26,8 @@ pub fn places_of<'a, G: TypeGraph<'a>>(
 ) -> Result<Places, AllocError>
     requires { length classes.now ≡ length (G.shape graph.now).nodes }
     ensures nodes { IfOk result (λ s. s.nodes.items
-        ≡ map (place_of (G.shape graph.now) classes.now) (range_with_len 0 (length (G.shape graph.now).nodes))) }
+        ≡ map (place_of (G.shape graph.now) classes.now)
+        (range_with_len 0 (length (G.shape graph.now).nodes))) }
     ensures firsts { IfOk result (λ s. s.firsts.items ≡ own_firsts (G.shape graph.now) classes.now) }
 {
     let count = graph.len();
@@ -39,7 +40,8 @@ pub fn places_of<'a, G: TypeGraph<'a>>(
     Ok(Places { nodes, firsts })
 }
 
-/// The place of the class of a node. `known` has the places of the classes of the nodes before it, by class number.
+/// The place of the class of a node. `known` has the places of the classes of the nodes before it,
+/// by class number.
 fn class_place<'a, G: TypeGraph<'a>>(
     graph: &G,
     classes: &Classes,
@@ -50,7 +52,8 @@ fn class_place<'a, G: TypeGraph<'a>>(
     requires covers { length classes.now ≡ length (G.shape graph.now).nodes }
     requires node { x < length (G.shape graph.now).nodes }
     requires before { IsPlaced (G.shape graph.now) classes.now x (get nat_eq known.old) firsts.old.items }
-    ensures after { OnOk result (IsPlaced (G.shape graph.now) classes.now (x + 1) (get nat_eq known.new) firsts.new.items) }
+    ensures after { OnOk result
+        (IsPlaced (G.shape graph.now) classes.now (x + 1) (get nat_eq known.new) firsts.new.items) }
     ensures place { IfOk result (λ place. place ≡ place_of (G.shape graph.now) classes.now x) }
 {
     let number = classes.of(x);

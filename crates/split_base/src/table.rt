@@ -1,5 +1,6 @@
 //! The table of a partition.
-ghost use Rattle.std.specs.Prelude.{◌≡◌, ◌<◌, ◌≤◌, ◌+◌, ◌*◌, ◌^◌, ◌⊎◌, None, Some, All, drop, length, IfOk, IfErr, IfSome, OnOk};
+ghost use Rattle.std.specs.Prelude.{◌≡◌, ◌<◌, ◌≤◌, ◌+◌, ◌*◌, ◌^◌, ◌⊎◌, None, Some, All, drop};
+ghost use Rattle.std.specs.Prelude.{length, IfOk, IfErr, IfSome, OnOk};
 ghost use Rattle.std.specs.List.{flat_map};
 ghost use Rattle.std.specs.Option.{option_copied};
 ghost use Rattle.btf_codec.specs.Fields.{fields_of};
@@ -25,18 +26,21 @@ use std::alloc::Global;
 /// The last id of a table.
 const LAST_ID: u64 = 0x000f_ffff;
 
-/// The table of a partition of a graph's nodes: the base's types as they are, and then one type for each class
-/// without base nodes, in the order of the classes' first nodes. Such a type has the label of its class's first node
-/// that is no forward, or of its first node if all are, and its targets are the types of their classes. The names of
-/// the own types are put in id order, a type's name before those of its parts, over the base's string section
+/// The table of a partition of a graph's nodes: the base's types as they are, and then one type for
+/// each class without base nodes, in the order of the classes' first nodes. Such a type has the
+/// label of its class's first node that is no forward, or of its first node if all are, and its
+/// targets are the types of their classes. The names of the own types are put in id order, a type's
+/// name before those of its parts, over the base's string section
 /// `base_names`, where there is one.
 ///
-/// The graph may be kept in any way. Its labels that become those of types are copied; their names are borrowed.
+/// The graph may be kept in any way. Its labels that become those of types are copied; their names
+/// are borrowed.
 ///
-/// It is refused by `TooManyTypes`, with the number of types, exactly where there are more than 0x000fffff; else by
-/// `NamesTooLong`, with the offset, at the first name that would get one past 0x00ffffff; else by `TableTooLong`, with
-/// the number of bytes, exactly where the own types and the own strings take more than 2^32 - 1 bytes. It is never
-/// refused by `NodesTooMany`.
+/// It is refused by `TooManyTypes`, with the number of types, exactly where there are more than
+/// 0x000fffff; else by
+/// `NamesTooLong`, with the offset, at the first name that would get one past 0x00ffffff; else by
+/// `TableTooLong`, with the number of bytes, exactly where the own types and the own strings take
+/// more than 2^32 - 1 bytes. It is never refused by `NodesTooMany`.
 pub fn build<'a, G: TypeGraph<'a>>(
     alloc: Global,
     graph: &G,
@@ -49,7 +53,8 @@ pub fn build<'a, G: TypeGraph<'a>>(
     ensures base { IfOk result (λ t. t.base ≡ (G.shape graph.now).base) }
     ensures table { IfOk result (λ t. t.types ≡ table_of (G.shape graph.now) classes.now) }
     ensures own { IfOk result (λ t. drop t.base t.types ≡ own_types (G.shape graph.now) classes.now) }
-    ensures strings { IfOk result (λ t. t.strings ≡ strings_of (option_copied base_names.entry) (own_types (G.shape graph.now) classes.now)) }
+    ensures strings { IfOk result (λ t. t.strings
+        ≡ strings_of (option_copied base_names.entry) (own_types (G.shape graph.now) classes.now)) }
     // What can be written.
     ensures few { IfOk result (λ t. length t.types < 2 ^ 32) }
     ensures fits { IfOk result (λ t. t.base ≤ length t.types) }
@@ -58,9 +63,11 @@ pub fn build<'a, G: TypeGraph<'a>>(
     ensures length { IfOk result (λ t. 4 * length (flat_map fields_of (drop t.base t.types))
         + length (own_section t.strings) < 2 ^ 32) }
     ensures formed { IfOk result (λ t. All IsWellFormed (drop t.base t.types)) }
-    ensures accepted { OnOk result (table_refusal (option_copied base_names.entry) (G.shape graph.now) classes.now ≡ None) }
+    ensures accepted { OnOk result
+        (table_refusal (option_copied base_names.entry) (G.shape graph.now) classes.now ≡ None) }
     ensures refusal { IfErr result (λ e. (e ≡ Memory)
-        ⊎ (table_refusal (option_copied base_names.entry) (G.shape graph.now) classes.now ≡ Some e)) }
+        ⊎ (table_refusal (option_copied base_names.entry) (G.shape graph.now) classes.now
+        ≡ Some e)) }
 {
     let base = graph.base();
     let types = table_types(alloc, graph, classes)?;

@@ -358,7 +358,8 @@ fn types_beside_a_base(rt: HostRuntime) -> Result<(), Fail> {
     let table = made(alloc, 2, Some(b"\0foo\0"), nodes_made, &[0, 1, 2, 3, 4])?;
     assert!(rt; has_own(&table, &nodes[2..], b"int\0x\0"));
 
-    // The base's own definitions of `foo` are different types, so that the file's forward is the base's.
+    // The base's own definitions of `foo` are different types, so that the file's forward is the
+    // base's.
     let nodes = [
         typed(4, b"foo", 4, 0, &[]),
         typed(4, b"foo", 8, 0, &[]),

@@ -1,5 +1,6 @@
 //! The types of a table.
-ghost use Rattle.std.specs.Prelude.{◌≡◌, ◌<◌, ◌≤◌, ◌+◌, ◌++◌, Some, All, length, map, slice_index, slice_get, take, filter_map, IfOk};
+ghost use Rattle.std.specs.Prelude.{◌≡◌, ◌<◌, ◌≤◌, ◌+◌, ◌++◌, Some, All, length, map, slice_index};
+ghost use Rattle.std.specs.Prelude.{slice_get, take, filter_map, IfOk};
 ghost use Rattle.c_model.specs.Graph.{IsBelow};
 ghost use Rattle.c_model.specs.Partition.{targets_at};
 ghost use Rattle.split_base.specs.Building.{type_by};
@@ -8,7 +9,8 @@ ghost use Rattle.split_base.specs.Table.{renamed};
 use c_model::{CType, Ref, Refs, TypeGraph, copy_of_label};
 use std::alloc::{AllocError, Global};
 
-/// The base's types as they are, and behind them a type for each source, by the places of the classes of all nodes.
+/// The base's types as they are, and behind them a type for each source, by the places of the
+/// classes of all nodes.
 pub fn types_of<'a, G: TypeGraph<'a>>(
     alloc: Global,
     graph: &G,

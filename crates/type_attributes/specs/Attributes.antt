@@ -1,8 +1,11 @@
--- Attributes that a row asks for: what they say, and their refusals. Of two attributes of one name the first counts.
-use Rattle.std.specs.Prelude.{ℕ, ℤ, Bool, false, is_some, List, [], ◌∷◌, Option, None, Some, Result, Ok, Err}
+-- Attributes that a row asks for: what they say, and their refusals. Of two attributes of one name
+-- the first counts.
+use Rattle.std.specs.Prelude.{ℕ, ℤ, Bool, false, is_some, List, [], ◌∷◌, Option, None, Some, Result}
+use Rattle.std.specs.Prelude.{Ok, Err}
 use Rattle.std.specs.Option.{option_map}
 use Rattle.dwarf_forms.specs.declared.fault.FormFault.{FormFault}
-use Rattle.dwarf_forms.specs.Meanings.{Sections, name_in, constant_in, flag_in, target_in, offset_in}
+use Rattle.dwarf_forms.specs.Meanings.{Sections, name_in, constant_in, flag_in, target_in}
+use Rattle.dwarf_forms.specs.Meanings.{offset_in}
 use Rattle.entry_tree.specs.Items.{Given}
 use Rattle.entry_tree.specs.Reads.{value_with}
 use Rattle.type_attributes.specs.declared.fault.TypeFault.{TypeFault}
@@ -27,7 +30,8 @@ has attribute e = is_some (value_with attribute e.values)
 
 -- a constant
 abbrev pub constant_asked : ℕ → Given → Asked ℤ
-constant_asked attribute e = asked e.at (option_map (constant_in attribute) (value_with attribute e.values))
+constant_asked attribute e =
+    asked e.at (option_map (constant_in attribute) (value_with attribute e.values))
 
 abbrev pub number_said : Asked ℤ → Option Number
 number_said a = option_map number_from a.said
@@ -45,7 +49,8 @@ is_set a = set_by a.said
 
 -- a text, which is read as a name
 abbrev pub text_asked : ℕ → Sections → Given → Asked (List ℕ)
-text_asked attribute c e = asked e.at (option_map (name_in c attribute) (value_with attribute e.values))
+text_asked attribute c e =
+    asked e.at (option_map (name_in c attribute) (value_with attribute e.values))
 
 -- the name (0x03); an empty one counts as none
 abbrev pub name_asked : Sections → Given → Asked (List ℕ)
@@ -71,4 +76,5 @@ target_of_type from a = referred from a.said
 
 -- the offset of a member
 abbrev pub offset_asked : ℕ → Given → Asked (Option ℤ)
-offset_asked attribute e = asked e.at (option_map (offset_in attribute) (value_with attribute e.values))
+offset_asked attribute e =
+    asked e.at (option_map (offset_in attribute) (value_with attribute e.values))

@@ -1,6 +1,8 @@
--- Base types (DWARF 5, section 5.1) and unspecified types (5.2): an INT where the encoding and the size are those of an integer, a FLOAT where
+-- Base types (DWARF 5, section 5.1) and unspecified types (5.2): an INT where the encoding and the
+-- size are those of an integer, a FLOAT where
 -- they are those of a floating number, and else a structure of the name and size without members.
-use Rattle.std.specs.Prelude.{ℕ, ◌+◌, ◌*◌, ◌^◌, ◌==◌, ◌&&◌, ◌||◌, Bool, true, false, List, [], ◌++◌, Option, None, Some, if◌then◌else◌}
+use Rattle.std.specs.Prelude.{ℕ, ◌+◌, ◌*◌, ◌^◌, ◌==◌, ◌&&◌, ◌||◌, Bool, true, false, List, [], ◌++◌}
+use Rattle.std.specs.Prelude.{Option, None, Some, if◌then◌else◌}
 use Rattle.c_model.specs.declared.label.Label.{Label}
 use Rattle.dwarf_forms.specs.Meanings.{Sections}
 use Rattle.entry_tree.specs.Items.{Given}
@@ -24,13 +26,15 @@ is_float size = size == 2 || size == 4 || size == 8 || size == 12 || size == 16
 abbrev pub int_word : ℕ → ℕ → ℕ
 int_word encoding size = encoding * 2 ^ 24 + 8 * size
 
--- the encodings (section 7.8): boolean 2, float 4, signed 5, signed_char 6, unsigned 7, unsigned_char 8, UTF 16
+-- the encodings (section 7.8): boolean 2, float 4, signed 5, signed_char 6, unsigned 7,
+-- unsigned_char 8, UTF 16
 abbrev pub base_of : ℕ → ℕ → Base
 base_of size encoding =
     if encoding == 2 && is_integer size then Int (int_word 4 size)
     else if encoding == 4 && is_float size then Float
     else if (encoding == 5 || encoding == 6) && is_integer size then Int (int_word 1 size)
-    else if (encoding == 7 || encoding == 8 || encoding == 16) && is_integer size then Int (int_word 0 size)
+    else if (encoding == 7 || encoding == 8 || encoding == 16) && is_integer size
+    then Int (int_word 0 size)
     else Opaque
 
 -- one without encoding has none of these
@@ -45,10 +49,12 @@ is_whole size (Some (Natural n)) = n == 8 * size
 is_whole size (Some (Negative n)) = false
 
 abbrev pub base_with : ℕ → Option Number → Option Number → Base
-base_with size encoding bits = if is_whole size bits then base_of size (code_in encoding) else Opaque
+base_with size encoding bits =
+    if is_whole size bits then base_of size (code_in encoding) else Opaque
 
 abbrev pub base_label : List ℕ → ℕ → Base → Label
-base_label name size (Int extra) = record { kind = 1; name = name; flag = false; size = size; extra = extra; parts = [] }
+base_label name size (Int extra) =
+    record { kind = 1; name = name; flag = false; size = size; extra = extra; parts = [] }
 base_label name size Float = plain_label 16 name size
 base_label name size Opaque = plain_label 4 name size
 
@@ -59,10 +65,16 @@ base_row c e =
     let encoding = constant_asked 0x3e e in
     let bits = constant_asked 0x0d e in
     record {
-      made = type_of e (base_label (name_in_full name) (size_in size.said) (base_with (size_in size.said) (number_said encoding) (number_said bits))) [];
-      refused = name.refused ++ (refuse_if (is_empty (name_in_full name)) (MissingName e.at) ++ (size.refused ++ (size_refused e.at size.said ++ (encoding.refused ++ bits.refused))));
+      made = type_of e (base_label (name_in_full name) (size_in size.said)
+          (base_with (size_in size.said) (number_said encoding) (number_said bits))) [];
+      refused = name.refused ++ (refuse_if (is_empty (name_in_full name)) (MissingName e.at)
+          ++ (size.refused ++ (size_refused e.at size.said ++ (encoding.refused ++ bits.refused))));
     }
 
 -- an unspecified type is a structure of its name, if it has one, without members
 abbrev pub unspecified_row : Sections → Given → Row
-unspecified_row c e = record { made = type_of e (plain_label 4 (name_in_full (name_asked c e)) 0) []; refused = (name_asked c e).refused }
+unspecified_row c e = record {
+  made = type_of e (plain_label 4 (name_in_full (name_asked c e)) 0)
+      [];
+  refused = (name_asked c e).refused;
+}

@@ -1,11 +1,14 @@
--- The direct children of an entry: those one deeper among the entries after it, up to the first that is not deeper.
-use Rattle.std.specs.Prelude.{ℕ, ◌≡◌, ◌-◌, ◌==◌, nat_le, List, [], ◌∷◌, Option, None, Some, if◌then◌else◌}
+-- The direct children of an entry: those one deeper among the entries after it, up to the first
+-- that is not deeper.
+use Rattle.std.specs.Prelude.{ℕ, ◌≡◌, ◌-◌, ◌==◌, nat_le, List, [], ◌∷◌, Option, None, Some}
+use Rattle.std.specs.Prelude.{if◌then◌else◌}
 use Rattle.entry_tree.specs.Items.{Given}
 
 abbrev pub children_of : ℕ → List Given → List Given
 children_of depth [] = []
 children_of depth (e ∷ es) =
-    if nat_le e.depth depth then [] else (if e.depth - depth == 1 then e ∷ children_of depth es else children_of depth es)
+    if nat_le e.depth depth then []
+    else (if e.depth - depth == 1 then e ∷ children_of depth es else children_of depth es)
 
 -- one child is taken, or there is none
 abbrev pub Takes : List Given → List Given → Option Given → Type 0

@@ -1,6 +1,9 @@
--- How many bytes the objects of a type have, as far as the storage of a bit field needs it (DWARF 4, section 5.5.6): a type says so by its
--- byte_size (0x0b), and a typedef, const, volatile, restrict or atomic type without one has the size of the type that it names.
-use Rattle.std.specs.Prelude.{ℕ, zero, suc, ◌==◌, ◌||◌, Bool, List, [], ◌∷◌, Option, None, Some, if◌then◌else◌}
+-- How many bytes the objects of a type have, as far as the storage of a bit field needs it (DWARF
+-- 4, section 5.5.6): a type says so by its
+-- byte_size (0x0b), and a typedef, const, volatile, restrict or atomic type without one has the
+-- size of the type that it names.
+use Rattle.std.specs.Prelude.{ℕ, zero, suc, ◌==◌, ◌||◌, Bool, List, [], ◌∷◌, Option, None, Some}
+use Rattle.std.specs.Prelude.{if◌then◌else◌}
 use Rattle.dwarf_forms.specs.Meanings.{Sections}
 use Rattle.entry_tree.specs.Items.{Given}
 use Rattle.type_attributes.specs.declared.number.Number.{Number}
@@ -43,4 +46,5 @@ most_followed = 64
 
 -- of the type at a place of a unit
 abbrev pub bytes_at : Scope → ℕ → Option Number
-bytes_at s at = bytes_after (extent_at s.sections s.entries) most_followed (extent_at s.sections s.entries at)
+bytes_at s at =
+    bytes_after (extent_at s.sections s.entries) most_followed (extent_at s.sections s.entries at)

@@ -1,10 +1,19 @@
--- Which of the refusals of a unit's types is the first: by the place of the entry, then the number, then what is kept.
-use Rattle.std.specs.Prelude.{ℕ, Bool, ◌≡◌, ◌<◌, ◌≤◌, ◌⊎◌, nat_lt, ◌==◌, List, [], ◌∷◌, All, Option, None, Some, if◌then◌else◌}
+-- Which of the refusals of a unit's types is the first: by the place of the entry, then the number,
+-- then what is kept.
+use Rattle.std.specs.Prelude.{ℕ, Bool, ◌≡◌, ◌<◌, ◌≤◌, ◌⊎◌, nat_lt, ◌==◌, List, [], ◌∷◌, All, Option}
+use Rattle.std.specs.Prelude.{None, Some, if◌then◌else◌}
 use Rattle.std.specs.List.{Contains}
 use Rattle.dwarf_forms.specs.declared.fault.FormFault.{FormFault}
-use Rattle.dwarf_forms.specs.declared.fault.FormFault.TheVariants.{LebWide, FormUnknown, ValueTruncated, StringOut, StrxOut, AltForm, WrongClass}
+use Rattle.dwarf_forms.specs.declared.fault.FormFault.TheVariants.{LebWide, FormUnknown}
+use Rattle.dwarf_forms.specs.declared.fault.FormFault.TheVariants.{ValueTruncated, StringOut}
+use Rattle.dwarf_forms.specs.declared.fault.FormFault.TheVariants.{StrxOut, AltForm, WrongClass}
 use Rattle.type_attributes.specs.declared.fault.TypeFault.{TypeFault}
-use Rattle.type_attributes.specs.declared.fault.TypeFault.TheVariants.{Form, MissingName, MissingSize, MissingType, UnnamedForward, MemberPlace, BitSize, MemberFar, TooMany, ArrayLength, EnumSize, EnumValue, SizeLarge}
+use Rattle.type_attributes.specs.declared.fault.TypeFault.TheVariants.{Form, MissingName}
+use Rattle.type_attributes.specs.declared.fault.TypeFault.TheVariants.{MissingSize, MissingType}
+use Rattle.type_attributes.specs.declared.fault.TypeFault.TheVariants.{UnnamedForward, MemberPlace}
+use Rattle.type_attributes.specs.declared.fault.TypeFault.TheVariants.{BitSize, MemberFar, TooMany}
+use Rattle.type_attributes.specs.declared.fault.TypeFault.TheVariants.{ArrayLength, EnumSize}
+use Rattle.type_attributes.specs.declared.fault.TypeFault.TheVariants.{EnumValue, SizeLarge}
 use Rattle.type_attributes.specs.declared.fault.Rank.{Rank}
 
 -- a place, a number and what is kept
@@ -20,7 +29,8 @@ form_rank at (StrxOut i) = ranked at 43 i 0
 form_rank at (AltForm f) = ranked at 44 f 0
 form_rank at (WrongClass a f) = ranked at 46 a f
 
--- the refusals of values alone come twice at one entry with one number, so what the others keep decides nothing
+-- the refusals of values alone come twice at one entry with one number, so what the others keep
+-- decides nothing
 abbrev pub rank_of : TypeFault → Rank
 rank_of (Form at f) = form_rank at f
 rank_of (MissingName at) = ranked at 60 0 0
@@ -77,7 +87,8 @@ ThenBy a b rest = (a < b) ⊎ ((a ≡ b) × rest)
 
 -- by place, number and what is kept the first comes before the second, or they are equal
 abbrev pub IsNotAfter : Rank → Rank → Type 0
-IsNotAfter a b = ThenBy a.at b.at (ThenBy a.number b.number (ThenBy a.kept b.kept (a.more ≤ b.more)))
+IsNotAfter a b =
+    ThenBy a.at b.at (ThenBy a.number b.number (ThenBy a.kept b.kept (a.more ≤ b.more)))
 
 -- one of some refusals, after none of which it comes
 abbrev pub IsFirstAmong : List TypeFault → TypeFault → Type 0

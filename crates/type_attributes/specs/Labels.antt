@@ -1,5 +1,6 @@
 -- What the rows of all tags share: labels, sizes, and a row itself.
-use Rattle.std.specs.Prelude.{ℕ, ℤ, pos, negsuc, ◌^◌, nat_lt, Bool, true, false, not, List, [], ◌∷◌, Option, None, Some, if◌then◌else◌}
+use Rattle.std.specs.Prelude.{ℕ, ℤ, pos, negsuc, ◌^◌, nat_lt, Bool, true, false, not, List, [], ◌∷◌}
+use Rattle.std.specs.Prelude.{Option, None, Some, if◌then◌else◌}
 use Rattle.c_model.specs.declared.label.Label.{Label}
 use Rattle.entry_tree.specs.Items.{Given}
 use Rattle.type_attributes.specs.declared.source.SourceType.{SourceType}
@@ -18,7 +19,8 @@ type_of e label targets = record { at = e.at; label = label; targets = targets }
 
 -- a label without flag, extra and parts
 abbrev pub plain_label : ℕ → List ℕ → ℕ → Label
-plain_label kind name size = record { kind = kind; name = name; flag = false; size = size; extra = 0; parts = [] }
+plain_label kind name size =
+    record { kind = kind; name = name; flag = false; size = size; extra = 0; parts = [] }
 
 abbrev pub is_empty : List ℕ → Bool
 is_empty [] = true

@@ -1,5 +1,6 @@
 -- The places of members in bits (DWARF 5, section 5.7.6; DWARF 4, section 5.5.6).
-use Rattle.std.specs.Prelude.{ℕ, ◌*◌, ℤ, pos, ◌+ℤ◌, ◌-ℤ◌, ◌*ℤ◌, ◌==◌, ◌&&◌, not, Bool, true, false, List, [], ◌∷◌, ◌++◌, Option, None, Some, if◌then◌else◌}
+use Rattle.std.specs.Prelude.{ℕ, ◌*◌, ℤ, pos, ◌+ℤ◌, ◌-ℤ◌, ◌*ℤ◌, ◌==◌, ◌&&◌, not, Bool, true, false}
+use Rattle.std.specs.Prelude.{List, [], ◌∷◌, ◌++◌, Option, None, Some, if◌then◌else◌}
 use Rattle.dw_base.specs.declared.numbers.Order.{Order}
 use Rattle.dw_base.specs.declared.numbers.Order.TheVariants.{Little, Big}
 use Rattle.entry_tree.specs.Items.{Given}
@@ -9,7 +10,8 @@ use Rattle.type_attributes.specs.declared.fault.TypeFault.{TypeFault}
 use Rattle.type_attributes.specs.declared.fault.TypeFault.TheVariants.{MemberPlace}
 use Rattle.type_attributes.specs.Scopes.{Scope}
 use Rattle.type_attributes.specs.Numbers.{number_from, integer}
-use Rattle.type_attributes.specs.Attributes.{Asked, has, constant_asked, number_said, offset_asked, target_asked}
+use Rattle.type_attributes.specs.Attributes.{Asked, has, constant_asked, number_said, offset_asked}
+use Rattle.type_attributes.specs.Attributes.{target_asked}
 use Rattle.type_attributes.specs.Extents.{bytes_at}
 
 -- a place in bits: a natural number of units of so many bits
@@ -31,12 +33,15 @@ placed_by_bytes at given (Some (Some z)) = placed at 8 (number_from z)
 abbrev pub after : List TypeFault → Asked ℕ → Asked ℕ
 after refused a = record { said = a.said; refused = refused ++ a.refused }
 
--- in a unit of version 4 a bit field with a bit_offset (0x0c) stands in a storage: its first bit is so many bits behind the storage's most
--- significant bit, which is the first one in a big-endian file and the last one in a little-endian file
+-- in a unit of version 4 a bit field with a bit_offset (0x0c) stands in a storage: its first bit is
+-- so many bits behind the storage's most
+-- significant bit, which is the first one in a big-endian file and the last one in a little-endian
+-- file
 abbrev pub is_stored : Scope → Given → Bool
 is_stored s m = has 0x0d m && (has 0x0c m && s.version == 4)
 
--- the bytes before the storage: the data_member_location (0x38), 0 without one; none where it is computed at run time
+-- the bytes before the storage: the data_member_location (0x38), 0 without one; none where it is
+-- computed at run time
 abbrev pub offset_number : Option (Option ℤ) → Option Number
 offset_number (Some (Some z)) = Some (number_from z)
 offset_number other = None
@@ -50,7 +55,8 @@ bytes_of_type s None = None
 bytes_of_type s (Some at) = bytes_at s at
 
 abbrev pub storage_in : Scope → Given → Option Number
-storage_in s m = if has 0x0b m then number_said (constant_asked 0x0b m) else bytes_of_type s (target_asked s.sections m).said
+storage_in s m = if has 0x0b m then number_said (constant_asked 0x0b m)
+    else bytes_of_type s (target_asked s.sections m).said
 
 abbrev pub eightfold : Number → ℤ
 eightfold n = pos 8 *ℤ integer n
@@ -60,15 +66,19 @@ abbrev pub first_bit_big : Option Number → Option Number → Option ℤ
 first_bit_big (Some location) (Some offset) = Some (eightfold location +ℤ integer offset)
 first_bit_big location offset = None
 
-abbrev pub first_bit_little : Option Number → Option Number → Option Number → Option Number → Option ℤ
-first_bit_little (Some location) (Some storage) (Some offset) (Some size) = Some (((eightfold location +ℤ eightfold storage) -ℤ integer offset) -ℤ integer size)
+abbrev pub first_bit_little : Option Number → Option Number → Option Number → Option Number
+    → Option ℤ
+first_bit_little (Some location) (Some storage) (Some offset) (Some size) =
+    Some (((eightfold location +ℤ eightfold storage) -ℤ integer offset) -ℤ integer size)
 first_bit_little location storage offset size = None
 
 abbrev pub first_bit : Order → Scope → Given → Option ℤ
 first_bit Big s m = first_bit_big (location_in m) (number_said (constant_asked 0x0c m))
-first_bit Little s m = first_bit_little (location_in m) (storage_in s m) (number_said (constant_asked 0x0c m)) (number_said (constant_asked 0x0d m))
+first_bit Little s m = first_bit_little (location_in m) (storage_in s m)
+    (number_said (constant_asked 0x0c m)) (number_said (constant_asked 0x0d m))
 
--- it is refused where it is not known or lies before the structure; a value of the wrong class is refused before that
+-- it is refused where it is not known or lies before the structure; a value of the wrong class is
+-- refused before that
 abbrev pub counted : ℕ → Option ℤ → Asked ℕ
 counted at (Some (pos n)) = record { said = Some n; refused = [] }
 counted at other = record { said = None; refused = MemberPlace at ∷ [] }
@@ -79,16 +89,20 @@ storage_refused Little m = (constant_asked 0x0b m).refused
 
 abbrev pub stored_position : Scope → Given → Asked ℕ
 stored_position s m =
-    after ((offset_asked 0x38 m).refused ++ ((constant_asked 0x0c m).refused ++ storage_refused s.sections.order m)) (counted m.at (first_bit s.sections.order s m))
+    after ((offset_asked 0x38 m).refused ++ ((constant_asked 0x0c m).refused
+    ++ storage_refused s.sections.order m)) (counted m.at (first_bit s.sections.order s m))
 
--- the bit position of a member: its data_bit_offset (0x6b), if it has one, else that in its storage, if it has one, else 8 times its location
+-- the bit position of a member: its data_bit_offset (0x6b), if it has one, else that in its
+-- storage, if it has one, else 8 times its location
 abbrev pub position_of : Scope → Given → Asked ℕ
 position_of s m =
     if has 0x6b m
-    then after (constant_asked 0x6b m).refused (placed_by_bits m.at (number_said (constant_asked 0x6b m)))
+    then after (constant_asked 0x6b m).refused
+    (placed_by_bits m.at (number_said (constant_asked 0x6b m)))
     else (if is_stored s m
     then stored_position s m
-    else after (offset_asked 0x38 m).refused (placed_by_bytes m.at (has 0x38 m) (offset_asked 0x38 m).said))
+    else after (offset_asked 0x38 m).refused
+    (placed_by_bytes m.at (has 0x38 m) (offset_asked 0x38 m).said))
 
 -- whether the extent of another entry is needed
 abbrev pub is_little : Order → Bool
@@ -96,4 +110,5 @@ is_little Little = true
 is_little Big = false
 
 abbrev pub needs_extents : Scope → Given → Bool
-needs_extents s m = m.tag == 0x0d && (is_stored s m && (not (has 0x6b m) && (not (has 0x0b m) && is_little s.sections.order)))
+needs_extents s m = m.tag == 0x0d
+    && (is_stored s m && (not (has 0x6b m) && (not (has 0x0b m) && is_little s.sections.order)))

@@ -15,7 +15,10 @@ atomic_name = 95 ∷ 65 ∷ 116 ∷ 111 ∷ 109 ∷ 105 ∷ 99 ∷ []
 abbrev pub reference_row : ℕ → List ℕ → Sections → Given → Row
 reference_row kind name c e =
     let target = target_asked c e in
-    record { made = type_of e (plain_label kind name 0) (target_of_type e.at target ∷ []); refused = target.refused }
+    record {
+      made = type_of e (plain_label kind name 0) (target_of_type e.at target ∷ []);
+      refused = target.refused;
+    }
 
 -- a typedef has a name
 abbrev pub typedef_row : Sections → Given → Row
@@ -24,5 +27,6 @@ typedef_row c e =
     let target = target_asked c e in
     record {
       made = type_of e (plain_label 8 (name_in_full name) 0) (target_of_type e.at target ∷ []);
-      refused = name.refused ++ (refuse_if (is_empty (name_in_full name)) (MissingName e.at) ++ target.refused);
+      refused = name.refused
+          ++ (refuse_if (is_empty (name_in_full name)) (MissingName e.at) ++ target.refused);
     }

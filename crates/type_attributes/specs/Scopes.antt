@@ -1,4 +1,5 @@
--- What the types of a unit are read in: its sections, the version of its header, and all its entries.
+-- What the types of a unit are read in: its sections, the version of its header, and all its
+-- entries.
 use Rattle.std.specs.Prelude.{ℕ, List}
 use Rattle.dwarf_abbrev.specs.Declarations.{Declaration}
 use Rattle.dwarf_forms.specs.Meanings.{Sections, sections}
@@ -13,7 +14,8 @@ pub record Scope : Type 0 where
   pub version : ℕ
   pub entries : List Given
 
--- of a unit of a file, given its abbreviations and where its indices into .debug_str_offsets count from
+-- of a unit of a file, given its abbreviations and where its indices into .debug_str_offsets count
+-- from
 abbrev pub scope_of : List ℕ → Unit → List Declaration → ℕ → Scope
 scope_of file unit declarations str_base =
     record {

@@ -6,7 +6,9 @@ ghost use Rattle.dwarf_forms.specs.Meanings.{sections, Fits64};
 ghost use Rattle.entry_tree.specs.Reads.{value_with};
 ghost use Rattle.entry_tree.specs.Walks.{given_entry};
 ghost use Rattle.type_attributes.specs.Faults.{noted};
-ghost use Rattle.type_attributes.specs.Attributes.{has, text_asked, name_asked, name_in_full, constant_asked, number_said, flag_asked, is_set, target_asked, target_of_type, offset_asked};
+ghost use Rattle.type_attributes.specs.Attributes.{has, text_asked, name_asked, name_in_full};
+ghost use Rattle.type_attributes.specs.Attributes.{constant_asked, number_said, flag_asked, is_set};
+ghost use Rattle.type_attributes.specs.Attributes.{target_asked, target_of_type, offset_asked};
 
 use crate::fault::{TypeFault, note};
 use crate::number::{Number, by_sign};
@@ -81,7 +83,8 @@ pub fn text<'a>(
 ) -> Name<'a>
     requires { IsContext ctx.now }
     ensures said { result ≡ name_in_full (text_asked name (sections ctx.now) (given_entry entry.now)) }
-    ensures noted { least.new ≡ noted least.old (text_asked name (sections ctx.now) (given_entry entry.now)).refused }
+    ensures noted { least.new
+        ≡ noted least.old (text_asked name (sections ctx.now) (given_entry entry.now)).refused }
 {
     match attribute(entry, name) {
         None => Name::new(&[]),
@@ -99,7 +102,8 @@ pub fn text<'a>(
 pub fn name<'a>(ctx: &FormCtx<'a>, entry: &Entry<'_, 'a>, least: &mut Option<TypeFault>) -> Name<'a>
     requires { IsContext ctx.now }
     ensures said { result ≡ name_in_full (name_asked (sections ctx.now) (given_entry entry.now)) }
-    ensures noted { least.new ≡ noted least.old (name_asked (sections ctx.now) (given_entry entry.now)).refused }
+    ensures noted { least.new
+        ≡ noted least.old (name_asked (sections ctx.now) (given_entry entry.now)).refused }
 {
     text(ctx, entry, DW_AT_name, least)
 }
@@ -110,8 +114,10 @@ pub fn type_target(
     entry: &Entry<'_, '_>,
     least: &mut Option<TypeFault>,
 ) -> Target
-    ensures said { result ≡ target_of_type (given_entry entry.now).at (target_asked (sections ctx.now) (given_entry entry.now)) }
-    ensures noted { least.new ≡ noted least.old (target_asked (sections ctx.now) (given_entry entry.now)).refused }
+    ensures said { result ≡ target_of_type (given_entry entry.now).at
+        (target_asked (sections ctx.now) (given_entry entry.now)) }
+    ensures noted { least.new
+        ≡ noted least.old (target_asked (sections ctx.now) (given_entry entry.now)).refused }
 {
     match attribute(entry, DW_AT_type) {
         None => Target::Void,

@@ -4,7 +4,8 @@ ghost use Rattle.dwarf_forms.specs.Values.{IsContext};
 ghost use Rattle.dwarf_forms.specs.Meanings.{sections};
 ghost use Rattle.entry_tree.specs.Walks.{given_entry};
 ghost use Rattle.type_attributes.specs.Faults.{noted};
-ghost use Rattle.type_attributes.specs.BaseTypes.{is_integer, is_float, base_of, code_in, is_whole, base_with, base_label, base_row, unspecified_row};
+ghost use Rattle.type_attributes.specs.BaseTypes.{is_integer, is_float, base_of, code_in, is_whole};
+ghost use Rattle.type_attributes.specs.BaseTypes.{base_with, base_label, base_row, unspecified_row};
 
 use crate::attributes::{constant, name, signed_constant};
 use crate::fault::{TypeFault, note_if};
@@ -115,7 +116,8 @@ pub fn base_type<'a>(
 ) -> SourceType<'a>
     requires { IsContext ctx.now }
     ensures made { result ≡ (base_row (sections ctx.now) (given_entry entry.now)).made }
-    ensures noted { least.new ≡ noted least.old (base_row (sections ctx.now) (given_entry entry.now)).refused }
+    ensures noted { least.new
+        ≡ noted least.old (base_row (sections ctx.now) (given_entry entry.now)).refused }
 {
     let name = name(ctx, entry, least);
     note_if(least, is_unnamed(&name), TypeFault::MissingName(entry.at));
@@ -140,7 +142,8 @@ pub fn unspecified_type<'a>(
 ) -> SourceType<'a>
     requires { IsContext ctx.now }
     ensures made { result ≡ (unspecified_row (sections ctx.now) (given_entry entry.now)).made }
-    ensures noted { least.new ≡ noted least.old (unspecified_row (sections ctx.now) (given_entry entry.now)).refused }
+    ensures noted { least.new
+        ≡ noted least.old (unspecified_row (sections ctx.now) (given_entry entry.now)).refused }
 {
     let name = name(ctx, entry, least);
     SourceType {

@@ -1,10 +1,12 @@
-//! How many bytes the objects of a unit's types have, as far as the storage of a bit field needs it (DWARF 4, section
+//! How many bytes the objects of a unit's types have, as far as the storage of a bit field needs it
+//! (DWARF 4, section
 //! 5.5.6).
 ghost use Rattle.std.specs.Prelude.{◌≡◌, ◌++◌, ◌<◌, OnOk, IfOk};
 ghost use Rattle.std.specs.List.Sorted.{IsNonDecreasingBy};
 ghost use Rattle.dwarf_forms.specs.Meanings.{sections};
 ghost use Rattle.entry_tree.specs.Walks.{given_entry};
-ghost use Rattle.type_attributes.specs.Extents.{stands_for_another, extent_of, bytes_after, most_followed};
+ghost use Rattle.type_attributes.specs.Extents.{stands_for_another, extent_of, bytes_after};
+ghost use Rattle.type_attributes.specs.Extents.{most_followed};
 ghost use Rattle.type_attributes.specs.Rows.{row_if, rows_of, extent_in};
 ghost use Rattle.type_attributes.specs.declared.extents.ExtentRow.{ExtentRow};
 

@@ -1,6 +1,7 @@
 //! Why the types of a unit are refused, and which of two refusals comes first.
 ghost use Rattle.std.specs.Prelude.{◌≡◌, [], ◌∷◌};
-ghost use Rattle.type_attributes.specs.Faults.{ranked, rank_of, form_rank, is_before, noted, refuse_if, joined};
+ghost use Rattle.type_attributes.specs.Faults.{ranked, rank_of, form_rank, is_before, noted};
+ghost use Rattle.type_attributes.specs.Faults.{refuse_if, joined};
 
 use dwarf_abbrev::AbbrevFault;
 use dwarf_forms::FormFault;
@@ -8,7 +9,8 @@ use entry_tree::WalkFault;
 use std::alloc::{AllocError, AllocFailed};
 use thiserror::Error;
 
-/// Why the types of a unit are refused. The first number is the offset in `.debug_info` of the entry.
+/// Why the types of a unit are refused. The first number is the offset in `.debug_info` of the
+/// entry.
 #[derive(Clone, Copy, Debug, PartialEq, Eq, Error)]
 pub enum TypeFault {
     /// The unit's abbreviations can't be read.
@@ -32,8 +34,9 @@ pub enum TypeFault {
     /// A declared structure, union or enumeration has no name.
     #[error("the declaration at {0} has no name")]
     UnnamedForward(u64),
-    /// The place of a member is negative or computed at run time; or it counts back from the end of a storage (DWARF 4,
-    /// section 5.5.6) whose size neither the member says nor its type, behind at most 64 types that stand for another.
+    /// The place of a member is negative or computed at run time; or it counts back from the end of
+    /// a storage (DWARF 4, section 5.5.6) whose size neither the member says nor its type, behind
+    /// at most 64 types that stand for another.
     #[error("the place of the member at {0} is not fixed")]
     MemberPlace(u64),
     /// The bit_size of a member is this one, and not 1 to 255.

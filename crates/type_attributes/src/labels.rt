@@ -2,7 +2,8 @@
 ghost use Rattle.std.specs.Prelude.{◌≡◌, [], ◌∷◌, IfOk, IfSome};
 ghost use Rattle.dwarf_forms.specs.Meanings.{Fits64};
 ghost use Rattle.type_attributes.specs.Faults.{noted};
-ghost use Rattle.type_attributes.specs.Labels.{plain_label, is_empty, fits_word, word_of, size_in, size_refused};
+ghost use Rattle.type_attributes.specs.Labels.{plain_label, is_empty, fits_word, word_of, size_in};
+ghost use Rattle.type_attributes.specs.Labels.{size_refused};
 
 use crate::fault::{TypeFault, note, note_if};
 use crate::number::{Number, by_sign};

@@ -1,5 +1,5 @@
-//! What entries say of the types of a unit (DWARF 5, sections 4 and 5): names, numbers, flags, references and members' places, what a type's
-//! label is made of, and types without children.
+//! What entries say of the types of a unit (DWARF 5, sections 4 and 5): names, numbers, flags,
+//! references and members' places, what a type's label is made of, and types without children.
 #![tactic(auto)]
 
 pub mod attributes;

@@ -1,12 +1,18 @@
 //! The places of members.
-ghost use Rattle.std.specs.Prelude.{◌≡◌, ◌≤◌, ◌<ℤ◌, ◌≤ℤ◌, ◌+ℤ◌, neg_ℤ, pos, ◌^◌, ◌++◌, OnOk, IfSome, false, true};
+ghost use Rattle.std.specs.Prelude.{◌≡◌, ◌≤◌, ◌<ℤ◌, ◌≤ℤ◌, ◌+ℤ◌, neg_ℤ, pos, ◌^◌, ◌++◌, OnOk};
+ghost use Rattle.std.specs.Prelude.{IfSome, false, true};
 ghost use Rattle.dwarf_forms.specs.Meanings.{Fits64};
 ghost use Rattle.entry_tree.specs.Rising.{Rises};
 ghost use Rattle.entry_tree.specs.Walks.{given_entry};
 ghost use Rattle.type_attributes.specs.Scopes.{scope};
 ghost use Rattle.type_attributes.specs.Faults.{noted};
 ghost use Rattle.type_attributes.specs.Attributes.{has, constant_asked, offset_asked};
-ghost use Rattle.type_attributes.specs.Positions.{placed, placed_by_bits, placed_by_bytes, is_stored, location_in, offset_number, storage_in, bytes_of_type, eightfold, first_bit_big, first_bit_little, first_bit, counted, storage_refused, position_of, is_little, needs_extents};
+ghost use Rattle.type_attributes.specs.Positions.{placed, placed_by_bits, placed_by_bytes};
+ghost use Rattle.type_attributes.specs.Positions.{is_stored, location_in, offset_number};
+ghost use Rattle.type_attributes.specs.Positions.{storage_in, bytes_of_type, eightfold};
+ghost use Rattle.type_attributes.specs.Positions.{first_bit_big, first_bit_little, first_bit};
+ghost use Rattle.type_attributes.specs.Positions.{counted, storage_refused, position_of, is_little};
+ghost use Rattle.type_attributes.specs.Positions.{needs_extents};
 ghost use Rattle.type_attributes.specs.Rows.{SayExtents, AreKnown, IsReady};
 
 use crate::attributes::{constant, is_given, offset, signed_constant, target_said};
@@ -120,7 +126,8 @@ fn storage(
     member: &Entry<'_, '_>,
     least: &mut Option<TypeFault>,
 ) -> Option<Number>
-    requires { has 0x0b (given_entry member.now) ≡ false → AreKnown (scope ctx.now) ctx.now.extents }
+    requires { has 0x0b (given_entry member.now) ≡ false
+        → AreKnown (scope ctx.now) ctx.now.extents }
     ensures said { result ≡ storage_in (scope ctx.now) (given_entry member.now) }
     ensures noted { least.new ≡ noted least.old (constant_asked 0x0b (given_entry member.now)).refused }
 {
@@ -130,7 +137,8 @@ fn storage(
     type_bytes(ctx, target_said(&ctx.form, member))
 }
 
-/// The first bit of a bit field in a big-endian file: the bits count from the first bit of the storage.
+/// The first bit of a bit field in a big-endian file: the bits count from the first bit of the
+/// storage.
 fn first_in_big(location: Option<Number>, offset: Option<Number>) -> Option<i128>
     ensures { result ≡ first_bit_big location offset }
 {
@@ -149,7 +157,8 @@ fn storage_end(location: Number, storage: Number) -> i128
     8 * to_integer(location) + 8 * to_integer(storage)
 }
 
-/// The first bit of a bit field in a little-endian file: the bits count back from the last bit of the storage.
+/// The first bit of a bit field in a little-endian file: the bits count back from the last bit of
+/// the storage.
 fn first_in_little(
     location: Option<Number>,
     storage: Option<Number>,
@@ -187,9 +196,12 @@ fn first_in_storage(
     member: &Entry<'_, '_>,
     least: &mut Option<TypeFault>,
 ) -> Option<i128>
-    requires { is_little ctx.now.form.order ≡ true → has 0x0b (given_entry member.now) ≡ false → AreKnown (scope ctx.now) ctx.now.extents }
+    requires { is_little ctx.now.form.order ≡ true → has 0x0b (given_entry member.now) ≡ false
+        → AreKnown (scope ctx.now) ctx.now.extents }
     ensures said { result ≡ first_bit ctx.now.form.order (scope ctx.now) (given_entry member.now) }
-    ensures noted { least.new ≡ noted least.old ((offset_asked 0x38 (given_entry member.now)).refused ++ ((constant_asked 0x0c (given_entry member.now)).refused ++ storage_refused ctx.now.form.order (given_entry member.now))) }
+    ensures noted { least.new ≡ noted least.old ((offset_asked 0x38
+        (given_entry member.now)).refused ++ ((constant_asked 0x0c (given_entry member.now)).refused
+        ++ storage_refused ctx.now.form.order (given_entry member.now))) }
 {
     let location = location(member, least);
     let offset = signed_constant(member, DW_AT_bit_offset, least);
@@ -215,7 +227,8 @@ pub fn position(
     requires member { (given_entry member.now).tag ≡ 0x0d }
     requires ready { IsReady ctx.now (given_entry member.now) }
     ensures said { result ≡ (position_of (scope ctx.now) (given_entry member.now)).said }
-    ensures noted { least.new ≡ noted least.old (position_of (scope ctx.now) (given_entry member.now)).refused }
+    ensures noted { least.new
+        ≡ noted least.old (position_of (scope ctx.now) (given_entry member.now)).refused }
 {
     if is_given(member, DW_AT_data_bit_offset) {
         let bits = signed_constant(member, DW_AT_data_bit_offset, least);
@@ -255,7 +268,8 @@ fn needs_others(ctx: &UnitCtx<'_, '_>, member: &Entry<'_, '_>) -> bool
         && counts_back(ctx.form.order)
 }
 
-/// The extents of the unit's entries are read, where an entry is the first whose place is found by them.
+/// The extents of the unit's entries are read, where an entry is the first whose place is found by
+/// them.
 pub fn prepare(
     alloc: Global,
     ctx: &mut UnitCtx<'_, '_>,

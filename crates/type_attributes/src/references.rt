@@ -24,8 +24,10 @@ pub fn reference<'a>(
     name: Name<'a>,
     least: &mut Option<TypeFault>,
 ) -> Result<SourceType<'a>, AllocError>
-    ensures made { IfOk result (λ t. t ≡ (reference_row kind name.entry (sections ctx.now) (given_entry entry.now)).made) }
-    ensures noted { OnOk result (least.new ≡ noted least.old (reference_row kind name.entry (sections ctx.now) (given_entry entry.now)).refused) }
+    ensures made { IfOk result
+        (λ t. t ≡ (reference_row kind name.entry (sections ctx.now) (given_entry entry.now)).made) }
+    ensures noted { OnOk result (least.new ≡ noted least.old
+        (reference_row kind name.entry (sections ctx.now) (given_entry entry.now)).refused) }
 {
     let target = type_target(ctx, entry, least);
     let targets = one_target(alloc, target)?;
@@ -46,7 +48,8 @@ pub fn typedef<'a>(
 ) -> Result<SourceType<'a>, AllocError>
     requires { IsContext ctx.now }
     ensures made { IfOk result (λ t. t ≡ (typedef_row (sections ctx.now) (given_entry entry.now)).made) }
-    ensures noted { OnOk result (least.new ≡ noted least.old (typedef_row (sections ctx.now) (given_entry entry.now)).refused) }
+    ensures noted { OnOk result (least.new
+        ≡ noted least.old (typedef_row (sections ctx.now) (given_entry entry.now)).refused) }
 {
     let name = name(ctx, entry, least);
     note_if(least, is_unnamed(&name), TypeFault::MissingName(entry.at));

@@ -1,5 +1,6 @@
 -- References of a graph as words, side by side, and hashes that are computed from them.
-use Rattle.std.specs.Prelude.{◌≡◌, ◌<◌, ◌≤◌, ◌+◌, ℕ, List, All, map, length, slice_index, slice_range, if◌then◌else◌}
+use Rattle.std.specs.Prelude.{◌≡◌, ◌<◌, ◌≤◌, ◌+◌, ℕ, List, All, map, length, slice_index}
+use Rattle.std.specs.Prelude.{slice_range, if◌then◌else◌}
 use Rattle.std.specs.List.{fold}
 use Rattle.c_model.specs.declared.graph.CType.{CType}
 use Rattle.c_model.specs.Partition.{classes_of, targets_at}
@@ -23,9 +24,11 @@ pub record AreLinks (nodes : List CType) (ends words : List ℕ) : Type 0 where
   pub fits : AreWords (length nodes) ends words
   pub at : (x : ℕ) → x < length nodes → words_at ends words x ≡ map word_of (targets_at nodes x)
 
--- a node's hash by its words: its own number, and mixed into it those of its targets unless it is an open forward
+-- a node's hash by its words: its own number, and mixed into it those of its targets unless it is
+-- an open forward
 abbrev pub hash_at : List (List ℕ) → List ℕ → List ℕ → List ℕ → ℕ → ℕ
-hash_at index ends words p x = if is_open_at index x then slice_index p x else fold mixed (slice_index p x) (classes_of p (map ref_of (words_at ends words x)))
+hash_at index ends words p x = if is_open_at index x then slice_index p x
+    else fold mixed (slice_index p x) (classes_of p (map ref_of (words_at ends words x)))
 
 -- each node has its hash
 pub record IsHashedBy (index : List (List ℕ)) (ends words p v : List ℕ) : Type 0 where

@@ -37,8 +37,8 @@ fn hash_of(own: u64, now: &[u64], words: &[u32]) -> u64
     hash
 }
 
-/// Words of references, which nodes are open forwards, and a number for each node: what tells the hash of the
-/// signature of each node under these numbers.
+/// Words of references, which nodes are open forwards, and a number for each node: what tells the
+/// hash of the signature of each node under these numbers.
 #[derive(Drop)]
 struct Hashed<'v> {
     ends: &'v [u32],
@@ -48,7 +48,8 @@ struct Hashed<'v> {
 }
 
 impl<'v> NumberAt for Hashed<'v> {
-    ghost is_whole = { λ of. AreWords (length of.fwd.now) of.ends.now of.words.now × (length of.now.now ≡ length of.fwd.now) × (length of.fwd.now < 2 ^ 32) };
+    ghost is_whole = { λ of. AreWords (length of.fwd.now) of.ends.now of.words.now
+        × (length of.now.now ≡ length of.fwd.now) × (length of.fwd.now < 2 ^ 32) };
 
     ghost count = { λ of. length of.fwd.now };
 
@@ -65,7 +66,8 @@ impl<'v> NumberAt for Hashed<'v> {
     }
 }
 
-/// Puts the hash of the signature of each node under `now` in its place, by so many workers at most.
+/// Puts the hash of the signature of each node under `now` in its place, by so many workers at
+/// most.
 pub(crate) fn hash_all<R: Threads + Sync>(
     rt: &R,
     workers: usize,

@@ -8,7 +8,8 @@ ghost use Rattle.type_signature.specs.Links.{AreLinks};
 use c_model::{Ref, TypeGraph};
 use std::alloc::{AllocError, Global};
 
-/// The references of each node as words: those of a node stand from the end of the node before to its own end.
+/// The references of each node as words: those of a node stand from the end of the node before to
+/// its own end.
 #[derive(Debug, Drop)]
 pub struct Links {
     pub ends: Vec<u32>,
@@ -35,7 +36,8 @@ fn push_words<'a, G: TypeGraph<'a>>(
 ) -> Result<(), AllocError>
     requires node { x < length (G.shape graph.now).nodes }
     requires few { length (G.shape graph.now).nodes < 2 ^ 32 }
-    ensures { IfOk result (λ _. words.new.items ≡ words.old.items ++ map word_of (targets_at (G.shape graph.now).nodes x)) }
+    ensures { IfOk result (λ _.
+        words.new.items ≡ words.old.items ++ map word_of (targets_at (G.shape graph.now).nodes x)) }
 {
     for i in 0..graph.target_count(x) {
         words.push(word(graph.target(x, i)))?;

@@ -20,7 +20,8 @@ fn place_of(pairs: &mut IndexSet<(u32, u64)>, pair: (u32, u64)) -> Result<usize,
 pub(crate) fn paired(alloc: Global, first: &[u32], second: &[u64]) -> Result<Numbered, AllocError>
     requires few { length first.now < 2 ^ 32 }
     requires same { length second.now ≡ length first.now }
-    ensures numbers { IfOk result (λ r. IsNumbering (pair_at first.now second.now) (length first.now) r.numbers.items) }
+    ensures numbers { IfOk result
+        (λ r. IsNumbering (pair_at first.now second.now) (length first.now) r.numbers.items) }
     ensures below { IfOk result (λ r. All (λ k. k < length first.now) r.numbers.items) }
     ensures count { IfOk result (λ r. distinct_count nat_eq r.numbers.items ≡ r.count) }
 {

@@ -30,7 +30,8 @@ pub(crate) fn put_all<R: Threads + Sync, N: NumberAt + Sync>(
     requires whole { N.is_whole of.now }
     requires places { length numbers.old.items ≡ N.count of.now }
     ensures covers { length numbers.new.items ≡ N.count of.now }
-    ensures at { (x : ℕ) → x < N.count of.now → slice_index numbers.new.items x ≡ N.number of.now x }
+    ensures at { (x : ℕ) → x < N.count of.now
+        → slice_index numbers.new.items x ≡ N.number of.now x }
 {
     thread::for_each_mut(
         rt,

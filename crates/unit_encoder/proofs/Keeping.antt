@@ -4,5 +4,6 @@ use Rattle.std.proofs.lemmas.List.Elements.{All-push}
 use Rattle.unit_graph.specs.Sources.{FileUnit}
 use Rattle.unit_graph.specs.Tables.{AreOf}
 
-pub files_more : (files : ℕ → List ℕ) (us : List FileUnit) (u : FileUnit) → AreOf files us → u.bytes ≡ files u.file → AreOf files (us ++ u ∷ [])
+pub files_more : (files : ℕ → List ℕ) (us : List FileUnit) (u : FileUnit) → AreOf files us
+    → u.bytes ≡ files u.file → AreOf files (us ++ u ∷ [])
 files_more files us u all own = All-push (λ (v : FileUnit). v.bytes ≡ files v.file) us u all own

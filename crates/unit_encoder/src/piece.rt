@@ -1,11 +1,14 @@
-//! What a worker holds of the units that it has read: nodes that are linked as far as they refer to their own unit.
+//! What a worker holds of the units that it has read: nodes that are linked as far as they refer to
+//! their own unit.
 //!
-//! Almost all references of a unit stay in it, so a unit is linked right after it is read, and what it refers to is
-//! kept of those nodes alone that refer elsewhere.
-ghost use Rattle.std.specs.Prelude.{◌≡◌, ◌<◌, ◌+◌, ◌-◌, ◌^◌, ◌++◌, ◌∷◌, [], ℕ, List, Some, Ok, All, IsTrue, true, length, map, OnOk, IfOk, IfSome};
+//! Almost all references of a unit stay in it, so a unit is linked right after it is read, and what
+//! it refers to is kept of those nodes alone that refer elsewhere.
+ghost use Rattle.std.specs.Prelude.{◌≡◌, ◌<◌, ◌+◌, ◌-◌, ◌^◌, ◌++◌, ◌∷◌, [], ℕ, List, Some, Ok, All};
+ghost use Rattle.std.specs.Prelude.{IsTrue, true, length, map, OnOk, IfOk, IfSome};
 ghost use Rattle.c_model.specs.Graph.{IsBelow};
 ghost use Rattle.packed_graph.specs.Packed.{moved};
-ghost use Rattle.unit_graph.specs.Sources.{Source, index_label, source_of, made_sources, index_sources, sources_of};
+ghost use Rattle.unit_graph.specs.Sources.{Source, index_label, source_of, made_sources};
+ghost use Rattle.unit_graph.specs.Sources.{index_sources, sources_of};
 ghost use Rattle.unit_graph.specs.Links.{number_of, ref_of, refs_from};
 ghost use Rattle.unit_graph.specs.Numbers.{PlacesRise};
 ghost use Rattle.unit_encoder.specs.Held.{Stands, Finds, Holds};
@@ -74,10 +77,12 @@ pub(crate) fn no_units<'a>(alloc: Global) -> Result<Piece<'a>, AllocError>
     })
 }
 
-/// The number of the type of a unit whose entry begins at an offset. The unit's types begin at `starts`.
+/// The number of the type of a unit whose entry begins at an offset. The unit's types begin at
+/// `starts`.
 fn find_entry(unit: &UnitNodes, starts: &Starts, to: u128) -> Option<u32>
     requires { unit.now.first + length starts.now < 2 ^ 32 - 1 }
-    ensures found { (all : List Source) (n : ℕ) → Finds all n unit.now starts.now → IfSome result (λ x. number_of all unit.now.file to ≡ Some (n + x)) }
+    ensures found { (all : List Source) (n : ℕ) → Finds all n unit.now starts.now
+        → IfSome result (λ x. number_of all unit.now.file to ≡ Some (n + x)) }
     ensures small { IfSome result (λ x. x < 2 ^ 32 - 1) }
 {
     if !unit.local {
@@ -94,7 +99,8 @@ fn find_entry(unit: &UnitNodes, starts: &Starts, to: u128) -> Option<u32>
 fn link_within(unit: &UnitNodes, starts: &Starts, target: &Target) -> Option<Ref>
     requires entries { unit.now.first + length starts.now < 2 ^ 32 - 1 }
     requires index { unit.now.index < 2 ^ 32 - 1 }
-    ensures linked { (all : List Source) (n : ℕ) → Finds all n unit.now starts.now → IfSome result (λ r. ref_of all unit.now.file (n + unit.now.index) target.now ≡ Ok (moved n r)) }
+    ensures linked { (all : List Source) (n : ℕ) → Finds all n unit.now starts.now → IfSome result
+        (λ r. ref_of all unit.now.file (n + unit.now.index) target.now ≡ Ok (moved n r)) }
     ensures small { IfSome result (λ r. IsBelow (2 ^ 32 - 1) r) }
 {
     match *target {
@@ -113,7 +119,8 @@ fn link_within(unit: &UnitNodes, starts: &Starts, target: &Target) -> Option<Ref
     }
 }
 
-/// Whether all targets of a unit's type are types of the unit. Its references are then in the list that is lent.
+/// Whether all targets of a unit's type are types of the unit. Its references are then in the list
+/// that is lent.
 fn link_targets_within(
     unit: &UnitNodes,
     starts: &Starts,
@@ -122,7 +129,9 @@ fn link_targets_within(
 ) -> Result<bool, AllocError>
     requires entries { unit.now.first + length starts.now < 2 ^ 32 - 1 }
     requires index { unit.now.index < 2 ^ 32 - 1 }
-    ensures linked { (all : List Source) (n : ℕ) → Finds all n unit.now starts.now → result ≡ Ok true → refs_from all unit.now.file (n + unit.now.index) [] targets.now ≡ Ok (map (moved n) refs.new.items) }
+    ensures linked { (all : List Source) (n : ℕ) → Finds all n unit.now starts.now
+        → result ≡ Ok true → refs_from all unit.now.file (n + unit.now.index) [] targets.now
+        ≡ Ok (map (moved n) refs.new.items) }
     ensures small { result ≡ Ok true → All (IsBelow (2 ^ 32 - 1)) refs.new.items }
 {
     refs.clear();
@@ -151,13 +160,15 @@ fn index_type<'a>(alloc: Global) -> Label<'a>
 }
 
 impl<'a> Piece<'a> {
-    ghost use Rattle.std.specs.Prelude.{◌≡◌, ◌<◌, ◌+◌, ◌-◌, ◌^◌, ◌++◌, ◌∷◌, [], ℕ, List, Some, All, IsTrue, length, map, OnOk, IfOk};
-    ghost use Rattle.unit_graph.specs.Sources.{Source, source_of, made_sources, index_sources, sources_of};
+    ghost use Rattle.std.specs.Prelude.{◌≡◌, ◌<◌, ◌+◌, ◌-◌, ◌^◌, ◌++◌, ◌∷◌, [], ℕ, List, Some, All};
+    ghost use Rattle.std.specs.Prelude.{IsTrue, length, map, OnOk, IfOk};
+    ghost use Rattle.unit_graph.specs.Sources.{Source, source_of, made_sources, index_sources};
+    ghost use Rattle.unit_graph.specs.Sources.{sources_of};
     ghost use Rattle.unit_graph.specs.Numbers.{PlacesRise};
     ghost use Rattle.unit_encoder.specs.Held.{Stands, Finds, Holds};
 
-    /// Puts the node of a unit's type behind the others. The unit's types begin at `starts`. `refs` is lent
-    /// for its references.
+    /// Puts the node of a unit's type behind the others. The unit's types begin at `starts`. `refs`
+    /// is lent for its references.
     fn push_type(
         &mut self,
         unit: &UnitNodes,
@@ -167,7 +178,11 @@ impl<'a> Piece<'a> {
     ) -> Result<(), AllocError>
         requires entries { unit.now.first + length starts.now < 2 ^ 32 - 1 }
         requires index { unit.now.index < 2 ^ 32 - 1 }
-        ensures { OnOk result ((given nodes : ℕ → List Source) → ((all : List Source) (n : ℕ) → Stands all n (given n) → (IsTrue unit.now.local → PlacesRise all) → Finds all n unit.now starts.now) → Holds unit.now.local given nodes self.old → Holds unit.now.local given (λ n. nodes n ++ source_of unit.now.file (n + unit.now.index) one.entry ∷ []) self.new) }
+        ensures { OnOk result ((given nodes : ℕ → List Source)
+            → ((all : List Source) (n : ℕ) → Stands all n (given n)
+            → (IsTrue unit.now.local → PlacesRise all) → Finds all n unit.now starts.now)
+            → Holds unit.now.local given nodes self.old → Holds unit.now.local given (λ n.
+            nodes n ++ source_of unit.now.file (n + unit.now.index) one.entry ∷ []) self.new) }
     {
         let Ok(node) = u32::try_from(self.nodes.len()) else {
             return Err(AllocError);
@@ -203,7 +218,11 @@ impl<'a> Piece<'a> {
     ) -> Result<(), AllocError>
         requires entries { unit.now.first + length starts.now < 2 ^ 32 - 1 }
         requires index { unit.now.index < 2 ^ 32 - 1 }
-        ensures { OnOk result ((given nodes : ℕ → List Source) → ((all : List Source) (n : ℕ) → Stands all n (given n) → (IsTrue unit.now.local → PlacesRise all) → Finds all n unit.now starts.now) → Holds unit.now.local given nodes self.old → Holds unit.now.local given (λ n. nodes n ++ made_sources unit.now.file (n + unit.now.index) types.entry.items) self.new) }
+        ensures { OnOk result ((given nodes : ℕ → List Source)
+            → ((all : List Source) (n : ℕ) → Stands all n (given n)
+            → (IsTrue unit.now.local → PlacesRise all) → Finds all n unit.now starts.now)
+            → Holds unit.now.local given nodes self.old → Holds unit.now.local given (λ n. nodes n
+            ++ made_sources unit.now.file (n + unit.now.index) types.entry.items) self.new) }
     {
         let mut refs = Vec::new(alloc);
         for one in types {
@@ -214,7 +233,9 @@ impl<'a> Piece<'a> {
 
     /// Puts the type of the indices behind the others, where a unit has an array.
     fn push_index(&mut self, alloc: Global, unit: &UnitNodes) -> Result<(), AllocError>
-        ensures { OnOk result ((given nodes : ℕ → List Source) → Holds unit.now.local given nodes self.old → Holds unit.now.local given (λ n. nodes n ++ index_sources unit.now.file (n + unit.now.index) unit.now.has_array) self.new) }
+        ensures { OnOk result ((given nodes : ℕ → List Source)
+            → Holds unit.now.local given nodes self.old → Holds unit.now.local given (λ n. nodes n
+            ++ index_sources unit.now.file (n + unit.now.index) unit.now.has_array) self.new) }
     {
         if unit.has_array {
             self.nodes.push(index_type(alloc), &[])?;
@@ -222,8 +243,8 @@ impl<'a> Piece<'a> {
         Ok(())
     }
 
-    /// Puts the nodes of a unit behind the others, linked as far as they refer to each other. `local` is whether no
-    /// two units have entries at one offset of a file.
+    /// Puts the nodes of a unit behind the others, linked as far as they refer to each other.
+    /// `local` is whether no two units have entries at one offset of a file.
     pub(crate) fn push_unit(
         &mut self,
         alloc: Global,
@@ -231,7 +252,9 @@ impl<'a> Piece<'a> {
         file: u32,
         found: UnitTypes<'a>,
     ) -> Result<(), AllocError>
-        ensures { OnOk result ((nodes : ℕ → List Source) → Holds local nodes nodes self.old → Holds local (λ n. nodes n ++ sources_of file (n + length self.old.nodes) found.entry) (λ n. nodes n ++ sources_of file (n + length self.old.nodes) found.entry) self.new) }
+        ensures { OnOk result ((nodes : ℕ → List Source) → Holds local nodes nodes self.old
+            → Holds local (λ n. nodes n ++ sources_of file (n + length self.old.nodes) found.entry)
+            (λ n. nodes n ++ sources_of file (n + length self.old.nodes) found.entry) self.new) }
     {
         let UnitTypes {
             read: _,

@@ -1,5 +1,7 @@
--- Nodes linked: a reference becomes the number of the node whose entry begins at the offset in the same file, within its unit or not.
-use Rattle.std.specs.Prelude.{ℕ, ◌≡◌, ◌+◌, ◌==◌, ◌&&◌, ◌^◌, nat_lt, Bool, false, List, [], ◌∷◌, ◌++◌, length, Option, None, Some, Result, Ok, Err, Vec, if◌then◌else◌}
+-- Nodes linked: a reference becomes the number of the node whose entry begins at the offset in the
+-- same file, within its unit or not.
+use Rattle.std.specs.Prelude.{ℕ, ◌≡◌, ◌+◌, ◌==◌, ◌&&◌, ◌^◌, nat_lt, Bool, false, List, [], ◌∷◌}
+use Rattle.std.specs.Prelude.{◌++◌, length, Option, None, Some, Result, Ok, Err, Vec, if◌then◌else◌}
 use Rattle.std.specs.Global.{Global}
 use Rattle.c_model.specs.declared.graph.CType.{CType}
 use Rattle.c_model.specs.declared.graph.Ref.{Ref}
@@ -21,7 +23,8 @@ abbrev pub or_here : ℕ → Bool → Option ℕ → Option ℕ
 or_here k here (Some n) = Some n
 or_here k here None = if here then Some k else None
 
--- the number of the node whose entry begins at a place, among nodes that are numbered from k (no two begin at one place)
+-- the number of the node whose entry begins at a place, among nodes that are numbered from k (no
+-- two begin at one place)
 abbrev pub number_from : ℕ × ℕ → ℕ → List Source → Option ℕ
 number_from p k [] = None
 number_from p k (s ∷ ss) = or_here k (is_at p s) (number_from p (k + 1) ss)
@@ -40,28 +43,32 @@ ref_of all file index targets.Void = Ok Void
 ref_of all file index targets.Index = if nat_lt index (length all) then Ok (Node index) else Ok Void
 ref_of all file index (targets.Entry from to) = linked_to file from to (number_of all file to)
 
-abbrev pub with_ref : List Ref → Result Ref Out → (List Ref → Result (List Ref) Out) → Result (List Ref) Out
+abbrev pub with_ref : List Ref → Result Ref Out → (List Ref → Result (List Ref) Out)
+    → Result (List Ref) Out
 with_ref seen (Err o) go = Err o
 with_ref seen (Ok r) go = go (seen ++ r ∷ [])
 
 -- the references of a node, or the first that names no node
 unfoldable pub refs_from : List Source → ℕ → ℕ → List Ref → List Target → Result (List Ref) Out
 refs_from all file index seen [] = Ok seen
-refs_from all file index seen (t ∷ ts) = with_ref seen (ref_of all file index t) (λ more. refs_from all file index more ts)
+refs_from all file index seen (t ∷ ts) =
+    with_ref seen (ref_of all file index t) (λ more. refs_from all file index more ts)
 
 -- references that were found, as a list
 abbrev pub seen : Result (Vec Ref Global) Out → Result (List Ref) Out
 seen (Ok v) = Ok v.items
 seen (Err o) = Err o
 
-abbrev pub with_refs : Source → List CType → Result (List Ref) Out → (List CType → Result (List CType) Out) → Result (List CType) Out
+abbrev pub with_refs : Source → List CType → Result (List Ref) Out
+    → (List CType → Result (List CType) Out) → Result (List CType) Out
 with_refs s seen (Err o) go = Err o
 with_refs s seen (Ok rs) go = go (seen ++ record { label = s.label; targets = rs } ∷ [])
 
 -- the nodes in order, or the first reference that names none
 unfoldable pub nodes_from : List Source → List CType → List Source → Result (List CType) Out
 nodes_from all seen [] = Ok seen
-nodes_from all seen (s ∷ ss) = with_refs s seen (refs_from all s.file s.index [] s.targets) (λ more. nodes_from all more ss)
+nodes_from all seen (s ∷ ss) =
+    with_refs s seen (refs_from all s.file s.index [] s.targets) (λ more. nodes_from all more ss)
 
 -- nodes are the graph of some units: none of these is refused, and each reference names a node
 pub record IsGraphOf (units : List FileUnit) (nodes : List CType) : Type 0 where

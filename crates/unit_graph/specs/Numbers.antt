@@ -1,5 +1,7 @@
 -- The places of nodes as rows, and the number of the node at a place.
-use Rattle.std.specs.Prelude.{ℕ, ◌≡◌, ◌+◌, ◌<◌, ◌≤◌, ◌⊎◌, ◌==◌, ◌&&◌, ◌||◌, nat_lt, nat_le, Bool, List, [], ◌∷◌, ◌++◌, length, slice_get, slice_index_or, Option, None, Some}
+use Rattle.std.specs.Prelude.{ℕ, ◌≡◌, ◌+◌, ◌<◌, ◌≤◌, ◌⊎◌, ◌==◌, ◌&&◌, ◌||◌, nat_lt, nat_le, Bool}
+use Rattle.std.specs.Prelude.{List, [], ◌∷◌, ◌++◌, length, slice_get, slice_index_or, Option, None}
+use Rattle.std.specs.Prelude.{Some}
 use Rattle.unit_graph.specs.declared.places.Row.{Row}
 use Rattle.unit_graph.specs.Links.{or_here, number_from}
 use Rattle.unit_graph.specs.Sources.{Source}
@@ -25,7 +27,8 @@ pub record IsNotAfter (x y : Row) : Type 0 where
   pub at : x.file ≡ y.file → x.at ≤ y.at
 
 abbrev pub IsInOrder : List Row → Type 0
-IsInOrder rows = (i j : ℕ) (d : Row) → i ≤ j → j < length rows → IsNotAfter (slice_index_or rows i d) (slice_index_or rows j d)
+IsInOrder rows = (i j : ℕ) (d : Row) → i ≤ j → j < length rows
+    → IsNotAfter (slice_index_or rows i d) (slice_index_or rows j d)
 
 -- the place of a node as rows
 abbrev pub rows_at : ℕ → ℕ → Option ℕ → List Row
@@ -39,7 +42,9 @@ rows_from k (s ∷ ss) = rows_at k s.file s.at ++ rows_from (k + 1) ss
 
 -- the places of nodes rise: no two begin at one
 abbrev pub PlacesRise : List Source → Type 0
-PlacesRise all = (i j : ℕ) (s t : Source) (a b : ℕ) → i < j → slice_get all i ≡ Some s → slice_get all j ≡ Some t → s.at ≡ Some a → t.at ≡ Some b → (s.file < t.file) ⊎ ((s.file ≡ t.file) × (a < b))
+PlacesRise all =
+    (i j : ℕ) (s t : Source) (a b : ℕ) → i < j → slice_get all i ≡ Some s → slice_get all j ≡ Some t
+    → s.at ≡ Some a → t.at ≡ Some b → (s.file < t.file) ⊎ ((s.file ≡ t.file) × (a < b))
 
 -- the place of a node that comes so many later
 abbrev pub row_moved : ℕ → Row → Row

@@ -12,6 +12,7 @@ AreOf files us = All (λ (u : FileUnit). u.bytes ≡ files u.file) us
 abbrev pub AreOfFiles : List FileUnit → Type 0
 AreOfFiles us = (files : ℕ → List ℕ) × AreOf files us
 
--- the table that was read last is what its file's .debug_abbrev spells at its place, whatever files the units are of
+-- the table that was read last is what its file's .debug_abbrev spells at its place, whatever files
+-- the units are of
 abbrev pub IsKept : List FileUnit → LastTable → Type 0
 IsKept us t = (files : ℕ → List ℕ) × AreOf files us × IsTableAt (files t.file) t.at t.abbrevs

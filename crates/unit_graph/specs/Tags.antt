@@ -1,5 +1,6 @@
 -- The tag of the entry at a place, which may be no type.
-use Rattle.std.specs.Prelude.{ℕ, ◌==◌, ◌&&◌, Bool, false, List, [], ◌∷◌, Option, None, Some, Result, Ok, Err, if◌then◌else◌}
+use Rattle.std.specs.Prelude.{ℕ, ◌==◌, ◌&&◌, Bool, false, List, [], ◌∷◌, Option, None, Some, Result}
+use Rattle.std.specs.Prelude.{Ok, Err, if◌then◌else◌}
 use Rattle.elf_sections.specs.Sections.{section_bytes}
 use Rattle.elf_sections.specs.declared.fault.Kind.TheVariants.{Abbrev as AbbrevSection}
 use Rattle.dwarf_abbrev.specs.Declarations.{Declaration}
@@ -12,7 +13,8 @@ use Rattle.type_attributes.specs.declared.source.UnitTypes.{UnitTypes}
 use Rattle.type_attributes.specs.declared.fault.TypeFault.{TypeFault}
 use Rattle.unit_graph.specs.Sources.{FileUnit}
 
--- the tag of the entry at a place: of a unit of the file that is read, and 0 where none begins there
+-- the tag of the entry at a place: of a unit of the file that is read, and 0 where none begins
+-- there
 abbrev pub tag_in : ℕ → List Given → Option ℕ
 tag_in to [] = None
 tag_in to (e ∷ es) = if e.at == to then Some e.tag else tag_in to es
@@ -29,7 +31,8 @@ is_read (Ok t) = t.read
 is_read (Err f) = false
 
 abbrev pub tag_at : ℕ → ℕ → FileUnit → Option ℕ
-tag_at file to u = if u.file == file && is_read (types_of_unit_of u.bytes u.unit) then tag_in to (entries_in u) else None
+tag_at file to u = if u.file == file && is_read (types_of_unit_of u.bytes u.unit)
+    then tag_in to (entries_in u) else None
 
 abbrev pub or_later : Option ℕ → ℕ → ℕ
 or_later (Some tag) later = tag

@@ -1,5 +1,7 @@
--- A unit that can't be read has neither types nor entries, and one that an offset doesn't lie in has none there.
-use Rattle.std.specs.Prelude.{ℕ, ◌&&◌, nat_le, nat_lt, Bool, false, Option, None, Result, Ok, Err, alloc_error}
+-- A unit that can't be read has neither types nor entries, and one that an offset doesn't lie in
+-- has none there.
+use Rattle.std.specs.Prelude.{ℕ, ◌&&◌, nat_le, nat_lt, Bool, false, Option, None, Result, Ok, Err}
+use Rattle.std.specs.Prelude.{alloc_error}
 use Rattle.entry_tree.specs.declared.unit.Unit.{Unit}
 use Rattle.dwarf_abbrev.specs.declared.fault.AbbrevFault.{AbbrevFault}
 use Rattle.dwarf_abbrev.specs.declared.fault.AbbrevFault.TheVariants.{Memory as AbbrevMemory}

@@ -1,7 +1,10 @@
-//! What the definitions say of the nodes of all units. Each function does nothing: its contract is the law.
-ghost use Rattle.unit_graph.specs.Laws.{PlacesOfUnitsRise, GraphsAreWithin, GraphsAreFormed, RowsAreNumbers};
+//! What the definitions say of the nodes of all units. Each function does nothing: its contract is
+//! the law.
+ghost use Rattle.unit_graph.specs.Laws.{PlacesOfUnitsRise, GraphsAreWithin, GraphsAreFormed};
+ghost use Rattle.unit_graph.specs.Laws.{RowsAreNumbers};
 
-/// Where each unit stands before the next one, the places of all nodes rise: no two entries begin at one.
+/// Where each unit stands before the next one, the places of all nodes rise: no two entries begin
+/// at one.
 pub fn places_rise()
     ensures { PlacesOfUnitsRise }
 {}

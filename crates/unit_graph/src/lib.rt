@@ -1,4 +1,5 @@
-//! The graph of the types of all units: its definition, and looking for the node at an offset of a file.
+//! The graph of the types of all units: its definition, and looking for the node at an offset of a
+//! file.
 #![tactic(auto)]
 
 pub mod laws;

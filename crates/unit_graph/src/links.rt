@@ -20,7 +20,8 @@ pub struct Out {
     pub to: u128,
 }
 
-/// The number of the node whose entry begins at an offset of a file. One that passes 64 bits is no place.
+/// The number of the node whose entry begins at an offset of a file. One that passes 64 bits is no
+/// place.
 fn find(places: &Places, file: u32, to: u128) -> Option<u32>
     ensures { (all : List Source) → Numbers places.now all → result ≡ number_of all file to }
 {
@@ -34,7 +35,8 @@ fn find(places: &Places, file: u32, to: u128) -> Option<u32>
 /// What a target of a node refers to, among so many nodes.
 fn link(places: &Places, count: u64, file: u32, index: u64, target: &Target) -> Result<Ref, Out>
     requires { count < 2 ^ 32 }
-    ensures { (all : List Source) → Numbers places.now all → length all ≡ count → result ≡ ref_of all file index target.now }
+    ensures { (all : List Source) → Numbers places.now all → length all ≡ count
+        → result ≡ ref_of all file index target.now }
 {
     match *target {
         Target::Void => Ok(Ref::Void),
@@ -52,8 +54,10 @@ fn link(places: &Places, count: u64, file: u32, index: u64, target: &Target) -> 
     }
 }
 
-/// The references of a node of a file with these targets, or the first that names no node. The places are those of
-/// `count` nodes; `index` is the number of the node that is the type of the indices of its unit's arrays.
+/// The references of a node of a file with these targets, or the first that names no node. The
+/// places are those of
+/// `count` nodes; `index` is the number of the node that is the type of the indices of its unit's
+/// arrays.
 pub fn link_targets(
     alloc: Global,
     places: &Places,
@@ -63,7 +67,8 @@ pub fn link_targets(
     targets: &[Target],
 ) -> Result<Result<Vec<Ref>, Out>, AllocError>
     requires { count < 2 ^ 32 }
-    ensures { IfOk result (λ r. (all : List Source) → Numbers places.now all → length all ≡ count → seen r ≡ refs_from all file index [] targets.now) }
+    ensures { IfOk result (λ r. (all : List Source) → Numbers places.now all → length all ≡ count
+        → seen r ≡ refs_from all file index [] targets.now) }
 {
     let mut refs = Vec::with_capacity(alloc, targets.len())?;
     for i in 0..targets.len() {

@@ -1,4 +1,5 @@
-//! What readers of units in pieces share: where a piece ends, and the places of one piece's nodes behind another's.
+//! What readers of units in pieces share: where a piece ends, and the places of one piece's nodes
+//! behind another's.
 ghost use Rattle.std.specs.Prelude.{◌≡◌, ◌<◌, ◌≤◌, ◌++◌, length, map, OnOk};
 ghost use Rattle.unit_graph.specs.Numbers.{row_moved};
 
@@ -20,8 +21,8 @@ fn bytes_of_all(units: &[UnitAt<'_>]) -> u64 {
     sum
 }
 
-/// Where the first piece of some units ends, which is for `half` of so many jobs: it has about as many of the bytes, at
-/// least one unit, and leaves one, where there are two.
+/// Where the first piece of some units ends, which is for `half` of so many jobs: it has about as
+/// many of the bytes, at least one unit, and leaves one, where there are two.
 pub fn cut_of(units: &[UnitAt<'_>], half: u32, jobs: u32) -> usize
     requires { half < jobs }
     ensures within { result ≤ length units.now }
@@ -42,7 +43,8 @@ pub fn cut_of(units: &[UnitAt<'_>], half: u32, jobs: u32) -> usize
     count - 1
 }
 
-/// Puts places behind others, each of a node that comes so many later. A number that does not fit is want of memory.
+/// Puts places behind others, each of a node that comes so many later. A number that does not fit
+/// is want of memory.
 pub fn push_moved_rows(rows: &mut Vec<Row>, more: &[Row], by: u32) -> Result<(), AllocError>
     ensures { OnOk result (rows.new.items ≡ rows.old.items ++ map (row_moved by) more.now) }
 {

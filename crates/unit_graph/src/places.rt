@@ -1,4 +1,5 @@
-//! Where the entries of nodes begin: looking for the node at an offset of a file, in a list by file and offset.
+//! Where the entries of nodes begin: looking for the node at an offset of a file, in a list by file
+//! and offset.
 ghost use Rattle.std.specs.Prelude.{◌≡◌, ◌≤◌, ℕ, length, OnOk, IfSome, true, false, Some};
 ghost use Rattle.std.specs.List.Sorted.{IsPartitionPoint};
 ghost use Rattle.unit_graph.specs.declared.places.Row.{Row};
@@ -50,7 +51,8 @@ fn number_before(rows: &[Row], end: usize, file: u32, to: u64) -> Option<u32>
     requires order { IsInOrder rows.now }
     requires within { end ≤ length rows.now }
     ensures found { IfSome result (λ n. number_in (file, to) rows.now ≡ Some n) }
-    ensures exact { IsPartitionPoint (λ r. row_is_up_to (file, to) r ≡ true) (λ r. row_is_up_to (file, to) r ≡ false) rows.now end → result ≡ number_in (file, to) rows.now }
+    ensures exact { IsPartitionPoint (λ r. row_is_up_to (file, to) r ≡ true) (λ r.
+        row_is_up_to (file, to) r ≡ false) rows.now end → result ≡ number_in (file, to) rows.now }
 {
     if end == 0 {
         return None;
@@ -74,7 +76,8 @@ fn find_in_all(rows: &[Row], file: u32, to: u64) -> Option<u32>
     number_before(rows, end, file, to)
 }
 
-/// The places of nodes, in which they are looked for. Contracts see it as the rows, in order by file and offset.
+/// The places of nodes, in which they are looked for. Contracts see it as the rows, in order by
+/// file and offset.
 #[derive(Debug, Drop)]
 pub struct Places {
     rows: Vec<Row>,
@@ -96,7 +99,8 @@ impl Places {
     ghost use Rattle.std.specs.Prelude.{◌≡◌, ℕ, IfOk};
     ghost use Rattle.unit_graph.specs.Numbers.{number_in};
 
-    /// Takes rows in any order. Those of units that follow one another are in order, which costs one pass.
+    /// Takes rows in any order. Those of units that follow one another are in order, which costs
+    /// one pass.
     pub fn new(rows: Vec<Row>) -> Result<Places, AllocError>
         ensures { IfOk result (λ places. (p : ℕ × ℕ) → number_in p places ≡ number_in p rows.items) }
     {

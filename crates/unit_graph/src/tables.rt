@@ -1,6 +1,7 @@
 //! The table of abbreviations that was read last.
 //!
-//! Units of a file may name one table, each of them. It is read once for those that follow one another.
+//! Units of a file may name one table, each of them. It is read once for those that follow one
+//! another.
 ghost use Rattle.std.specs.Prelude.{◌≡◌, Err, IfOk, IfErr, IfSome};
 ghost use Rattle.c_types.specs.Tables.{IsTableAt};
 ghost use Rattle.c_types.specs.Types.{types_of_unit_of, Gives as TypesGive};

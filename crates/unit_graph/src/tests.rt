@@ -38,7 +38,8 @@ fn out(offset: u128) -> Out {
     }
 }
 
-/// What targets refer to, among four nodes, of which two begin at one place: the later one counts there.
+/// What targets refer to, among four nodes, of which two begin at one place: the later one counts
+/// there.
 #[test]
 fn links(rt: HostRuntime) -> Result<(), Fail> {
     let alloc = rt.alloc();
@@ -180,8 +181,8 @@ fn units_of<'a>(alloc: Global, bytes: &'a [u8]) -> Result<Vec<UnitAt<'a>>, Fail>
     Ok(all)
 }
 
-/// A file of three units: a base type and a subprogram at 13 and 18, the same in a unit of Rust, which is passed
-/// over, at 34 and 39, and the same again at 54 and 59.
+/// A file of three units: a base type and a subprogram at 13 and 18, the same in a unit of Rust,
+/// which is passed over, at 34 and 39, and the same again at 54 and 59.
 fn three_units(alloc: Global) -> Result<Vec<u8>, AllocError> {
     let mut info = Vec::new(alloc);
     put_unit(&mut info, 0, b"\x01\x02i\0\x04\x05\x03\0")?;
@@ -190,8 +191,8 @@ fn three_units(alloc: Global) -> Result<Vec<u8>, AllocError> {
     file_with(alloc, info.as_slice())
 }
 
-/// The tag at a place: of a type or not, in the first unit or a later one, and 0 where no entry of a unit that is read
-/// begins.
+/// The tag at a place: of a type or not, in the first unit or a later one, and 0 where no entry of
+/// a unit that is read begins.
 #[test]
 fn tags(rt: HostRuntime) -> Result<(), Fail> {
     let alloc = rt.alloc();

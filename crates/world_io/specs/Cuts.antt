@@ -2,7 +2,8 @@
 use Rattle.std.specs.Prelude.{ℕ, ◌==◌, List, [], ◌∷◌, take, Option, None, Some, if◌then◌else◌}
 use Rattle.world_io.specs.declared.files.Stop.{Stop}
 
--- how many bytes the call of a number takes before it fails, where a stop names it; the first such stop counts
+-- how many bytes the call of a number takes before it fails, where a stop names it; the first such
+-- stop counts
 abbrev pub stop_at : List Stop → ℕ → Option ℕ
 stop_at [] call = None
 stop_at (s ∷ ss) call = if s.call == call then Some s.takes else stop_at ss call

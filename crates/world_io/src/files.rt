@@ -49,8 +49,8 @@ impl Files {
     }
 }
 
-/// The call of number `call` fails after it took `takes` bytes. Loads, prints, complaints and stores are
-/// counted together, from 0.
+/// The call of number `call` fails after it took `takes` bytes. Loads, prints, complaints and
+/// stores are counted together, from 0.
 #[derive(Clone, Copy, Debug, PartialEq, Eq)]
 pub struct Stop {
     pub call: u64,

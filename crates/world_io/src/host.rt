@@ -22,7 +22,8 @@ pub struct HostWorld<'r, R> {
 impl<'r, R> HostWorld<'r, R> {
     /// The host, with no fault counted. It takes no memory.
     pub fn new(rt: &'r R) -> HostWorld<'r, R>
-        ensures { (result.loads ≡ 0) × (result.prints ≡ 0) × (result.complaints ≡ 0) × (result.stores ≡ 0) }
+        ensures { (result.loads ≡ 0) × (result.prints ≡ 0) × (result.complaints ≡ 0)
+            × (result.stores ≡ 0) }
     {
         HostWorld {
             rt,
@@ -37,7 +38,18 @@ impl<'r, R> HostWorld<'r, R> {
 impl<'r> World for HostWorld<'r, HostRuntime> {
     ghost use Rattle.std.specs.Prelude.{None};
 
-    ghost meaning = { λ s. record { files = None; printed = None; complained = None; stored = None; calls = None; loads = s.loads; prints = s.prints; complaints = s.complaints; stores = s.stores } };
+    ghost meaning = { λ s.
+        record {
+          files = None;
+          printed = None;
+          complained = None;
+          stored = None;
+          calls = None;
+          loads = s.loads;
+          prints = s.prints;
+          complaints = s.complaints;
+          stores = s.stores;
+        } };
 
     fn load(&mut self, name: &str, most: u64, into: &mut Vec<u8>) -> Result<(), LoadFault> {
         into.clear();
@@ -99,8 +111,8 @@ fn make_room(size: u64, most: u64, into: &mut Vec<u8>)
     let _ = into.reserve_exact(size.min(most + 1) as usize);
 }
 
-/// Reads a file to its end, but at most one byte more than `most`. A read of no bytes is the end; each
-/// other one takes at least one byte.
+/// Reads a file to its end, but at most one byte more than `most`. A read of no bytes is the end;
+/// each other one takes at least one byte.
 fn fill<F: Read>(file: &mut F, most: u64, into: &mut Vec<u8>) -> Result<(), LoadFault>
     requires most { most < 2 ^ 32 }
     requires empty { vec_len into.old ≡ 0 }
@@ -128,7 +140,8 @@ fn fill<F: Read>(file: &mut F, most: u64, into: &mut Vec<u8>) -> Result<(), Load
     Err(LoadFault::Failed)
 }
 
-/// Writes all bytes. A write that takes none of them is a fault; each other one takes at least one byte.
+/// Writes all bytes. A write that takes none of them is a fault; each other one takes at least one
+/// byte.
 fn pour<F: Write>(file: &mut F, bytes: &[u8]) -> Result<(), Failed> {
     let mut at = 0;
     for _ in 0..bytes.len() {

@@ -1,8 +1,8 @@
-//! The world that a run meets: the files that it loads, what it prints and complains, the files that it
-//! stores, and the gate before each unit.
+//! The world that a run meets: the files that it loads, what it prints and complains, the files
+//! that it stores, and the gate before each unit.
 //!
-//! `World` is what a run asks for. `MemoryWorld` holds all in memory, tells all of it, and fails exactly
-//! where it was asked to. `HostWorld` is the host; its few lines are the trusted edge.
+//! `World` is what a run asks for. `MemoryWorld` holds all in memory, tells all of it, and fails
+//! exactly where it was asked to. `HostWorld` is the host; its few lines are the trusted edge.
 #![tactic(auto)]
 
 pub mod fault;

@@ -1,5 +1,7 @@
 //! A world in memory, whose calls fail where they are told to.
-ghost use Rattle.std.specs.Prelude.{◌≡◌, ◌≤◌, ◌<◌, ◌+◌, ◌^◌, ◌⊎◌, ◌++◌, [], ◌∷◌, length, take, vec_len, vec_capacity, None, Some, IfOk, OnOk, OnErr, IsErrOf, IsSomeAnd, unwrap_or};
+ghost use Rattle.std.specs.Prelude.{◌≡◌, ◌≤◌, ◌<◌, ◌+◌, ◌^◌, ◌⊎◌, ◌++◌, [], ◌∷◌, length, take};
+ghost use Rattle.std.specs.Prelude.{vec_len, vec_capacity, None, Some, IfOk, OnOk, OnErr, IsErrOf};
+ghost use Rattle.std.specs.Prelude.{IsSomeAnd, unwrap_or};
 ghost use Rattle.std.specs.Option.{option_copied};
 ghost use Rattle.std.specs.Io.{StartsWith};
 ghost use Rattle.world_io.specs.Meaning.{file_of};
@@ -25,8 +27,9 @@ pub struct Faults {
 
 /// A world in memory. It tells all that it holds.
 ///
-/// Its calls of all four kinds are counted from 0. A call that a stop names fails after so many bytes.
-/// No other call fails, except a complaint past 65,536 bytes in all: it takes what fits and fails.
+/// Its calls of all four kinds are counted from 0. A call that a stop names fails after so many
+/// bytes. No other call fails, except a complaint past 65,536 bytes in all: it takes what fits and
+/// fails.
 #[derive(Drop)]
 pub struct MemoryWorld {
     alloc: Global,
@@ -49,8 +52,8 @@ impl MemoryWorld {
     ghost use Rattle.world_io.specs.Calls.{raised, under};
     ghost use Rattle.world_io.specs.Turns.{Begins, TakesTurn, stop_of};
 
-    /// A world of these files, with nothing printed, complained or stored and all numbers 0. It takes the
-    /// memory for complaints.
+    /// A world of these files, with nothing printed, complained or stored and all numbers 0. It
+    /// takes the memory for complaints.
     pub fn new(alloc: Global, files: Files, stops: Stops) -> Result<MemoryWorld, AllocError>
         ensures new { IfOk result (λ w. IsNew files (meaning_of w)) }
         ensures stops { IfOk result (λ w. Begins stops w) }
@@ -115,7 +118,8 @@ impl World for MemoryWorld {
 
     fn load(&mut self, name: &str, most: u64, into: &mut Vec<u8>) -> Result<(), LoadFault>
         requires { most < 2 ^ 32 }
-        ensures loads { Loads (meaning_of self.old) (meaning_of self.new) name.now most into.new.items result }
+        ensures loads { Loads (meaning_of self.old)
+            (meaning_of self.new) name.now most into.new.items result }
         ensures stops { StopsLoad self.old self.new name.now most into.new.items result }
     {
         into.clear();
@@ -246,12 +250,15 @@ fn give(file: Option<&[u8]>, most: u64, into: &mut Vec<u8>) -> Result<(), LoadFa
     ensures few { OnOk result (length into.new.items ≤ most) }
     ensures told { OnOk result (option_copied file.entry ≡ Some into.new.items) }
     ensures failed { result ≡ Err LoadFault.Failed → ⊥ }
-    ensures missing { IsErrOf result LoadFault.Missing → (option_copied file.entry ≡ None) × (into.new.items ≡ []) }
+    ensures missing { IsErrOf result LoadFault.Missing
+        → (option_copied file.entry ≡ None) × (into.new.items ≡ []) }
     ensures too_large { IsErrOf result LoadFault.TooLarge → length into.new.items ≡ most + 1 }
-    ensures large { IsErrOf result LoadFault.TooLarge → IsSomeAnd (option_copied file.entry) (λ bs. most < length bs) }
+    ensures large { IsErrOf result LoadFault.TooLarge
+        → IsSomeAnd (option_copied file.entry) (λ bs. most < length bs) }
     ensures part { OnErr result (StartsWith (unwrap_or (option_copied file.entry) []) into.new.items) }
     ensures always_missing { option_copied file.entry ≡ None → IsErrOf result LoadFault.Missing }
-    ensures always_too_large { IsSomeAnd (option_copied file.entry) (λ bs. most < length bs) → IsErrOf result LoadFault.TooLarge ⊎ IsErrOf result LoadFault.Memory }
+    ensures always_too_large { IsSomeAnd (option_copied file.entry) (λ bs. most < length bs)
+        → IsErrOf result LoadFault.TooLarge ⊎ IsErrOf result LoadFault.Memory }
 {
     let Some(bytes) = file else {
         return Err(LoadFault::Missing);
@@ -275,7 +282,8 @@ fn give_part(
 ) -> Result<(), AllocError>
     requires most { most < 2 ^ 32 }
     requires empty { into.old.items ≡ [] }
-    ensures ok { OnOk result (into.new.items ≡ cut stop (take (most + 1) (unwrap_or (option_copied file.entry) []))) }
+    ensures ok { OnOk result
+        (into.new.items ≡ cut stop (take (most + 1) (unwrap_or (option_copied file.entry) []))) }
     ensures err { OnErr result (into.new.items ≡ []) }
     ensures part { StartsWith (unwrap_or (option_copied file.entry) []) into.new.items }
 {

@@ -20,8 +20,8 @@ fn stopping(alloc: Global, call: u64, takes: u64) -> Result<MemoryWorld, AllocEr
     MemoryWorld::new(alloc, Files::new(files), Stops::new(stops))
 }
 
-/// What a load, a print, a complaint, a store and two loads that the files refuse leave, for each call
-/// that may stop.
+/// What a load, a print, a complaint, a store and two loads that the files refuse leave, for each
+/// call that may stop.
 #[test]
 fn stops_at_each_call(rt: HostRuntime) -> Result<(), Fail> {
     let alloc = rt.alloc();
@@ -88,8 +88,8 @@ const ONE_INT: [u8; 400] = [
     0x00, 0x00, 0x00, 0x00, 0x00, 0x00, 0x00, 0x00, 0x00, 0x00, 0x00, 0x00, 0x00, 0x00, 0x00, 0x00,
 ];
 
-/// The host stores a file, gives its bytes again, refuses one byte less, and fails at a file that is not
-/// there. A long file comes in several pieces.
+/// The host stores a file, gives its bytes again, refuses one byte less, and fails at a file that
+/// is not there. A long file comes in several pieces.
 #[test]
 fn stores_and_loads_on_the_host(rt: HostRuntime) -> Result<(), Fail> {
     let alloc = rt.alloc();

@@ -1,5 +1,7 @@
 -- Types that need no children, and arrays.
-use Rattle.std.proofs.Common.{◌≡◌, ℕ, ℤ, pos, negsuc, ◌<◌, ◌≤◌, ◌^◌, ◌==◌, ◌||◌, ◌&&◌, not, nat_lt, Bool, true, false, List, [], length, Option, None, Some, if◌then◌else◌, refl, arith}
+use Rattle.std.proofs.Common.{◌≡◌, ℕ, ℤ, pos, negsuc, ◌<◌, ◌≤◌, ◌^◌, ◌==◌, ◌||◌, ◌&&◌, not, nat_lt}
+use Rattle.std.proofs.Common.{Bool, true, false, List, [], length, Option, None, Some}
+use Rattle.std.proofs.Common.{if◌then◌else◌, refl, arith}
 use Rattle.std.proofs.lemmas.Bool.{ltb-true, and_parts}
 use Rattle.std.proofs.lemmas.Bool.Decides.{nat_tests}
 use Rattle.std.proofs.lemmas.Option.{none-some}
@@ -12,14 +14,17 @@ use Rattle.type_attributes.specs.declared.base.Base.{Base}
 use Rattle.type_attributes.specs.declared.base.Base.TheVariants.{Int, Float, Opaque}
 use Rattle.type_attributes.specs.Attributes.{name_asked, name_in_full, constant_asked, number_said}
 use Rattle.type_attributes.specs.Labels.{Row, plain_label, word_of, size_in}
-use Rattle.type_attributes.specs.BaseTypes.{int_word, is_integer, is_float, base_of, code_in, is_whole, base_with, base_label, base_row, unspecified_row}
+use Rattle.type_attributes.specs.BaseTypes.{int_word, is_integer, is_float, base_of, code_in}
+use Rattle.type_attributes.specs.BaseTypes.{is_whole, base_with, base_label, base_row}
+use Rattle.type_attributes.specs.BaseTypes.{unspecified_row}
 use Rattle.type_attributes.specs.References.{atomic_name, reference_row, typedef_row}
 use Rattle.c_types.specs.Pointers.{pointer_row, tag_asked}
 use Rattle.c_types.specs.Types.{plain_row_of}
 use Rattle.c_types.specs.Arrays.{elements_of, elements_in, some_long, lengths_of, array_row}
 use Rattle.c_types.specs.Formed.{IsFormed}
 use Rattle.c_types.proofs.Formed.Names.{IsNamedCleanly, text_clean_of, name_clean, spelled_clean}
-use Rattle.c_types.proofs.Formed.Kinds.{no_name, int_formed, float_formed, opaque_formed, linked_formed, array_formed}
+use Rattle.c_types.proofs.Formed.Kinds.{no_name, int_formed, float_formed, opaque_formed}
+use Rattle.c_types.proofs.Formed.Kinds.{linked_formed, array_formed}
 
 -- the type of a row is formed
 abbrev pub HasFormed : Row → Type 0
@@ -50,20 +55,28 @@ chosen false x y h k = k
 integer_small : (size : ℕ) → is_integer size ≡ true → size ≤ 16
 integer_small size t = grind (arith, nat_tests)
 
-int_small : (encoding size : ℕ) (a : Bool) → encoding ≤ 4 → (a && is_integer size) ≡ true → IsSmall (Int (int_word encoding size))
-int_small encoding size a le t = omega (arith, integer_small size (and_parts a (is_integer size) t).1)
+int_small : (encoding size : ℕ) (a : Bool) → encoding ≤ 4 → (a && is_integer size) ≡ true
+    → IsSmall (Int (int_word encoding size))
+int_small encoding size a le t =
+    omega (arith, integer_small size (and_parts a (is_integer size) t).1)
 
 base_small : (size encoding : ℕ) → IsSmall (base_of size encoding)
 base_small size encoding =
-    chosen (encoding == 2 && is_integer size) (Int (int_word 4 size)) _ (int_small 4 size (encoding == 2) (omega arith))
+    chosen (encoding == 2 && is_integer size) (Int (int_word 4 size)) _
+    (int_small 4 size (encoding == 2) (omega arith))
     (chosen (encoding == 4 && is_float size) Float _ (λ t. tt)
-    (chosen ((encoding == 5 || encoding == 6) && is_integer size) (Int (int_word 1 size)) _ (int_small 1 size (encoding == 5 || encoding == 6) (omega arith))
-    (chosen ((encoding == 7 || encoding == 8 || encoding == 16) && is_integer size) (Int (int_word 0 size)) Opaque (int_small 0 size (encoding == 7 || encoding == 8 || encoding == 16) (omega arith)) tt)))
+    (chosen ((encoding == 5 || encoding == 6) && is_integer size) (Int (int_word 1 size)) _
+    (int_small 1 size (encoding == 5 || encoding == 6) (omega arith))
+    (chosen ((encoding == 7 || encoding == 8 || encoding == 16) && is_integer size)
+    (Int (int_word 0 size)) Opaque
+    (int_small 0 size (encoding == 7 || encoding == 8 || encoding == 16) (omega arith)) tt)))
 
 with_small : (size : ℕ) (encoding bits : Option Number) → IsSmall (base_with size encoding bits)
-with_small size encoding bits = chosen (is_whole size bits) (base_of size (code_in encoding)) Opaque (λ t. base_small size (code_in encoding)) tt
+with_small size encoding bits = chosen (is_whole size bits) (base_of size (code_in encoding)) Opaque
+    (λ t. base_small size (code_in encoding)) tt
 
-label_formed : (name : List ℕ) (size : ℕ) (b : Base) → HasNoNul name → size < 2 ^ 32 → IsSmall b → IsFormed (base_label name size b) 0
+label_formed : (name : List ℕ) (size : ℕ) (b : Base) → HasNoNul name → size < 2 ^ 32 → IsSmall b
+    → IsFormed (base_label name size b) 0
 label_formed name size (Int extra) clean s x = int_formed name size extra clean s x
 label_formed name size Float clean s x = float_formed name size clean s
 label_formed name size Opaque clean s x = opaque_formed name size clean s
@@ -71,15 +84,23 @@ label_formed name size Opaque clean s x = opaque_formed name size clean s
 base_formed : (c : Sections) (e : Given) → IsNamedCleanly e → HasFormed (base_row c e)
 base_formed c e clean =
     let size = size_in (constant_asked 0x0b e).said in
-    label_formed (name_in_full (name_asked c e)) size (base_with size (number_said (constant_asked 0x3e e)) (number_said (constant_asked 0x0d e))) (name_clean c e clean) (size_fits (constant_asked 0x0b e).said) (with_small size (number_said (constant_asked 0x3e e)) (number_said (constant_asked 0x0d e)))
+    label_formed (name_in_full (name_asked c e)) size
+    (base_with size (number_said (constant_asked 0x3e e)) (number_said (constant_asked 0x0d e)))
+    (name_clean c e clean) (size_fits (constant_asked 0x0b e).said) (with_small size
+    (number_said (constant_asked 0x3e e)) (number_said (constant_asked 0x0d e)))
 
 unspecified_formed : (c : Sections) (e : Given) → IsNamedCleanly e → HasFormed (unspecified_row c e)
-unspecified_formed c e clean = opaque_formed (name_in_full (name_asked c e)) 0 (name_clean c e clean) (omega arith)
+unspecified_formed c e clean =
+    opaque_formed (name_in_full (name_asked c e)) 0 (name_clean c e clean) (omega arith)
 
 typedef_formed : (c : Sections) (e : Given) → IsNamedCleanly e → HasFormed (typedef_row c e)
-typedef_formed c e clean = linked_formed 8 (name_in_full (name_asked c e)) false refl (λ (tag : Tag) (h : declared_tag (plain_label 8 (name_in_full (name_asked c e)) 0) ≡ Some tag). none-some tag h) (name_clean c e clean)
+typedef_formed c e clean = linked_formed 8 (name_in_full (name_asked c e)) false refl
+    (λ (tag : Tag) (h : declared_tag (plain_label 8 (name_in_full (name_asked c e)) 0) ≡ Some tag).
+    none-some tag h) (name_clean c e clean)
 
-reference_formed : (kind : ℕ) (name : List ℕ) (c : Sections) (e : Given) → row_of kind ≡ Some (linked_row 1 false) → ((tag : Tag) → declared_tag (plain_label kind name 0) ≡ Some tag → ⊥) → HasNoNul name → HasFormed (reference_row kind name c e)
+reference_formed : (kind : ℕ) (name : List ℕ) (c : Sections) (e : Given) → row_of kind ≡ Some
+    (linked_row 1 false) → ((tag : Tag) → declared_tag (plain_label kind name 0) ≡ Some tag → ⊥)
+    → HasNoNul name → HasFormed (reference_row kind name c e)
 reference_formed kind name c e is none clean = linked_formed kind name false is none clean
 
 atomic_clean : HasNoNul atomic_name
@@ -93,7 +114,8 @@ abbrev pub IsFormedIn : Option Row → Type 0
 IsFormedIn None = Unit {0}
 IsFormedIn (Some r) = IsFormedRow r
 
-pub either_row : (a : Bool) (r : Row) (o : Option Row) → IsFormedRow r → IsFormedIn o → IsFormedIn (if a then Some r else o)
+pub either_row : (a : Bool) (r : Row) (o : Option Row) → IsFormedRow r → IsFormedIn o
+    → IsFormedIn (if a then Some r else o)
 either_row true r o h k = h
 either_row false r o h k = k
 
@@ -101,25 +123,40 @@ pub plain_formed : (c : Sections) (e : Given) → IsNamedCleanly e → IsFormedI
 plain_formed c e clean =
     either_row (e.tag == 0x16) (typedef_row c e) _ (λ n. typedef_formed c e clean)
     (either_row (e.tag == 0x24) (base_row c e) _ (λ n. base_formed c e clean)
-    (either_row (e.tag == 0x26) (reference_row 10 [] c e) _ (λ n. reference_formed 10 [] c e refl (λ (tag : Tag) (h : declared_tag (plain_label 10 [] 0) ≡ Some tag). none-some tag h) no_name)
-    (either_row (e.tag == 0x35) (reference_row 9 [] c e) _ (λ n. reference_formed 9 [] c e refl (λ (tag : Tag) (h : declared_tag (plain_label 9 [] 0) ≡ Some tag). none-some tag h) no_name)
-    (either_row (e.tag == 0x37) (reference_row 11 [] c e) _ (λ n. reference_formed 11 [] c e refl (λ (tag : Tag) (h : declared_tag (plain_label 11 [] 0) ≡ Some tag). none-some tag h) no_name)
+    (either_row (e.tag == 0x26) (reference_row 10 [] c e) _ (λ n. reference_formed 10 [] c e refl (λ
+    (tag : Tag) (h : declared_tag (plain_label 10 [] 0) ≡ Some tag). none-some tag h) no_name)
+    (either_row (e.tag == 0x35) (reference_row 9 [] c e) _ (λ n. reference_formed 9 [] c e refl
+    (λ (tag : Tag) (h : declared_tag (plain_label 9 [] 0) ≡ Some tag). none-some tag h) no_name)
+    (either_row (e.tag == 0x37) (reference_row 11 [] c e) _ (λ n. reference_formed 11 [] c e refl (λ
+    (tag : Tag) (h : declared_tag (plain_label 11 [] 0) ≡ Some tag). none-some tag h) no_name)
     (either_row (e.tag == 0x3b) (unspecified_row c e) _ (λ n. unspecified_formed c e clean)
-    (either_row (e.tag == 0x47) (reference_row 8 atomic_name c e) None (λ n. reference_formed 8 atomic_name c e refl (λ (tag : Tag) (h : declared_tag (plain_label 8 atomic_name 0) ≡ Some tag). none-some tag h) atomic_clean) tt))))))
+    (either_row (e.tag == 0x47) (reference_row 8 atomic_name c e) None
+    (λ n. reference_formed 8 atomic_name c e refl
+    (λ (tag : Tag) (h : declared_tag (plain_label 8 atomic_name 0) ≡ Some tag). none-some tag h)
+    atomic_clean) tt))))))
 
 -- pointers, and tag entries
-pub pointer_row_formed : (c : Sections) (e : Given) (children : List Given) → IsFormedRow (pointer_row c e children)
-pointer_row_formed c e children n = linked_formed 2 [] false refl (λ (tag : Tag) (h : declared_tag (plain_label 2 [] 0) ≡ Some tag). none-some tag h) no_name
+pub pointer_row_formed : (c : Sections) (e : Given) (children : List Given)
+    → IsFormedRow (pointer_row c e children)
+pointer_row_formed c e children n = linked_formed 2 [] false refl
+    (λ (tag : Tag) (h : declared_tag (plain_label 2 [] 0) ≡ Some tag). none-some tag h) no_name
 
-pub tag_formed : (c : Sections) (e : Given) → IsNamedCleanly e → IsFormed (plain_label 18 (name_in_full (tag_asked c e)) 0) 1
+pub tag_formed : (c : Sections) (e : Given) → IsNamedCleanly e
+    → IsFormed (plain_label 18 (name_in_full (tag_asked c e)) 0) 1
 tag_formed c e clean =
-    linked_formed 18 (name_in_full (tag_asked c e)) true refl (λ (tag : Tag) (h : declared_tag (plain_label 18 (name_in_full (tag_asked c e)) 0) ≡ Some tag). none-some tag h) (text_clean_of 0x1c c e clean)
+    linked_formed 18 (name_in_full (tag_asked c e)) true refl (λ (tag : Tag)
+    (h : declared_tag (plain_label 18 (name_in_full (tag_asked c e)) 0) ≡ Some tag).
+    none-some tag h) (text_clean_of 0x1c c e clean)
 
 -- arrays
-few_elements : (os : List (Option ℕ)) (s t : Bool) → nat_lt (elements_of os) (2 ^ 32) ≡ t → (if s || not t then 0 else elements_of os) < 2 ^ 32
+few_elements : (os : List (Option ℕ)) (s t : Bool) → nat_lt (elements_of os) (2 ^ 32) ≡ t
+    → (if s || not t then 0 else elements_of os) < 2 ^ 32
 few_elements os true t e = omega arith
 few_elements os false true e = ltb-true (elements_of os) (2 ^ 32) e
 few_elements os false false e = omega arith
 
-pub array_row_formed : (c : Sections) (e : Given) (children : List Given) → IsFormedRow (array_row c e children)
-array_row_formed c e children n = array_formed (elements_in (lengths_of children)) (few_elements (lengths_of children) (some_long (lengths_of children)) (nat_lt (elements_of (lengths_of children)) (2 ^ 32)) refl)
+pub array_row_formed : (c : Sections) (e : Given) (children : List Given)
+    → IsFormedRow (array_row c e children)
+array_row_formed c e children n =
+    array_formed (elements_in (lengths_of children)) (few_elements (lengths_of children)
+    (some_long (lengths_of children)) (nat_lt (elements_of (lengths_of children)) (2 ^ 32)) refl)

@@ -1,5 +1,6 @@
 -- Structures and unions.
-use Rattle.std.proofs.Common.{◌≡◌, ℕ, ℤ, ◌<◌, ◌≤◌, ◌^◌, nat_lt, nat_le, Bool, true, false, List, length, map, Option, None, Some, if◌then◌else◌, refl, arith}
+use Rattle.std.proofs.Common.{◌≡◌, ℕ, ℤ, ◌<◌, ◌≤◌, ◌^◌, nat_lt, nat_le, Bool, true, false, List}
+use Rattle.std.proofs.Common.{length, map, Option, None, Some, if◌then◌else◌, refl, arith}
 use Rattle.std.specs.Prelude.{All}
 use Rattle.std.proofs.lemmas.Bool.{ltb-true, leb-true}
 use Rattle.std.proofs.lemmas.List.{length-map}
@@ -10,12 +11,15 @@ use Rattle.type_attributes.specs.declared.number.Number.TheVariants.{Natural, Ne
 use Rattle.type_attributes.specs.declared.fault.TypeFault.{TypeFault}
 use Rattle.type_attributes.specs.Scopes.{Scope}
 use Rattle.type_attributes.specs.Numbers.{number_from}
-use Rattle.type_attributes.specs.Attributes.{name_asked, name_in_full, constant_asked, flag_asked, is_set}
+use Rattle.type_attributes.specs.Attributes.{name_asked, name_in_full, constant_asked, flag_asked}
+use Rattle.type_attributes.specs.Attributes.{is_set}
 use Rattle.type_attributes.specs.Children.{tagged}
 use Rattle.type_attributes.specs.Labels.{Row, size_in, size_refused}
 use Rattle.type_attributes.specs.Parts.{refused_by}
 use Rattle.type_attributes.specs.Positions.{position_of}
-use Rattle.c_types.specs.Structures.{or_zero, bits_of, bits_in, near, word_of, member_word, member_part, member_target, member_refused, has_fields, forward_row, defined_row, with_refused, structure_row}
+use Rattle.c_types.specs.Structures.{or_zero, bits_of, bits_in, near, word_of, member_word}
+use Rattle.c_types.specs.Structures.{member_part, member_target, member_refused, has_fields}
+use Rattle.c_types.specs.Structures.{forward_row, defined_row, with_refused, structure_row}
 use Rattle.c_types.proofs.Formed.Refused.{second_empty}
 use Rattle.c_types.proofs.Formed.Names.{IsNamedCleanly, name_clean}
 use Rattle.c_types.proofs.Formed.Children.{tagged_all}
@@ -39,36 +43,56 @@ near_if : (n most : ℕ) (t : Bool) → 0 < most → nat_lt n most ≡ t → (if
 near_if n most true some t = ltb-true n most t
 near_if n most false some t = some
 
-word_small : (fields : Bool) (position bits : ℕ) → bits ≤ 255 → word_of fields position bits < 2 ^ 32
-word_small true position bits le = let h : near true position < 2 ^ 24 = near_if position (2 ^ 24) (nat_lt position (2 ^ 24)) (omega arith) refl in omega arith
-word_small false position bits le = near_if position (2 ^ 32) (nat_lt position (2 ^ 32)) (omega arith) refl
+word_small : (fields : Bool) (position bits : ℕ) → bits ≤ 255
+    → word_of fields position bits < 2 ^ 32
+word_small true position bits le = let h : near true position < 2 ^ 24 =
+    near_if position (2 ^ 24) (nat_lt position (2 ^ 24)) (omega arith) refl in omega arith
+word_small false position bits le =
+    near_if position (2 ^ 32) (nat_lt position (2 ^ 32)) (omega arith) refl
 
 member_small : (c : Scope) (fields : Bool) (m : Given) → member_word c fields m < 2 ^ 32
-member_small c fields m = word_small fields (or_zero (position_of c m).said) (bits_in (constant_asked 0x0d m).said) (few_bits (constant_asked 0x0d m).said)
+member_small c fields m = word_small fields (or_zero (position_of c m).said)
+    (bits_in (constant_asked 0x0d m).said) (few_bits (constant_asked 0x0d m).said)
 
-forward_row_formed : (c : Scope) (union : Bool) (e : Given) → IsNamedCleanly e → IsFormedRow (forward_row c union e)
-forward_row_formed c union e clean none = forward_formed union (name_in_full (name_asked c.sections e)) (name_clean c.sections e clean)
+forward_row_formed : (c : Scope) (union : Bool) (e : Given) → IsNamedCleanly e
+    → IsFormedRow (forward_row c union e)
+forward_row_formed c union e clean none =
+    forward_formed union (name_in_full (name_asked c.sections e)) (name_clean c.sections e clean)
 
-defined_row_formed : (c : Scope) (union : Bool) (e : Given) (members : List Given) → IsNamedCleanly e → All IsNamedCleanly members → IsFormedRow (defined_row c union e members)
+defined_row_formed : (c : Scope) (union : Bool) (e : Given) (members : List Given)
+    → IsNamedCleanly e → All IsNamedCleanly members → IsFormedRow (defined_row c union e members)
 defined_row_formed c union e members clean all none =
     let fields = has_fields members in
     let size = constant_asked 0x0b e in
     let row : PartRow = record { named = true; refers = true; value = 2 ^ 32 } in
-    let few : length members ≤ 65535 = few_parts e.at (length members) (second_empty (refused_by (member_refused c fields) members) _ (second_empty (size_refused e.at size.said) _ (second_empty size.refused _ (second_empty (name_asked c.sections e).refused _ none)))) in
-    structure_formed union (name_in_full (name_asked c.sections e)) (size_in size.said) fields (map (member_part c fields) members) (length (map (member_target c) members)) (name_clean c.sections e clean) (size_fits size.said)
-    (omega (arith, length-map members (member_target c), length-map members (member_part c fields))) (omega (arith, length-map members (member_part c fields)))
-    (parts_fit row (member_part c fields) members (λ (m : Given) (h : IsNamedCleanly m). named_part true (2 ^ 32) (name_in_full (name_asked c.sections m)) (member_word c fields m) (name_clean c.sections m h) (member_small c fields m)) all)
+    let few : length members ≤ 65535 = few_parts e.at (length members) (second_empty
+    (refused_by (member_refused c fields) members) _ (second_empty (size_refused e.at size.said)
+    _ (second_empty size.refused _ (second_empty (name_asked c.sections e).refused _ none)))) in
+    structure_formed union (name_in_full (name_asked c.sections e)) (size_in size.said) fields
+    (map (member_part c fields) members) (length (map (member_target c) members))
+    (name_clean c.sections e clean) (size_fits size.said)
+    (omega (arith, length-map members (member_target c), length-map members (member_part c fields)))
+    (omega (arith, length-map members (member_part c fields)))
+    (parts_fit row (member_part c fields) members (λ (m : Given) (h : IsNamedCleanly m).
+    named_part true (2 ^ 32) (name_in_full (name_asked c.sections m)) (member_word c fields m)
+    (name_clean c.sections m h) (member_small c fields m)) all)
 
 -- one row or another, and one with more refusals
-pub if_row : (a : Bool) (r s : Row) → IsFormedRow r → IsFormedRow s → IsFormedRow (if a then r else s)
+pub if_row : (a : Bool) (r s : Row) → IsFormedRow r → IsFormedRow s
+    → IsFormedRow (if a then r else s)
 if_row true r s h k = h
 if_row false r s h k = k
 
 pub more_refused : (fs : List TypeFault) (r : Row) → IsFormedRow r → IsFormedRow (with_refused fs r)
 more_refused fs r h none = h (second_empty fs r.refused none)
 
-pub structure_row_formed : (c : Scope) (union : Bool) (e : Given) (children : List Given) → IsNamedCleanly e → All IsNamedCleanly children → IsFormedRow (structure_row c union e children)
+pub structure_row_formed : (c : Scope) (union : Bool) (e : Given) (children : List Given)
+    → IsNamedCleanly e → All IsNamedCleanly children
+    → IsFormedRow (structure_row c union e children)
 structure_row_formed c union e children clean all =
-    more_refused (flag_asked 0x3c e).refused (if is_set (flag_asked 0x3c e) then forward_row c union e else defined_row c union e (tagged 0x0d children))
-    (if_row (is_set (flag_asked 0x3c e)) (forward_row c union e) (defined_row c union e (tagged 0x0d children)) (forward_row_formed c union e clean)
-    (defined_row_formed c union e (tagged 0x0d children) clean (tagged_all IsNamedCleanly 0x0d children all)))
+    more_refused (flag_asked 0x3c e).refused (if is_set (flag_asked 0x3c e)
+    then forward_row c union e else defined_row c union e (tagged 0x0d children))
+    (if_row (is_set (flag_asked 0x3c e)) (forward_row c union e)
+    (defined_row c union e (tagged 0x0d children)) (forward_row_formed c union e clean)
+    (defined_row_formed c union e (tagged 0x0d children) clean
+    (tagged_all IsNamedCleanly 0x0d children all)))

@@ -70,7 +70,8 @@ fn put_header(
     Ok(())
 }
 
-/// A unit of these entries behind its root. They begin at offset 12 in version 4, and at 13 in version 5.
+/// A unit of these entries behind its root. They begin at offset 12 in version 4, and at 13 in
+/// version 5.
 fn info_of(
     alloc: Global,
     order: Order,

@@ -66,7 +66,8 @@ const ABBREVIATIONS: &[u8] = &[
 const STRINGS: &[u8] =
     b"long unsigned int\0later\0plain\0word\0high\0bytes\0next\0tail\0rest\0GNU C17 12.2.0\0char\0sample\0";
 
-/// The types are those of a listing that was made of what `readelf --debug-dump=info` prints of the unit.
+/// The types are those of a listing that was made of what `readelf --debug-dump=info` prints of the
+/// unit.
 #[test]
 fn compiled_unit(rt: HostRuntime) -> Result<(), Fail> {
     let wanted = [

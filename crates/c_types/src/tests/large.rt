@@ -1,5 +1,5 @@
-//! Units with many parts and with deep nests. Each would take hours, were every structure to read all that stands
-//! deeper than its members.
+//! Units with many parts and with deep nests. Each would take hours, were every structure to read
+//! all that stands deeper than its members.
 use super::{ABBREVIATIONS, file_of, info_of, types_in};
 use std::alloc::{AllocError, Global};
 use std::test::Fail;
@@ -13,7 +13,8 @@ fn put_times(entries: &mut Vec<u8>, bytes: &[u8], times: u32) -> Result<(), Allo
     Ok(())
 }
 
-/// How many types a unit of these entries has, and how many parts these have together; or its refusal.
+/// How many types a unit of these entries has, and how many parts these have together; or its
+/// refusal.
 fn counts(alloc: Global, entries: &[u8]) -> Result<Result<(usize, usize), TypeFault>, Fail> {
     let info = info_of(alloc, entries)?;
     let file = file_of(alloc, info.as_slice(), ABBREVIATIONS, &[])?;
@@ -32,8 +33,8 @@ fn counts(alloc: Global, entries: &[u8]) -> Result<Result<(usize, usize), TypeFa
     Ok(Ok((types, parts)))
 }
 
-/// A type has at most 65,535 parts. Too many of them are refused at the type, before a refusal of a part and
-/// before those of higher numbers.
+/// A type has at most 65,535 parts. Too many of them are refused at the type, before a refusal of a
+/// part and before those of higher numbers.
 #[test]
 fn many_parts(rt: HostRuntime) -> Result<(), Fail> {
     let member: &[u8] = &[33, 13];

@@ -1,4 +1,5 @@
-//! Refusals: the least entries that have each, which of two comes first, and the last values that are accepted.
+//! Refusals: the least entries that have each, which of two comes first, and the last values that
+//! are accepted.
 use super::{compare, file_of, info_of, lines, lines_in};
 use dwarf_abbrev::AbbrevFault;
 use dwarf_forms::FormFault;
@@ -11,7 +12,8 @@ use type_attributes::fault::TypeFault;
 /// Entries behind the root, and their first refusal.
 type Refused<'x> = (&'x [u8], TypeFault);
 
-/// Holds the first refusal of entries behind the root, which begin at offset 13, against the one that is wanted.
+/// Holds the first refusal of entries behind the root, which begin at offset 13, against the one
+/// that is wanted.
 fn refuses(rt: &impl Abort, alloc: Global, cases: &[Refused<'_>]) -> Result<(), Fail> {
     for (entries, fault) in cases {
         let mut bytes = Vec::from_slice(alloc, &[1])?;
@@ -198,8 +200,8 @@ fn ranges(rt: HostRuntime) -> Result<(), Fail> {
     )
 }
 
-/// Two refusals of one entry: the lower number counts, and of two of one number the one that keeps the lower
-/// value. In the first eight the one that counts is found first, in the rest later.
+/// Two refusals of one entry: the lower number counts, and of two of one number the one that keeps
+/// the lower value. In the first eight the one that counts is found first, in the rest later.
 #[test]
 fn two_at_one_entry(rt: HostRuntime) -> Result<(), Fail> {
     refuses(
@@ -254,8 +256,8 @@ fn two_at_one_entry(rt: HostRuntime) -> Result<(), Fail> {
     )
 }
 
-/// Refusals of two entries: that of the earlier entry counts, whatever their numbers are and whichever is found
-/// first.
+/// Refusals of two entries: that of the earlier entry counts, whatever their numbers are and
+/// whichever is found first.
 #[test]
 fn at_two_entries(rt: HostRuntime) -> Result<(), Fail> {
     refuses(
@@ -343,7 +345,8 @@ fn abbreviations_first(rt: HostRuntime) -> Result<(), Fail> {
     Ok(())
 }
 
-/// The last bit size and bits, lengths, sizes and values that are accepted, and bounds that are none.
+/// The last bit size and bits, lengths, sizes and values that are accepted, and bounds that are
+/// none.
 #[test]
 fn last_accepted(rt: HostRuntime) -> Result<(), Fail> {
     let cases: [(&[u8], &[&str]); 11] = [

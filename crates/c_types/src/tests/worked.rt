@@ -1,5 +1,5 @@
-//! Units that were written out by hand, entry by entry, and the types that the rules give them. The types were
-//! written down from the entries, before the bytes were read.
+//! Units that were written out by hand, entry by entry, and the types that the rules give them. The
+//! types were written down from the entries, before the bytes were read.
 use super::{file_with, line, types_in};
 use std::alloc::Global;
 use std::process::Abort;

@@ -4,4 +4,5 @@ use Rattle.btf_codec.specs.Spelling.{IsReadyType}
 use Rattle.btf_cases.proofs.ready.are_ready.Given as goal
 
 abbrev pub invariant-loop-t : goal.invariant-loop-t
-invariant-loop-t l = (k : ℕ) (d : CType) → k < l.t-index → IsReadyType l.strings l.count (get_or l.own k d)
+invariant-loop-t l =
+    (k : ℕ) (d : CType) → k < l.t-index → IsReadyType l.strings l.count (get_or l.own k d)

@@ -4,4 +4,5 @@ use Rattle.btf_codec.specs.Spelling.{HasOffset}
 use Rattle.btf_cases.proofs.ready.has_offsets.Given as goal
 
 abbrev pub invariant-loop-part : goal.invariant-loop-part
-invariant-loop-part l = (k : ℕ) (d : Part) → k < l.part-index → HasOffset l.strings (get_or l.parts k d).name
+invariant-loop-part l =
+    (k : ℕ) (d : Part) → k < l.part-index → HasOffset l.strings (get_or l.parts k d).name

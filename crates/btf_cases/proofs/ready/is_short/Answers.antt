@@ -10,7 +10,8 @@ pub loop-t-preserved : goal.loop-t-preserved
 loop-t-preserved c =
     let m =
     length_more c.args.own.now c.loop-t.t-index c.t-item.result c.loop-t-test.true
-    ∙ ap (λ (t : CType). length (flat_map fields_of (take c.loop-t.t-index c.args.own.now)) + length (fields_of t)) (sym c.t-item.is) in
+    ∙ ap (λ (t : CType). length (flat_map fields_of (take c.loop-t.t-index c.args.own.now))
+    + length (fields_of t)) (sym c.t-item.is) in
     let p = ap (λ (ps : List Part). length ps) c.items-parts.ensures in
     record {
       all = omega (arith, m, length_at_most c.t-item.result, c.loop-t.invariant.all, p);

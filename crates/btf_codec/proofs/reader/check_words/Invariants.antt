@@ -7,8 +7,10 @@ abbrev pub invariant-loop-piece : goal.invariant-loop-piece
 invariant-loop-piece l =
     record {
       so_far :
-          pieces_fault l.order l.place l.id l.limit l.count (map (λ (p : Bor (List ℕ)). p.now) (drop l.piece-index l.pieces))
-          ≡ pieces_fault l.order 24 l.first l.limit l.count (map (λ (p : Bor (List ℕ)). p.now) l.pieces);
+          pieces_fault l.order l.place l.id l.limit l.count
+          (map (λ (p : Bor (List ℕ)). p.now) (drop l.piece-index l.pieces))
+          ≡ pieces_fault l.order 24 l.first l.limit l.count
+          (map (λ (p : Bor (List ℕ)). p.now) l.pieces);
       id_is : l.id ≡ l.first + l.piece-index;
       near : l.place ≤ 24 + 2 ^ 32 * l.piece-index;
     }

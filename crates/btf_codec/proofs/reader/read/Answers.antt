@@ -1,4 +1,5 @@
-use Rattle.std.proofs.Common.{ℕ, List, length, map, ◌++◌, ◌≡◌, ap, subst, ◌∙◌, arith, Ok, Result, true}
+use Rattle.std.proofs.Common.{ℕ, List, length, map, ◌++◌, ◌≡◌, ap, subst, ◌∙◌, arith, Ok, Result}
+use Rattle.std.proofs.Common.{true}
 use Rattle.std.specs.Option.{option_map}
 use Rattle.c_model.specs.declared.graph.CType.{CType}
 use Rattle.dw_base.specs.declared.numbers.Order.{Order}
@@ -15,31 +16,89 @@ use denote.Bor.{Bor}
 
 pub returns-in-Err-clause-gives : goal.returns-in-Err-clause-gives
 returns-in-Err-clause-gives c =
-    table_refused (option_map (λ (b : Bor Table). before_of b.now) c.args.base) c.args.want c.args.bytes.now c.is_some.result c.len-before.result (length c.strings_of-strings.result.now) c.in-Err.fault
-    (c.is_some.ensures ∙ still_some (λ (b : Bor Table). before_of b.now) c.args.base) (omega (arith, c.len-before.ensures, ap (λ (ts : List CType). length ts) c.in_ok-all.ensures)) (ap (λ (ns : List ℕ). length ns) c.strings_of-strings.ensures.names) c.in-Err.ensures.gives
+    table_refused (option_map (λ (b : Bor Table). before_of b.now) c.args.base) c.args.want
+    c.args.bytes.now c.is_some.result c.len-before.result
+    (length c.strings_of-strings.result.now) c.in-Err.fault
+    (c.is_some.ensures ∙ still_some (λ (b : Bor Table). before_of b.now) c.args.base) (omega (
+      arith,
+      c.len-before.ensures,
+      ap (λ (ts : List CType). length ts) c.in_ok-all.ensures,
+    ))
+    (ap (λ (ns : List ℕ). length ns) c.strings_of-strings.ensures.names) c.in-Err.ensures.gives
 
 pub returns-in-Err-clause-complete : goal.returns-in-Err-clause-complete
-returns-in-Err-clause-complete c = λ (order : Order) (own : List CType) (names : List ℕ) (p : Spells (base_seen (option_map (λ (b : Bor Table). before_of b.now) c.args.base)) order own names c.args.bytes.now) (w : is_wanted c.args.want order ≡ true).
-    memory_alone c.in-Err.fault _ _ (returns-in-Err-clause-gives c) (complete (option_map (λ (b : Bor Table). before_of b.now) c.args.base) c.args.want order own names c.args.bytes.now (λ (i : ℕ). omega (arith, c.type_inv.bytes i)) (subst (λ (xs : List ℕ). EndsWithNul xs) c.strings_of-strings.ensures.names c.strings_of-strings.ensures.ends) p w)
+returns-in-Err-clause-complete c = λ (order : Order) (own : List CType) (names : List ℕ)
+    (p : Spells (base_seen (option_map (λ (b : Bor Table). before_of b.now) c.args.base)) order own
+    names c.args.bytes.now) (w : is_wanted c.args.want order ≡ true).
+    memory_alone c.in-Err.fault _ _ (returns-in-Err-clause-gives c) (complete
+    (option_map (λ (b : Bor Table). before_of b.now) c.args.base) c.args.want order own names
+    c.args.bytes.now (λ (i : ℕ). omega (arith, c.type_inv.bytes i)) (subst (λ (xs : List ℕ).
+    EndsWithNul xs) c.strings_of-strings.ensures.names c.strings_of-strings.ensures.ends) p w)
 
 pub returns-clause-gives : goal.returns-clause-gives
 returns-clause-gives c =
-    table_read (option_map (λ (b : Bor Table). before_of b.now) c.args.base) c.args.want c.args.bytes.now c.strings_of-strings.result.now c.is_some.result c.len-before.result
-    (record { order = c.in-Ok.file.order; pieces = map (λ (p : Bor (List ℕ)). p.now) c.in-Ok.file.pieces.items; names = c.in-Ok.file.names.now }) c.new.result
-    (c.is_some.ensures ∙ still_some (λ (b : Bor Table). before_of b.now) c.args.base) (omega (arith, c.len-before.ensures, ap (λ (ts : List CType). length ts) c.in_ok-all.ensures)) c.strings_of-strings.ensures.names c.in-Ok.ensures.gives
+    table_read (option_map (λ (b : Bor Table). before_of b.now) c.args.base) c.args.want
+    c.args.bytes.now c.strings_of-strings.result.now c.is_some.result c.len-before.result
+    (record {
+      order = c.in-Ok.file.order;
+      pieces = map (λ (p : Bor (List ℕ)). p.now)
+          c.in-Ok.file.pieces.items;
+      names = c.in-Ok.file.names.now;
+    }) c.new.result
+    (c.is_some.ensures ∙ still_some (λ (b : Bor Table). before_of b.now) c.args.base) (omega (
+      arith,
+      c.len-before.ensures,
+      ap (λ (ts : List CType). length ts) c.in_ok-all.ensures,
+    ))
+    c.strings_of-strings.ensures.names c.in-Ok.ensures.gives
     (c.new.ensures ∙ c.in_ok-push_types.ensures
-    ∙ ap (λ (ps : List (Bor (List ℕ))). c.in_ok-all.all.items ++ types_of (c.strings_of-strings.result.now ++ c.in-Ok.file.names.now) c.in-Ok.file.order (map (λ (p : Bor (List ℕ)). p.now) ps)) c.deref.ensures.value
-    ∙ ap (λ (ts : List CType). ts ++ types_of (c.strings_of-strings.result.now ++ c.in-Ok.file.names.now) c.in-Ok.file.order (map (λ (p : Bor (List ℕ)). p.now) c.in-Ok.file.pieces.items)) c.in_ok-all.ensures)
+    ∙ ap (λ (ps : List (Bor (List ℕ))). c.in_ok-all.all.items
+    ++ types_of (c.strings_of-strings.result.now ++ c.in-Ok.file.names.now) c.in-Ok.file.order
+    (map (λ (p : Bor (List ℕ)). p.now) ps)) c.deref.ensures.value
+    ∙ ap (λ (ts : List CType). ts
+    ++ types_of (c.strings_of-strings.result.now ++ c.in-Ok.file.names.now) c.in-Ok.file.order
+    (map (λ (p : Bor (List ℕ)). p.now) c.in-Ok.file.pieces.items)) c.in_ok-all.ensures)
 
 pub returns-clause-spelled : goal.returns-clause-spelled
-returns-clause-spelled c = (shows (option_map (λ (b : Bor Table). before_of b.now) c.args.base) c.args.want c.args.bytes.now (record { order = c.in-Ok.file.order; base = c.len-before.result; types = c.new.result; names = c.in-Ok.file.names.now }) (λ (i : ℕ). omega (arith, c.type_inv.bytes i)) (subst (λ (xs : List ℕ). EndsWithNul xs) c.strings_of-strings.ensures.names c.strings_of-strings.ensures.ends) (returns-clause-gives c)).spelled
+returns-clause-spelled c = (shows (option_map (λ (b : Bor Table). before_of b.now) c.args.base)
+    c.args.want c.args.bytes.now (record {
+      order = c.in-Ok.file.order;
+      base = c.len-before.result;
+      types = c.new.result;
+      names = c.in-Ok.file.names.now;
+    }) (λ (i : ℕ). omega (
+      arith,
+      c.type_inv.bytes i,
+    )) (subst (λ (xs : List ℕ). EndsWithNul xs) c.strings_of-strings.ensures.names
+    c.strings_of-strings.ensures.ends) (returns-clause-gives c)).spelled
 
 pub returns-clause-wanted : goal.returns-clause-wanted
-returns-clause-wanted c = (shows (option_map (λ (b : Bor Table). before_of b.now) c.args.base) c.args.want c.args.bytes.now (record { order = c.in-Ok.file.order; base = c.len-before.result; types = c.new.result; names = c.in-Ok.file.names.now }) (λ (i : ℕ). omega (arith, c.type_inv.bytes i)) (subst (λ (xs : List ℕ). EndsWithNul xs) c.strings_of-strings.ensures.names c.strings_of-strings.ensures.ends) (returns-clause-gives c)).wanted
+returns-clause-wanted c = (shows (option_map (λ (b : Bor Table). before_of b.now) c.args.base)
+    c.args.want c.args.bytes.now (record {
+      order = c.in-Ok.file.order;
+      base = c.len-before.result;
+      types = c.new.result;
+      names = c.in-Ok.file.names.now;
+    }) (λ (i : ℕ). omega (
+      arith,
+      c.type_inv.bytes i,
+    )) (subst (λ (xs : List ℕ). EndsWithNul xs) c.strings_of-strings.ensures.names
+    c.strings_of-strings.ensures.ends) (returns-clause-gives c)).wanted
 
 same : (t u : Shown) (r : Result Shown BtfFault) → r ≡ Ok t → r ≡ Ok u → t ≡ u
 same t u r e f = cc
 
 pub returns-clause-complete : goal.returns-clause-complete
-returns-clause-complete c = λ (order : Order) (own : List CType) (names : List ℕ) (p : Spells (base_seen (option_map (λ (b : Bor Table). before_of b.now) c.args.base)) order own names c.args.bytes.now) (w : is_wanted c.args.want order ≡ true).
-    same (record { order = c.in-Ok.file.order; base = c.len-before.result; types = c.new.result; names = c.in-Ok.file.names.now }) (table_over (option_map (λ (b : Bor Table). before_of b.now) c.args.base) order own names) _ (returns-clause-gives c) (complete (option_map (λ (b : Bor Table). before_of b.now) c.args.base) c.args.want order own names c.args.bytes.now (λ (i : ℕ). omega (arith, c.type_inv.bytes i)) (subst (λ (xs : List ℕ). EndsWithNul xs) c.strings_of-strings.ensures.names c.strings_of-strings.ensures.ends) p w)
+returns-clause-complete c = λ (order : Order) (own : List CType) (names : List ℕ)
+    (p : Spells (base_seen (option_map (λ (b : Bor Table). before_of b.now) c.args.base)) order own
+    names c.args.bytes.now) (w : is_wanted c.args.want order ≡ true).
+    same (record {
+      order = c.in-Ok.file.order;
+      base = c.len-before.result;
+      types = c.new.result;
+      names = c.in-Ok.file.names.now;
+    }) (table_over (option_map (λ (b : Bor Table).
+    before_of b.now) c.args.base) order own names) _ (returns-clause-gives c) (complete
+    (option_map (λ (b : Bor Table). before_of b.now) c.args.base) c.args.want order own names
+    c.args.bytes.now (λ (i : ℕ). omega (arith, c.type_inv.bytes i)) (subst (λ (xs : List ℕ).
+    EndsWithNul xs) c.strings_of-strings.ensures.names c.strings_of-strings.ensures.ends) p w)

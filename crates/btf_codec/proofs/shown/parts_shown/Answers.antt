@@ -9,5 +9,7 @@ loop-i-init c = c.new-parts.ensures.items
 
 pub loop-i-preserved : goal.loop-i-preserved
 loop-i-preserved c =
-    made_more (part_shown c.args.layout (c.args.texts.base.now ++ c.args.texts.own.now) (word_in c.args.order c.args.piece.now)) 3 c.part_width-width.result c.loop-i.i c.loop-i.parts.items c.push.new.self.items c.part_shown.result
+    made_more (part_shown c.args.layout (c.args.texts.base.now ++ c.args.texts.own.now)
+    (word_in c.args.order c.args.piece.now)) 3 c.part_width-width.result c.loop-i.i
+    c.loop-i.parts.items c.push.new.self.items c.part_shown.result
     c.loop-i.invariant c.in_ok-push.ensures.items c.part_shown.ensures

@@ -9,5 +9,6 @@ loop-i-init c = sym (append-nil c.args.out.now.items)
 
 pub loop-i-preserved : goal.loop-i-preserved
 loop-i-preserved c =
-    refs_more (word_in c.args.order c.args.piece.now) c.args.at c.args.width c.loop-i.i c.args.out.now.items c.loop-i.out.items c.push.new.self.items c.ref_of.result
+    refs_more (word_in c.args.order c.args.piece.now) c.args.at c.args.width c.loop-i.i
+    c.args.out.now.items c.loop-i.out.items c.push.new.self.items c.ref_of.result
     c.loop-i.invariant c.in_ok-push.ensures.items (c.ref_of.ensures ∙ ap ref_of c.word_in.ensures)

@@ -9,5 +9,8 @@ pub returns : goal.returns
 unfolding type_shown
 returns c =
     let e : Some c.in-Some.layout ≡ layout_in (word_in c.args.order c.args.piece.now) =
-    sym c.in-Some.is ∙ c.layout_of.ensures ∙ ap (λ (k : ℕ). layout_of k) (c.kind_in.ensures ∙ ap (λ (y : ℕ). kind_in y) c.word_in.ensures) in
-    subst (λ (o : Option Layout). IfOk c.type_by.result (λ (t : CType). t ≡ type_by o (c.args.texts.base.now ++ c.args.texts.own.now) (word_in c.args.order c.args.piece.now))) e c.type_by.ensures
+    sym c.in-Some.is ∙ c.layout_of.ensures ∙ ap (λ (k : ℕ). layout_of k)
+    (c.kind_in.ensures ∙ ap (λ (y : ℕ). kind_in y) c.word_in.ensures) in
+    subst (λ (o : Option Layout). IfOk c.type_by.result (λ (t : CType). t ≡ type_by o
+    (c.args.texts.base.now ++ c.args.texts.own.now) (word_in c.args.order c.args.piece.now))) e
+    c.type_by.ensures

@@ -4,4 +4,5 @@ use Rattle.c_model.specs.declared.graph.Ref.{Ref}
 use Rattle.btf_codec.proofs.tests.is_within.Given as goal
 
 abbrev pub invariant-loop-target : goal.invariant-loop-target
-invariant-loop-target l = (k : ℕ) (d : Ref) → k < l.target-index → IsBelow l.count (get_or l.targets k d)
+invariant-loop-target l =
+    (k : ℕ) (d : Ref) → k < l.target-index → IsBelow l.count (get_or l.targets k d)

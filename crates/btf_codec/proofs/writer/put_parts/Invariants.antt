@@ -7,5 +7,7 @@ use Rattle.btf_codec.proofs.writer.put_parts.Given as goal
 -- with the rest of the parts it is all
 abbrev pub invariant-loop-i : goal.invariant-loop-i
 invariant-loop-i l =
-    l.out.items ++ words_bytes l.order (words_of l.strings (parts_fields l.layout (drop l.i l.parts) (drop l.i l.targets)))
-    ≡ l.initial.out.items ++ words_bytes l.order (words_of l.strings (parts_fields l.layout l.parts l.targets))
+    l.out.items ++ words_bytes l.order
+    (words_of l.strings (parts_fields l.layout (drop l.i l.parts) (drop l.i l.targets)))
+    ≡ l.initial.out.items
+    ++ words_bytes l.order (words_of l.strings (parts_fields l.layout l.parts l.targets))

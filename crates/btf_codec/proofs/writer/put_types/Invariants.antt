@@ -6,4 +6,5 @@ use Rattle.btf_codec.proofs.writer.put_types.Given as goal
 
 abbrev pub invariant-loop-t : goal.invariant-loop-t
 invariant-loop-t l =
-    All IsWellFormed l.types → l.out.items ≡ l.initial.out.items ++ words_bytes l.order (types_words l.strings (take l.t-index l.types))
+    All IsWellFormed l.types → l.out.items ≡ l.initial.out.items
+    ++ words_bytes l.order (types_words l.strings (take l.t-index l.types))

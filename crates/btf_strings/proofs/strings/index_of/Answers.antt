@@ -9,7 +9,12 @@ use Rattle.btf_strings.proofs.strings.index_of.Goals as goal
 
 pub loop-name-init : goal.loop-name-init
 unfolding least_below
-loop-name-init c = record { within = omega arith; begins = refl; index = λ (name : List ℕ). ap (λ (es : List (Bor (List ℕ) × ℕ)). value_of name es) c.new-held.ensures.empty }
+loop-name-init c = record {
+  within = omega arith;
+  begins = refl;
+  index = λ (name : List ℕ).
+      ap (λ (es : List (Bor (List ℕ) × ℕ)). value_of name es) c.new-held.ensures.empty;
+}
 
 pub overflow_cast-at : goal.overflow_cast-at
 overflow_cast-at c =
@@ -34,7 +39,9 @@ loop-name-smaller c =
 pub loop-name-preserved : goal.loop-name-preserved
 loop-name-preserved c =
     let e : text_of c.args.section.now c.loop-name.at ≡ Some c.bytes-text.result.now = cc in
-    one_more c.args.section.now c.bytes-text.result.now c.loop-name.at c.loop-name.held.entries c.note.new.held.entries e c.loop-name.invariant c.in_ok-note.ensures
+    one_more c.args.section.now c.bytes-text.result.now c.loop-name.at c.loop-name.held.entries
+    c.note.new.held.entries e c.loop-name.invariant c.in_ok-note.ensures
 
 pub returns : goal.returns
-returns c = all_indexed c.args.section.now c.loop-name.at c.loop-name.held.entries (cc) c.loop-name.invariant
+returns c = all_indexed c.args.section.now c.loop-name.at c.loop-name.held.entries
+    (cc) c.loop-name.invariant

@@ -3,7 +3,16 @@ use Rattle.c_types.proofs.OpenArrays.{made_is, refused_by_length}
 use Rattle.c_types.proofs.arrays.complete_array.Goals as goal
 
 pub returns-clause-made : goal.returns-clause-made
-returns-clause-made c = rw (made_is c.args.whole [], c.new.ensures, c.elements.ensures, c.new-2.ensures, c.new-3.ensures, c.new-2.ensures.items, c.in_ok-two_targets.ensures) refl
+returns-clause-made c = rw (
+  made_is c.args.whole [],
+  c.new.ensures,
+  c.elements.ensures,
+  c.new-2.ensures,
+  c.new-3.ensures,
+  c.new-2.ensures.items,
+  c.in_ok-two_targets.ensures,
+) refl
 
 pub returns-clause-refused : goal.returns-clause-refused
-returns-clause-refused c = c.note_if.ensures ∙ rw c.are_too_long.ensures (sym (refused_by_length c.args.whole []))
+returns-clause-refused c =
+    c.note_if.ensures ∙ rw c.are_too_long.ensures (sym (refused_by_length c.args.whole []))

@@ -12,5 +12,6 @@ returns c =
       at = refl;
       target = c.type_target-target.ensures.said;
       lengths = refl;
-      least = c.note_if.ensures ∙ rw (c.type_target-target.ensures.noted, c.is_given.ensures) (simp noted_append);
+      least = c.note_if.ensures
+          ∙ rw (c.type_target-target.ensures.noted, c.is_given.ensures) (simp noted_append);
     })

@@ -8,7 +8,9 @@ use Rattle.c_types.proofs.enumerations.open_enumeration.Goals as goal
 
 pub returns : goal.returns
 returns c =
-    let size : c.given_size-size.result ≡ size_in (constant_asked 0x0b (given_entry c.args.entry.now)).said = c.given_size-size.ensures ∙ ap (λ (o : Option ℤ). size_in o) c.constant-size.ensures.said in
+    let size : c.given_size-size.result
+    ≡ size_in (constant_asked 0x0b (given_entry c.args.entry.now)).said =
+    c.given_size-size.ensures ∙ ap (λ (o : Option ℤ). size_in o) c.constant-size.ensures.said in
     enumeration_comes (scope c.args.ctx.now) (given_entry c.args.entry.now) _
     (record {
       at = refl;
@@ -19,7 +21,9 @@ returns c =
       has_negative = refl;
       parts = c.new.ensures.items;
       bare = c.name-name.ensures.noted ∙ rw c.requires.declared refl;
-      unsigned = c.note_enum_size.ensures ∙ rw (c.constant-size.ensures.said, c.constant-size.ensures.noted) refl;
-      signed = c.note_enum_size.ensures ∙ rw (c.constant-size.ensures.said, c.constant-size.ensures.noted) refl;
+      unsigned = c.note_enum_size.ensures
+          ∙ rw (c.constant-size.ensures.said, c.constant-size.ensures.noted) refl;
+      signed = c.note_enum_size.ensures
+          ∙ rw (c.constant-size.ensures.said, c.constant-size.ensures.noted) refl;
     })
     c.requires.defined

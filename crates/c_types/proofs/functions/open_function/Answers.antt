@@ -11,7 +11,9 @@ returns c =
     (record {
       at = refl;
       parts = c.new.ensures.items;
-      targets = c.in_ok-push.ensures.items ∙ ap (λ (ts : List Target). ts ++ c.type_target-target.result ∷ []) c.new-targets.ensures.items ∙ ap (λ (t : Target). t ∷ []) c.type_target-target.ensures.said;
+      targets = c.in_ok-push.ensures.items ∙ ap
+          (λ (ts : List Target). ts ++ c.type_target-target.result ∷ []) c.new-targets.ensures.items
+          ∙ ap (λ (t : Target). t ∷ []) c.type_target-target.ensures.said;
       variadic = refl;
       least = c.type_target-target.ensures.noted;
     })

@@ -1,4 +1,5 @@
-use Rattle.std.proofs.Common.{◌≡◌, ◌++◌, [], Bool, true, false, List, Option, Some, sym, ap, ◌∙◌, refl}
+use Rattle.std.proofs.Common.{◌≡◌, ◌++◌, [], Bool, true, false, List, Option, Some, sym, ap, ◌∙◌}
+use Rattle.std.proofs.Common.{refl}
 use Rattle.std.specs.Prelude.{ℕ, codes}
 use Rattle.std.specs.Str.{bytes_eq}
 use Rattle.dwarf_forms.specs.Meanings.{sections}
@@ -16,31 +17,46 @@ use Rattle.c_types.proofs.pointers.read_tag.Goals as goal
 pub returns-then-not-is_of_type_tags-clause-tag : goal.returns-then-not-is_of_type_tags-clause-tag
 returns-then-not-is_of_type_tags-clause-tag c =
     let untagged : is_type_tag (sections c.args.ctx.now) (given_entry c.args.entry.now) ≡ false =
-    tag_by (sections c.args.ctx.now) (given_entry c.args.entry.now) false c.requires.annotation (c.if-not-is_of_type_tags.ensures ∙ ap (λ (n : List ℕ). bytes_eq n (codes "btf_type_tag")) c.name-name.ensures.said) in
+    tag_by (sections c.args.ctx.now) (given_entry c.args.entry.now) false c.requires.annotation
+    (c.if-not-is_of_type_tags.ensures
+    ∙ ap (λ (n : List ℕ). bytes_eq n (codes "btf_type_tag")) c.name-name.ensures.said) in
     rw untagged refl
 
-pub returns-then-not-is_of_type_tags-clause-noted : goal.returns-then-not-is_of_type_tags-clause-noted
+pub returns-then-not-is_of_type_tags-clause-noted :
+    goal.returns-then-not-is_of_type_tags-clause-noted
 returns-then-not-is_of_type_tags-clause-noted c =
     let untagged : is_type_tag (sections c.args.ctx.now) (given_entry c.args.entry.now) ≡ false =
-    tag_by (sections c.args.ctx.now) (given_entry c.args.entry.now) false c.requires.annotation (c.if-not-is_of_type_tags.ensures ∙ ap (λ (n : List ℕ). bytes_eq n (codes "btf_type_tag")) c.name-name.ensures.said) in
-    rw untagged (c.name-name.ensures.noted ∙ sym (noted_append c.args.least.now (name_asked (sections c.args.ctx.now) (given_entry c.args.entry.now)).refused []))
+    tag_by (sections c.args.ctx.now) (given_entry c.args.entry.now) false c.requires.annotation
+    (c.if-not-is_of_type_tags.ensures
+    ∙ ap (λ (n : List ℕ). bytes_eq n (codes "btf_type_tag")) c.name-name.ensures.said) in
+    rw untagged (c.name-name.ensures.noted ∙ sym (noted_append c.args.least.now
+    (name_asked (sections c.args.ctx.now) (given_entry c.args.entry.now)).refused []))
 
 pub returns-clause-tag : goal.returns-clause-tag
 returns-clause-tag c =
     let tagged : is_type_tag (sections c.args.ctx.now) (given_entry c.args.entry.now) ≡ true =
-    tag_by (sections c.args.ctx.now) (given_entry c.args.entry.now) true c.requires.annotation (c.if-not-is_of_type_tags.ensures ∙ ap (λ (n : List ℕ). bytes_eq n (codes "btf_type_tag")) c.name-name.ensures.said) in
+    tag_by (sections c.args.ctx.now) (given_entry c.args.entry.now) true c.requires.annotation
+    (c.if-not-is_of_type_tags.ensures
+    ∙ ap (λ (n : List ℕ). bytes_eq n (codes "btf_type_tag")) c.name-name.ensures.said) in
     rw tagged (ap (λ (n : List ℕ). Some n) c.text-tag.ensures.said)
 
 pub returns-clause-noted : goal.returns-clause-noted
 returns-clause-noted c =
     let tagged : is_type_tag (sections c.args.ctx.now) (given_entry c.args.entry.now) ≡ true =
-    tag_by (sections c.args.ctx.now) (given_entry c.args.entry.now) true c.requires.annotation (c.if-not-is_of_type_tags.ensures ∙ ap (λ (n : List ℕ). bytes_eq n (codes "btf_type_tag")) c.name-name.ensures.said) in
+    tag_by (sections c.args.ctx.now) (given_entry c.args.entry.now) true c.requires.annotation
+    (c.if-not-is_of_type_tags.ensures
+    ∙ ap (λ (n : List ℕ). bytes_eq n (codes "btf_type_tag")) c.name-name.ensures.said) in
     let s = sections c.args.ctx.now in
     let e = given_entry c.args.entry.now in
     let named = (name_asked s e).refused in
     let valued = (tag_asked s e).refused in
-    let empty = refuse_if (is_empty (name_in_full (tag_asked s e))) (MissingName c.args.entry.now.at) in
+    let empty =
+    refuse_if (is_empty (name_in_full (tag_asked s e))) (MissingName c.args.entry.now.at) in
     rw tagged
-    (c.note_if.ensures ∙ ap (λ (b : Bool). noted c.text-tag.new.least (refuse_if b (MissingName c.args.entry.now.at))) (c.is_unnamed.ensures ∙ ap (λ (n : List ℕ). is_empty n) c.text-tag.ensures.said)
-    ∙ ap (λ (o : Option TypeFault). noted o empty) (c.text-tag.ensures.noted ∙ ap (λ (o : Option TypeFault). noted o valued) c.name-name.ensures.noted)
-    ∙ sym (noted_append (noted c.args.least.now named) valued empty) ∙ sym (noted_append c.args.least.now named (valued ++ empty)))
+    (c.note_if.ensures ∙ ap
+    (λ (b : Bool). noted c.text-tag.new.least (refuse_if b (MissingName c.args.entry.now.at)))
+    (c.is_unnamed.ensures ∙ ap (λ (n : List ℕ). is_empty n) c.text-tag.ensures.said)
+    ∙ ap (λ (o : Option TypeFault). noted o empty) (c.text-tag.ensures.noted
+    ∙ ap (λ (o : Option TypeFault). noted o valued) c.name-name.ensures.noted)
+    ∙ sym (noted_append (noted c.args.least.now named) valued empty)
+    ∙ sym (noted_append c.args.least.now named (valued ++ empty)))

@@ -5,6 +5,9 @@ use Rattle.c_types.specs.Walking.{pointed_at}
 use Rattle.c_types.proofs.OpenPointers.{no_annotation}
 use Rattle.c_types.proofs.pointers.type_tag.Goals as goal
 
-pub returns-then-entry-ne-DW_TAG_GNU_annotation-clause-tag : goal.returns-then-entry-ne-DW_TAG_GNU_annotation-clause-tag
+pub returns-then-entry-ne-DW_TAG_GNU_annotation-clause-tag :
+    goal.returns-then-entry-ne-DW_TAG_GNU_annotation-clause-tag
 returns-then-entry-ne-DW_TAG_GNU_annotation-clause-tag c =
-    sym (no_annotation (sections c.args.ctx.now) (pointed_at c.args.opens.now c.args.entry.now.depth) (given_entry c.args.entry.now) c.if-entry-ne-DW_TAG_GNU_annotation.true)
+    sym (no_annotation (sections c.args.ctx.now)
+    (pointed_at c.args.opens.now c.args.entry.now.depth)
+    (given_entry c.args.entry.now) c.if-entry-ne-DW_TAG_GNU_annotation.true)

@@ -7,8 +7,13 @@ use Rattle.c_types.proofs.structures.open_structure.Goals as goal
 
 pub returns : goal.returns
 returns c =
-    structure_comes (scope c.args.ctx.now) c.args.is_union (given_entry c.args.entry.now) c.args.declared c.note_size.new.least _ c.requires.defined c.requires.declared
-    (c.note_size.ensures ∙ rw (c.constant-size.ensures.said, c.constant-size.ensures.noted, c.name-name.ensures.noted) refl)
+    structure_comes (scope c.args.ctx.now) c.args.is_union (given_entry c.args.entry.now)
+    c.args.declared c.note_size.new.least _ c.requires.defined c.requires.declared
+    (c.note_size.ensures ∙ rw (
+      c.constant-size.ensures.said,
+      c.constant-size.ensures.noted,
+      c.name-name.ensures.noted,
+    ) refl)
     (record {
       members = c.new.ensures.items;
       targets = c.new-2.ensures.items;

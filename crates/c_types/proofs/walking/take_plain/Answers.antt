@@ -10,12 +10,18 @@ use Rattle.c_types.proofs.walking.take_plain.Goals as goal
 
 pub returns-clause-types : goal.returns-clause-types
 returns-clause-types c = λ es.
-    taken_filled (scope c.args.ctx.now) c.args.reading.now.opens.items es c.args.reading.now.types.items c.take_type.new.types.items (listed (made_in (plain_row_of (sections c.args.ctx.now.form) (given_entry c.args.entry.now)))) c.requires.placed
-    (c.in_ok-take_type.ensures ∙ ap (λ (o : Option SourceType). c.args.reading.now.types.items ++ listed o) c.in_ok-one.ensures.made)
+    taken_filled (scope c.args.ctx.now) c.args.reading.now.opens.items es
+    c.args.reading.now.types.items c.take_type.new.types.items (listed (made_in (plain_row_of
+    (sections c.args.ctx.now.form) (given_entry c.args.entry.now)))) c.requires.placed
+    (c.in_ok-take_type.ensures ∙ ap (λ (o : Option SourceType).
+    c.args.reading.now.types.items ++ listed o) c.in_ok-one.ensures.made)
 
 pub returns-clause-least : goal.returns-clause-least
 returns-clause-least c = λ es later.
-    taken_least (scope c.args.ctx.now) c.args.reading.now.opens.items es c.args.reading.now.current c.read_plain_type.new.least (refused_in (plain_row_of (sections c.args.ctx.now.form) (given_entry c.args.entry.now))) later c.in_ok-one.ensures.noted
+    taken_least (scope c.args.ctx.now) c.args.reading.now.opens.items es c.args.reading.now.current
+    c.read_plain_type.new.least (refused_in (plain_row_of (sections c.args.ctx.now.form)
+    (given_entry c.args.entry.now))) later c.in_ok-one.ensures.noted
 
 pub returns-clause-pointed : goal.returns-clause-pointed
-returns-clause-pointed c = λ d. pointed_unopened c.args.reading.now.opens.items c.args.entry.now.depth d c.requires.above
+returns-clause-pointed c =
+    λ d. pointed_unopened c.args.reading.now.opens.items c.args.entry.now.depth d c.requires.above

@@ -1,4 +1,5 @@
-use Rattle.std.proofs.Common.{◌+◌, ◌<◌, ◌==◌, ◌∷◌, ◌++◌, if◌then◌else◌, ℕ, List, Some, None, length, refl, sym, ap, ◌∙◌, subst}
+use Rattle.std.proofs.Common.{◌+◌, ◌<◌, ◌==◌, ◌∷◌, ◌++◌, if◌then◌else◌, ℕ, List, Some, None, length}
+use Rattle.std.proofs.Common.{refl, sym, ap, ◌∙◌, subst}
 use Rattle.std.specs.Prelude.{slice_set}
 use Rattle.std.proofs.lemmas.List.Elements.{All-pop}
 use Rattle.entry_tree.specs.Walks.{given_entry}
@@ -10,81 +11,134 @@ use Rattle.c_types.specs.Types.{listed}
 use Rattle.c_types.specs.Walking.{filled, least_of, AreNested, ArePlaced, AreAbove, pointed_at}
 use Rattle.c_types.proofs.Stack.{nested_pop, closed_placed}
 use Rattle.c_types.proofs.OpenPointers.{tag_untold}
-use Rattle.c_types.proofs.Pointing.{stands_out, is_pointer, unkept, tag_row, tag_comes, tag_filled, tag_least, tag_pointed}
+use Rattle.c_types.proofs.Pointing.{stands_out, is_pointer, unkept, tag_row, tag_comes, tag_filled}
+use Rattle.c_types.proofs.Pointing.{tag_least, tag_pointed}
 use Rattle.c_types.proofs.walking.take_tag.Goals as goal
 
 -- the last open type is no pointer
 pub returns-in_default-kept_pointer-clause-types : goal.returns-in_default-kept_pointer-clause-types
 returns-in_default-kept_pointer-clause-types c = λ s es tag.
     let items = c.in-Some.ensures.items in
-    let lt = (All-pop (λ (o : Open). o.depth < c.args.entry.now.depth) c.args.reading.now.opens.items c.pop.new.self.items (Some c.in-Some.last) items c.requires.above).1 in
-    let none = ap (λ (os : List Open). pointed_at os c.args.entry.now.depth) items ∙ stands_out c.pop.new.self.items c.in-Some.last c.args.entry.now.depth (subst AreNested items c.requires.nested) lt (unkept c.in-Some.last.kept c.kept_pointer.result c.kept_pointer.ensures c.in_default-kept_pointer.not-Some) in
-    absurd (tag_untold s.sections (given_entry c.args.entry.now) c.args.tag (pointed_at c.args.reading.now.opens.items c.args.entry.now.depth) none tag)
+    let lt =
+    (All-pop (λ (o : Open). o.depth < c.args.entry.now.depth) c.args.reading.now.opens.items
+    c.pop.new.self.items (Some c.in-Some.last) items c.requires.above).1 in
+    let none = ap (λ (os : List Open). pointed_at os c.args.entry.now.depth) items
+    ∙ stands_out c.pop.new.self.items c.in-Some.last c.args.entry.now.depth
+    (subst AreNested items c.requires.nested) lt (unkept c.in-Some.last.kept
+    c.kept_pointer.result c.kept_pointer.ensures c.in_default-kept_pointer.not-Some) in
+    absurd (tag_untold s.sections (given_entry c.args.entry.now) c.args.tag
+    (pointed_at c.args.reading.now.opens.items c.args.entry.now.depth) none tag)
 
 pub returns-in_default-kept_pointer-clause-least : goal.returns-in_default-kept_pointer-clause-least
 returns-in_default-kept_pointer-clause-least c = λ s es later tag.
     let items = c.in-Some.ensures.items in
-    let lt = (All-pop (λ (o : Open). o.depth < c.args.entry.now.depth) c.args.reading.now.opens.items c.pop.new.self.items (Some c.in-Some.last) items c.requires.above).1 in
-    let none = ap (λ (os : List Open). pointed_at os c.args.entry.now.depth) items ∙ stands_out c.pop.new.self.items c.in-Some.last c.args.entry.now.depth (subst AreNested items c.requires.nested) lt (unkept c.in-Some.last.kept c.kept_pointer.result c.kept_pointer.ensures c.in_default-kept_pointer.not-Some) in
-    absurd (tag_untold s.sections (given_entry c.args.entry.now) c.args.tag (pointed_at c.args.reading.now.opens.items c.args.entry.now.depth) none tag)
+    let lt =
+    (All-pop (λ (o : Open). o.depth < c.args.entry.now.depth) c.args.reading.now.opens.items
+    c.pop.new.self.items (Some c.in-Some.last) items c.requires.above).1 in
+    let none = ap (λ (os : List Open). pointed_at os c.args.entry.now.depth) items
+    ∙ stands_out c.pop.new.self.items c.in-Some.last c.args.entry.now.depth
+    (subst AreNested items c.requires.nested) lt (unkept c.in-Some.last.kept
+    c.kept_pointer.result c.kept_pointer.ensures c.in_default-kept_pointer.not-Some) in
+    absurd (tag_untold s.sections (given_entry c.args.entry.now) c.args.tag
+    (pointed_at c.args.reading.now.opens.items c.args.entry.now.depth) none tag)
 
-pub returns-in_default-kept_pointer-clause-nested : goal.returns-in_default-kept_pointer-clause-nested
-returns-in_default-kept_pointer-clause-nested c = (nested_pop c.pop.new.self.items c.in-Some.last (subst AreNested c.in-Some.ensures.items c.requires.nested)).0
+pub returns-in_default-kept_pointer-clause-nested :
+    goal.returns-in_default-kept_pointer-clause-nested
+returns-in_default-kept_pointer-clause-nested c = (nested_pop c.pop.new.self.items c.in-Some.last
+    (subst AreNested c.in-Some.ensures.items c.requires.nested)).0
 
-pub returns-in_default-kept_pointer-clause-placed : goal.returns-in_default-kept_pointer-clause-placed
-returns-in_default-kept_pointer-clause-placed c = (All-pop (λ (o : Open). o.index < length c.args.reading.now.types.items) c.args.reading.now.opens.items c.pop.new.self.items (Some c.in-Some.last) c.in-Some.ensures.items c.requires.placed).0
+pub returns-in_default-kept_pointer-clause-placed :
+    goal.returns-in_default-kept_pointer-clause-placed
+returns-in_default-kept_pointer-clause-placed c = (All-pop
+    (λ (o : Open). o.index < length c.args.reading.now.types.items) c.args.reading.now.opens.items
+    c.pop.new.self.items (Some c.in-Some.last) c.in-Some.ensures.items c.requires.placed).0
 
-pub returns-in_default-kept_pointer-clause-pointed : goal.returns-in_default-kept_pointer-clause-pointed
+pub returns-in_default-kept_pointer-clause-pointed :
+    goal.returns-in_default-kept_pointer-clause-pointed
 returns-in_default-kept_pointer-clause-pointed c = λ s d tag.
     let items = c.in-Some.ensures.items in
-    let lt = (All-pop (λ (o : Open). o.depth < c.args.entry.now.depth) c.args.reading.now.opens.items c.pop.new.self.items (Some c.in-Some.last) items c.requires.above).1 in
-    let none = ap (λ (os : List Open). pointed_at os c.args.entry.now.depth) items ∙ stands_out c.pop.new.self.items c.in-Some.last c.args.entry.now.depth (subst AreNested items c.requires.nested) lt (unkept c.in-Some.last.kept c.kept_pointer.result c.kept_pointer.ensures c.in_default-kept_pointer.not-Some) in
-    absurd (tag_untold s.sections (given_entry c.args.entry.now) c.args.tag (pointed_at c.args.reading.now.opens.items c.args.entry.now.depth) none tag)
+    let lt =
+    (All-pop (λ (o : Open). o.depth < c.args.entry.now.depth) c.args.reading.now.opens.items
+    c.pop.new.self.items (Some c.in-Some.last) items c.requires.above).1 in
+    let none = ap (λ (os : List Open). pointed_at os c.args.entry.now.depth) items
+    ∙ stands_out c.pop.new.self.items c.in-Some.last c.args.entry.now.depth
+    (subst AreNested items c.requires.nested) lt (unkept c.in-Some.last.kept
+    c.kept_pointer.result c.kept_pointer.ensures c.in_default-kept_pointer.not-Some) in
+    absurd (tag_untold s.sections (given_entry c.args.entry.now) c.args.tag
+    (pointed_at c.args.reading.now.opens.items c.args.entry.now.depth) none tag)
 
 -- it is one
 pub begin-requires-clause-nested : goal.begin-requires-clause-nested
-begin-requires-clause-nested c = (nested_pop c.pop.new.self.items c.in-Some.last (subst AreNested c.in-Some.ensures.items c.requires.nested)).0
+begin-requires-clause-nested c = (nested_pop c.pop.new.self.items c.in-Some.last
+    (subst AreNested c.in-Some.ensures.items c.requires.nested)).0
 
 pub begin-requires-clause-above : goal.begin-requires-clause-above
-begin-requires-clause-above c = (nested_pop c.pop.new.self.items c.in-Some.last (subst AreNested c.in-Some.ensures.items c.requires.nested)).1
+begin-requires-clause-above c = (nested_pop c.pop.new.self.items c.in-Some.last
+    (subst AreNested c.in-Some.ensures.items c.requires.nested)).1
 
 pub begin-requires-clause-placed : goal.begin-requires-clause-placed
 begin-requires-clause-placed c =
-    closed_placed c.pop.new.self.items c.in-Some.last c.args.reading.now.types.items (slice_set c.args.reading.now.types.items c.in-Some.last.index c.in_ok-made.made) c.in-Some.last.index c.in_ok-made.made refl
-    (subst (ArePlaced (length c.args.reading.now.types.items)) c.in-Some.ensures.items c.requires.placed)
+    closed_placed c.pop.new.self.items c.in-Some.last c.args.reading.now.types.items
+    (slice_set c.args.reading.now.types.items c.in-Some.last.index c.in_ok-made.made)
+    c.in-Some.last.index c.in_ok-made.made refl
+    (subst (ArePlaced (length c.args.reading.now.types.items)) c.in-Some.ensures.items
+    c.requires.placed)
 
 pub returns-clause-types : goal.returns-clause-types
 returns-clause-types c = λ s es tag.
     let items = c.in-Some.ensures.items in
     let e = given_entry c.args.entry.now in
     let q = c.in-Some-kept_pointer.pointer in
-    let lt = (All-pop (λ (o : Open). o.depth < c.args.entry.now.depth) c.args.reading.now.opens.items c.pop.new.self.items (Some c.in-Some.last) items c.requires.above).1 in
-    tag_filled s c.pop.new.self.items c.in-Some.last q e c.args.tag (is_pointer c.in-Some.last.kept q (sym c.in-Some-kept_pointer.ensures)) (subst AreNested items c.requires.nested) lt
-    (ap (λ (os : List Open). tag_in s.sections (pointed_at os c.args.entry.now.depth) (given_entry c.args.entry.now)) (sym items) ∙ tag)
-    es c.begin.new.reading.opens.items c.args.reading.now.types.items (slice_set c.args.reading.now.types.items c.in-Some.last.index c.in_ok-made.made) c.begin.new.reading.types.items c.in_ok-made.made
-    (c.in_ok-made.ensures ∙ ap (λ (to : ℕ). pointer_by c.in-Some-kept_pointer.pointer (Entry c.in-Some-kept_pointer.pointer.at to)) c.from.ensures) refl
-    (c.in_ok-begin.ensures.types s (tag_row s.sections c.args.entry.now.at c.args.tag q.own) es (tag_comes s c.args.entry.now.at c.args.tag q.own))
-    ∙ ap (λ (os : List Open). filled s os (given_entry c.args.entry.now ∷ es) c.args.reading.now.types.items ++ listed (tag_made s.sections (pointed_at os c.args.entry.now.depth) (given_entry c.args.entry.now) es)) (sym items)
+    let lt =
+    (All-pop (λ (o : Open). o.depth < c.args.entry.now.depth) c.args.reading.now.opens.items
+    c.pop.new.self.items (Some c.in-Some.last) items c.requires.above).1 in
+    tag_filled s c.pop.new.self.items c.in-Some.last q e c.args.tag (is_pointer c.in-Some.last.kept
+    q (sym c.in-Some-kept_pointer.ensures)) (subst AreNested items c.requires.nested) lt
+    (ap (λ (os : List Open). tag_in s.sections (pointed_at os c.args.entry.now.depth)
+    (given_entry c.args.entry.now)) (sym items) ∙ tag)
+    es c.begin.new.reading.opens.items c.args.reading.now.types.items
+    (slice_set c.args.reading.now.types.items c.in-Some.last.index c.in_ok-made.made)
+    c.begin.new.reading.types.items c.in_ok-made.made
+    (c.in_ok-made.ensures ∙ ap (λ (to : ℕ). pointer_by c.in-Some-kept_pointer.pointer
+    (Entry c.in-Some-kept_pointer.pointer.at to)) c.from.ensures) refl
+    (c.in_ok-begin.ensures.types s (tag_row s.sections c.args.entry.now.at c.args.tag q.own) es
+    (tag_comes s c.args.entry.now.at c.args.tag q.own))
+    ∙ ap (λ (os : List Open). filled s os (given_entry c.args.entry.now ∷ es)
+    c.args.reading.now.types.items ++ listed (tag_made s.sections
+    (pointed_at os c.args.entry.now.depth) (given_entry c.args.entry.now) es)) (sym items)
 
 pub returns-clause-least : goal.returns-clause-least
 returns-clause-least c = λ s es later tag.
     let items = c.in-Some.ensures.items in
     let e = given_entry c.args.entry.now in
     let q = c.in-Some-kept_pointer.pointer in
-    let lt = (All-pop (λ (o : Open). o.depth < c.args.entry.now.depth) c.args.reading.now.opens.items c.pop.new.self.items (Some c.in-Some.last) items c.requires.above).1 in
-    tag_least s c.pop.new.self.items c.in-Some.last q e c.args.tag (is_pointer c.in-Some.last.kept q (sym c.in-Some-kept_pointer.ensures)) (subst AreNested items c.requires.nested) lt
-    (ap (λ (os : List Open). tag_in s.sections (pointed_at os c.args.entry.now.depth) (given_entry c.args.entry.now)) (sym items) ∙ tag)
-    es c.begin.new.reading.opens.items c.args.reading.now.current c.join-reading.result c.begin.new.reading.current later c.join-reading.ensures
-    (c.in_ok-begin.ensures.least s (tag_row s.sections c.args.entry.now.at c.args.tag q.own) es later (tag_comes s c.args.entry.now.at c.args.tag q.own))
-    ∙ ap (λ (os : List Open). least_of s os (given_entry c.args.entry.now ∷ es) c.args.reading.now.current later) (sym items)
+    let lt =
+    (All-pop (λ (o : Open). o.depth < c.args.entry.now.depth) c.args.reading.now.opens.items
+    c.pop.new.self.items (Some c.in-Some.last) items c.requires.above).1 in
+    tag_least s c.pop.new.self.items c.in-Some.last q e c.args.tag (is_pointer c.in-Some.last.kept q
+    (sym c.in-Some-kept_pointer.ensures)) (subst AreNested items c.requires.nested) lt
+    (ap (λ (os : List Open). tag_in s.sections (pointed_at os c.args.entry.now.depth)
+    (given_entry c.args.entry.now)) (sym items) ∙ tag)
+    es c.begin.new.reading.opens.items c.args.reading.now.current c.join-reading.result
+    c.begin.new.reading.current later c.join-reading.ensures
+    (c.in_ok-begin.ensures.least s (tag_row s.sections c.args.entry.now.at c.args.tag q.own) es
+    later (tag_comes s c.args.entry.now.at c.args.tag q.own))
+    ∙ ap (λ (os : List Open). least_of s os
+    (given_entry c.args.entry.now ∷ es) c.args.reading.now.current later) (sym items)
 
 pub returns-clause-pointed : goal.returns-clause-pointed
 returns-clause-pointed c = λ s d tag.
     let items = c.in-Some.ensures.items in
     let e = given_entry c.args.entry.now in
     let q = c.in-Some-kept_pointer.pointer in
-    let lt = (All-pop (λ (o : Open). o.depth < c.args.entry.now.depth) c.args.reading.now.opens.items c.pop.new.self.items (Some c.in-Some.last) items c.requires.above).1 in
-    tag_pointed s c.pop.new.self.items c.in-Some.last q e c.args.tag (is_pointer c.in-Some.last.kept q (sym c.in-Some-kept_pointer.ensures)) (subst AreNested items c.requires.nested) lt
-    (ap (λ (os : List Open). tag_in s.sections (pointed_at os c.args.entry.now.depth) (given_entry c.args.entry.now)) (sym items) ∙ tag)
-    d (pointed_at c.begin.new.reading.opens.items d) (subst (AreAbove c.args.entry.now.depth) items c.requires.above) (c.in_ok-begin.ensures.pointed d)
-    ∙ ap (λ (os : List Open). if c.args.entry.now.depth + 1 == d then None else pointed_at os d) (sym items)
+    let lt =
+    (All-pop (λ (o : Open). o.depth < c.args.entry.now.depth) c.args.reading.now.opens.items
+    c.pop.new.self.items (Some c.in-Some.last) items c.requires.above).1 in
+    tag_pointed s c.pop.new.self.items c.in-Some.last q e c.args.tag (is_pointer c.in-Some.last.kept
+    q (sym c.in-Some-kept_pointer.ensures)) (subst AreNested items c.requires.nested) lt
+    (ap (λ (os : List Open). tag_in s.sections (pointed_at os c.args.entry.now.depth)
+    (given_entry c.args.entry.now)) (sym items) ∙ tag)
+    d (pointed_at c.begin.new.reading.opens.items d) (subst
+    (AreAbove c.args.entry.now.depth) items c.requires.above) (c.in_ok-begin.ensures.pointed d)
+    ∙ ap (λ (os : List Open). if c.args.entry.now.depth + 1 == d then None else pointed_at os d)
+    (sym items)

@@ -1,7 +1,9 @@
 use Rattle.std.proofs.Common.{◌≡◌, ◌+◌, ℕ, ◌∙◌, ◌≢◌, ◌≤◌, ◌<◌, length, arith, eqb}
 use Rattle.std.specs.Set.{distinct_count}
 use Rattle.type_signature.proofs.Placed.{KeepsForwards-above}
-use Rattle.class_refine.proofs.Rounds.{IsAbove-round, count-le_round, more_classes, IsCoarsestWith-from_count, classes-within, IsNumbering-within}
+use Rattle.class_refine.proofs.Rounds.{IsAbove-round, count-le_round, more_classes}
+use Rattle.class_refine.proofs.Rounds.{IsCoarsestWith-from_count, classes-within}
+use Rattle.class_refine.proofs.Rounds.{IsNumbering-within}
 use Rattle.c_model.specs.Graph.{references}
 use Rattle.std.proofs.lemmas.Map.Made.{distinct_count-le}
 use Rattle.class_refine.proofs.Costs.{passes-within, on_err}
@@ -20,10 +22,14 @@ returns-then-next-count-clause-coarsest g c =
     let e = c.if-next-count.true in
     let m = c.in_ok-next.ensures.count in
     let k = i.counted in
-    IsCoarsestWith-from_count c.args.graph.now c.args.fwd.now c.requires.index c.requires.fitting c.len-nodes.ensures.within c.loop-now.invariant.0.0 c.loop-now.now c.in_ok-next.next.numbers.items i.above c.in_ok-next.ensures.numbers (omega arith)
+    IsCoarsestWith-from_count c.args.graph.now c.args.fwd.now c.requires.index c.requires.fitting
+    c.len-nodes.ensures.within c.loop-now.invariant.0.0 c.loop-now.now
+    c.in_ok-next.next.numbers.items i.above c.in_ok-next.ensures.numbers (omega arith)
 
 pub returns-then-next-count-clause-forwards : goal.returns-then-next-count-clause-forwards
-returns-then-next-count-clause-forwards g c = KeepsForwards-above c.args.graph.now c.args.fwd.now c.requires.index c.requires.fitting c.loop-now.invariant.0.0 c.loop-now.now c.loop-now.invariant.0.1.above
+returns-then-next-count-clause-forwards g c =
+    KeepsForwards-above c.args.graph.now c.args.fwd.now c.requires.index c.requires.fitting
+    c.loop-now.invariant.0.0 c.loop-now.now c.loop-now.invariant.0.1.above
 
 pub overflow_add-number : goal.overflow_add-number
 overflow_add-number g c =
@@ -34,13 +40,16 @@ overflow_add-number g c =
     let next = c.in_ok-next.next.numbers.items in
     let n = c.in_ok-next.ensures.numbers in
     let s = rw c.deref.ensures.value at c.in_ok-now.ensures in
-    let le = count-le_round graph index c.requires.index c.requires.fitting c.len-nodes.ensures.within raw c.loop-now.now next i.above n in
+    let le = count-le_round graph index c.requires.index c.requires.fitting
+    c.len-nodes.ensures.within raw c.loop-now.now next i.above n in
     let ne : c.in_ok-next.next.count ≢ c.loop-now.count = c.if-next-count.false in
     let m = c.in_ok-next.ensures.count in
     let k = i.counted in
     let lt : distinct_count eqb raw < distinct_count eqb next = omega arith in
-    let more = more_classes graph index c.requires.index c.requires.fitting c.len-nodes.ensures.within raw c.loop-now.now next i.above n c.in_ok-now.now s lt in
-    let all = classes-within graph index c.requires.index c.requires.fitting c.len-nodes.ensures.within raw c.loop-now.now next i.above n c.in_ok-now.now s in
+    let more = more_classes graph index c.requires.index c.requires.fitting
+    c.len-nodes.ensures.within raw c.loop-now.now next i.above n c.in_ok-now.now s lt in
+    let all = classes-within graph index c.requires.index c.requires.fitting
+    c.len-nodes.ensures.within raw c.loop-now.now next i.above n c.in_ok-now.now s in
     let few = i.few in
     let len = c.len-nodes.ensures.len in
     let fits = c.len-nodes.type_inv in
@@ -54,11 +63,13 @@ loop-now-smaller g c =
     let i = c.loop-now.invariant.0.1 in
     let next = c.in_ok-next.next.numbers.items in
     let n = c.in_ok-next.ensures.numbers in
-    let le = count-le_round graph index c.requires.index c.requires.fitting c.len-nodes.ensures.within raw c.loop-now.now next i.above n in
+    let le = count-le_round graph index c.requires.index c.requires.fitting
+    c.len-nodes.ensures.within raw c.loop-now.now next i.above n in
     let ne : c.in_ok-next.next.count ≢ c.loop-now.count = c.if-next-count.false in
     let m = c.in_ok-next.ensures.count in
     let k = i.counted in
-    let all : distinct_count eqb next ≤ length graph.nodes = IsNumbering-within (length graph.nodes) next n.covers in
+    let all : distinct_count eqb next ≤ length graph.nodes =
+    IsNumbering-within (length graph.nodes) next n.covers in
     omega arith
 
 pub loop-now-preserved : goal.loop-now-preserved
@@ -70,19 +81,22 @@ loop-now-preserved g c =
     let next = c.in_ok-next.next.numbers.items in
     let n = c.in_ok-next.ensures.numbers in
     let s = rw c.deref.ensures.value at c.in_ok-now.ensures in
-    let le = count-le_round graph index c.requires.index c.requires.fitting c.len-nodes.ensures.within raw c.loop-now.now next i.above n in
+    let le = count-le_round graph index c.requires.index c.requires.fitting
+    c.len-nodes.ensures.within raw c.loop-now.now next i.above n in
     let ne : c.in_ok-next.next.count ≢ c.loop-now.count = c.if-next-count.false in
     let m = c.in_ok-next.ensures.count in
     let k = i.counted in
     let lt : distinct_count eqb raw < distinct_count eqb next = omega arith in
-    let more = more_classes graph index c.requires.index c.requires.fitting c.len-nodes.ensures.within raw c.loop-now.now next i.above n c.in_ok-now.now s lt in
+    let more = more_classes graph index c.requires.index c.requires.fitting
+    c.len-nodes.ensures.within raw c.loop-now.now next i.above n c.in_ok-now.now s lt in
     let few = i.few in
     let before = c.loop-now.invariant.1 in
     let cost = c.in_ok-next.ensures.cost in (
       (
         next,
         record {
-          above = IsAbove-round graph index c.requires.index c.requires.fitting c.len-nodes.ensures.within raw c.loop-now.now next i.above n c.in_ok-now.now s;
+          above = IsAbove-round graph index c.requires.index c.requires.fitting
+              c.len-nodes.ensures.within raw c.loop-now.now next i.above n c.in_ok-now.now s;
           counted = m;
           few = omega arith;
         },
@@ -94,14 +108,20 @@ pub returns-in_err-next-clause-bound : goal.returns-in_err-next-clause-bound
 returns-in_err-next-clause-bound g c =
     let nodes = c.args.graph.now.nodes in
     let i = c.loop-now.invariant.0.1 in
-    let covers : length c.loop-now.now ≡ length nodes = i.above.placing.covers ∙ i.above.tells.shares.covers in
-    let few : c.loop-now.number ≤ length nodes = (let h = distinct_count-le eqb c.loop-now.now in omega (arith, h, covers, i.few)) in
-    on_err _ (passes-within (length nodes + references nodes) c.loop-now.number (length nodes) c.loop-now.steps _ c.args.steps.now few c.loop-now.invariant.1 c.round.ensures.cost)
+    let covers : length c.loop-now.now ≡ length nodes =
+    i.above.placing.covers ∙ i.above.tells.shares.covers in
+    let few : c.loop-now.number ≤ length nodes =
+    (let h = distinct_count-le eqb c.loop-now.now in omega (arith, h, covers, i.few)) in
+    on_err _ (passes-within (length nodes + references nodes) c.loop-now.number (length nodes)
+    c.loop-now.steps _ c.args.steps.now few c.loop-now.invariant.1 c.round.ensures.cost)
 
 pub returns-in_err-now-clause-bound : goal.returns-in_err-now-clause-bound
 returns-in_err-now-clause-bound g c =
     let nodes = c.args.graph.now.nodes in
     let i = c.loop-now.invariant.0.1 in
-    let covers : length c.loop-now.now ≡ length nodes = i.above.placing.covers ∙ i.above.tells.shares.covers in
-    let few : c.loop-now.number ≤ length nodes = (let h = distinct_count-le eqb c.loop-now.now in omega (arith, h, covers, i.few)) in
-    on_err _ (passes-within (length nodes + references nodes) c.loop-now.number (length nodes) c.loop-now.steps _ c.args.steps.now few c.loop-now.invariant.1 c.round.ensures.cost)
+    let covers : length c.loop-now.now ≡ length nodes =
+    i.above.placing.covers ∙ i.above.tells.shares.covers in
+    let few : c.loop-now.number ≤ length nodes =
+    (let h = distinct_count-le eqb c.loop-now.now in omega (arith, h, covers, i.few)) in
+    on_err _ (passes-within (length nodes + references nodes) c.loop-now.number (length nodes)
+    c.loop-now.steps _ c.args.steps.now few c.loop-now.invariant.1 c.round.ensures.cost)

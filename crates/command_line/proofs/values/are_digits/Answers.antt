@@ -12,5 +12,6 @@ all_by_list (b ∷ bs) = ap (λ r. is_ascii_digit b && r) (all_by_list bs)
 
 pub returns : goal.returns
 returns c =
-    all_from_yields_List is_ascii_digit _ _ _ c.all.ensures.ran (YieldsList-from_bytes c.args.value.now c.bytes.ensures.rest)
+    all_from_yields_List is_ascii_digit _ _ _ c.all.ensures.ran
+    (YieldsList-from_bytes c.args.value.now c.bytes.ensures.rest)
     (λ x b q k. search (rules, tests)) ∙ all_by_list c.args.value.now

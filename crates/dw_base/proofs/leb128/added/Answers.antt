@@ -16,15 +16,18 @@ returns-then-sum-lt63-clause-even c =
     let s = c.args.sum in
     let r : IsEven s.low s.shift = c.requires.even in
     let le : s.shift ≤ 56 = omega (arith, r.steps) in
-    rw (shifted c.args.digit s.shift c.requires.digit le) (even_step s.low c.args.digit s.shift c.requires.digit c.if-sum-lt63.true r)
+    rw (shifted c.args.digit s.shift c.requires.digit le)
+    (even_step s.low c.args.digit s.shift c.requires.digit c.if-sum-lt63.true r)
 
 pub returns-then-sum-lt63-clause-sums : goal.returns-then-sum-lt63-clause-sums
 returns-then-sum-lt63-clause-sums c n total h =
     let s = c.args.sum in
     let r : IsEven s.low s.shift = c.requires.even in
     let le : s.shift ≤ 56 = omega (arith, r.steps) in
-    rw (shifted c.args.digit s.shift c.requires.digit le) (low_sums s c.args.digit n total c.requires.digit c.if-sum-lt63.true r h)
+    rw (shifted c.args.digit s.shift c.requires.digit le)
+    (low_sums s c.args.digit n total c.requires.digit c.if-sum-lt63.true r h)
 
 pub returns-else-sum-lt63-clause-sums : goal.returns-else-sum-lt63-clause-sums
 returns-else-sum-lt63-clause-sums c n total h =
-    high_sums c.args.sum c.args.digit n total _ _ _ c.requires.digit c.if-sum-lt63.false c.requires.even c.both.ensures c.is_one.ensures c.both-else-sum-lt63.ensures h
+    high_sums c.args.sum c.args.digit n total _ _ _ c.requires.digit c.if-sum-lt63.false
+    c.requires.even c.both.ensures c.is_one.ensures c.both-else-sum-lt63.ensures h

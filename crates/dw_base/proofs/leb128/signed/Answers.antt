@@ -14,17 +14,23 @@ returns-then-sum-lt63 c n total h =
     let s = c.args.sum in
     let p = small_negative s.low s.shift c.if-sum-lt63.true (c.requires.below (omega arith)) in
     let t = low_total s n total (omega arith) h in
-    rw (c.if-negative.true, t.0, t.1, p.0) (does_fit (pos s.low -ℤ pos (2 ^ s.shift)) (to_z w64 (of_z w64 (pos s.low -ℤ pos (2 ^ s.shift)))) c.args.end (to_z-of_z w64 (pos s.low -ℤ pos (2 ^ s.shift)) p.1) p.1)
+    rw (c.if-negative.true, t.0, t.1, p.0) (does_fit (pos s.low -ℤ pos (2 ^ s.shift))
+    (to_z w64 (of_z w64 (pos s.low -ℤ pos (2 ^ s.shift)))) c.args.end
+    (to_z-of_z w64 (pos s.low -ℤ pos (2 ^ s.shift)) p.1) p.1)
 
 pub returns-then-sum : goal.returns-then-sum
 returns-then-sum c n total h =
     let s = c.args.sum in
     let e = high_negative s n total (omega arith) c.requires.fits h c.if-sum.true in
     let a : to_z w64 s.low ≡ pos s.low = to_z_pos w64 s.low c.requires.fits in
-    let f : FitsSigned w64 (pos s.low +ℤ negsuc 9223372036854775807) = omega (arith, ints, c.requires.fits) in
-    rw (c.if-negative.true, e, a) (does_fit (pos s.low +ℤ negsuc 9223372036854775807) (to_z w64 (of_z w64 (pos s.low +ℤ negsuc 9223372036854775807))) c.args.end (to_z-of_z w64 (pos s.low +ℤ negsuc 9223372036854775807) f) f)
+    let f : FitsSigned w64 (pos s.low +ℤ negsuc 9223372036854775807) =
+    omega (arith, ints, c.requires.fits) in
+    rw (c.if-negative.true, e, a) (does_fit (pos s.low +ℤ negsuc 9223372036854775807)
+    (to_z w64 (of_z w64 (pos s.low +ℤ negsuc 9223372036854775807))) c.args.end
+    (to_z-of_z w64 (pos s.low +ℤ negsuc 9223372036854775807) f) f)
 
 pub returns-else-sum : goal.returns-else-sum
 returns-else-sum c n total h =
     let s = c.args.sum in
-    rw c.if-negative.true (too_negative s n total c.args.end (omega arith) c.requires.fits h c.if-sum.false)
+    rw c.if-negative.true
+    (too_negative s n total c.args.end (omega arith) c.requires.fits h c.if-sum.false)

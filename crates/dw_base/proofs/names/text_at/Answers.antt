@@ -6,9 +6,11 @@ pub returns-then-at-bytes : goal.returns-then-at-bytes
 returns-then-at-bytes c = sym (text_past c.args.bytes.now c.args.at c.if-at-bytes.true)
 
 pub returns-in-None : goal.returns-in-None
-returns-in-None c = sym (text_missing c.args.bytes.now _ c.args.at c.memchr.result (rest_whole c.args.bytes.now c.args.at) c.memchr.ensures c.in-None.is)
+returns-in-None c = sym (text_missing c.args.bytes.now _ c.args.at c.memchr.result
+    (rest_whole c.args.bytes.now c.args.at) c.memchr.ensures c.in-None.is)
 
 pub returns-in-Some : goal.returns-in-Some
 returns-in-Some c =
     ap (λ (xs : List ℕ). Some xs) c.new.ensures
-    ∙ sym (text_there c.args.bytes.now _ c.args.at c.in-Some.end c.memchr.result (rest_whole c.args.bytes.now c.args.at) c.memchr.ensures c.in-Some.is)
+    ∙ sym (text_there c.args.bytes.now _ c.args.at c.in-Some.end c.memchr.result
+    (rest_whole c.args.bytes.now c.args.at) c.memchr.ensures c.in-Some.is)

@@ -8,5 +8,7 @@ use Rattle.dwarf_abbrev.proofs.abbrevs.read_table.Given as goal
 abbrev pub invariant-loop : goal.invariant-loop
 invariant-loop l = record {
   placed : IsPlaced (declarations_of l.rows.items) l.others;
-  so_far : collect (declaration_at l.bytes) AbbrevTruncated (length l.bytes - l.counter) l.at (declarations_of l.rows.items) ≡ collect (declaration_at l.bytes) AbbrevTruncated (length l.bytes) l.initial.at [];
+  so_far : collect (declaration_at l.bytes) AbbrevTruncated (length l.bytes - l.counter) l.at
+      (declarations_of l.rows.items)
+      ≡ collect (declaration_at l.bytes) AbbrevTruncated (length l.bytes) l.initial.at [];
 }

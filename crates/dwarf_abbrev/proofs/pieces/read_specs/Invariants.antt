@@ -6,4 +6,6 @@ use Rattle.dwarf_abbrev.specs.declared.fault.AbbrevFault.TheVariants.{AbbrevTrun
 use Rattle.dwarf_abbrev.proofs.pieces.read_specs.Given as goal
 
 abbrev pub invariant-loop : goal.invariant-loop
-invariant-loop l = collect (λ (place : ℕ) (seen : List Spec). spec_at l.bytes l.start place) (λ (place : ℕ). AbbrevTruncated l.start) (length l.bytes - l.counter) l.at l.specs.items ≡ specs_of l.bytes l.start l.initial.at
+invariant-loop l = collect (λ (place : ℕ) (seen : List Spec). spec_at l.bytes l.start place)
+    (λ (place : ℕ). AbbrevTruncated l.start) (length l.bytes - l.counter) l.at l.specs.items
+    ≡ specs_of l.bytes l.start l.initial.at

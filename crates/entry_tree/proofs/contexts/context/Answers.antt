@@ -6,5 +6,6 @@ use Rattle.entry_tree.proofs.contexts.context.Goals as goal
 
 pub returns-clause-context : goal.returns-clause-context
 returns-clause-context c =
-    let w = unit_within (info_of (file_of c.args.image.now)) (order_of (file_of c.args.image.now)) c.args.unit.now.at c.args.unit.now c.requires in
+    let w = unit_within (info_of (file_of c.args.image.now))
+    (order_of (file_of c.args.image.now)) c.args.unit.now.at c.args.unit.now c.requires in
     record { inside = rw c.bytes_of.ensures w.inside; offsets = w.offsets; addresses = w.addresses }

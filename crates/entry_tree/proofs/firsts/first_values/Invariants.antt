@@ -6,6 +6,8 @@ use Rattle.entry_tree.proofs.firsts.first_values.Given as goal
 
 abbrev pub invariant-loop-spec : goal.invariant-loop-spec
 invariant-loop-spec l = record {
-  values : AreLeft l.wanted (values_at (within l.ctx) (drop l.spec-index l.specs) l.at) (values_at (within l.ctx) l.specs l.from);
-  end : ends_at (within l.ctx) (drop l.spec-index l.specs) l.at ≡ ends_at (within l.ctx) l.specs l.from;
+  values : AreLeft l.wanted (values_at (within l.ctx) (drop l.spec-index l.specs) l.at)
+      (values_at (within l.ctx) l.specs l.from);
+  end : ends_at (within l.ctx) (drop l.spec-index l.specs) l.at
+      ≡ ends_at (within l.ctx) l.specs l.from;
 }

@@ -5,5 +5,13 @@ use Rattle.entry_tree.proofs.skips.skip_fixed.Goals as goal
 
 pub returns-then-sum-len : goal.returns-then-sum-len
 returns-then-sum-len c =
-    let inside : c.args.at + c.bytes_in-sum.result ≤ length (within c.args.ctx.now).unit = omega (arith, ap (λ (bs : List ℕ). length bs) c.unit_of.ensures, c.if-at-len.true, c.if-sum-len.true) in
-    sym (ends_fixed (within c.args.ctx.now) c.args.specs.now c.args.at c.bytes_in-sum.result (c.requires.size c.args.ctx.now.offset_bytes c.args.ctx.now.address_bytes ∙ ap (λ (n : ℕ). Some n) (sym c.bytes_in-sum.ensures)) inside)
+    let inside : c.args.at + c.bytes_in-sum.result ≤ length (within c.args.ctx.now).unit =
+    omega (
+      arith,
+      ap (λ (bs : List ℕ). length bs) c.unit_of.ensures,
+      c.if-at-len.true,
+      c.if-sum-len.true,
+    ) in
+    sym (ends_fixed (within c.args.ctx.now) c.args.specs.now c.args.at c.bytes_in-sum.result
+    (c.requires.size c.args.ctx.now.offset_bytes c.args.ctx.now.address_bytes
+    ∙ ap (λ (n : ℕ). Some n) (sym c.bytes_in-sum.ensures)) inside)

@@ -9,8 +9,12 @@ deeper-preserved c =
     let left = c.pop.new.self.items in
     let last = popped all left c.pop.result c.pop.ensures.items c.if-is_none.ensures in
     let there = c.if-not-reaches.ensures.deep refl in
-    let deep : c.args.depth ≤ last.0 = last_deep all left there.0 last.0 there.1 c.args.depth last.1 (sym c.as_slice.ensures.value ∙ there.2) there.3 in
+    let deep : c.args.depth ≤ last.0 = last_deep all left there.0 last.0 there.1 c.args.depth last.1
+    (sym c.as_slice.ensures.value ∙ there.2) there.3 in
     record {
-      deepening = (deepening_pop left last.0 (subst AreDeepening last.1 c.deeper.invariant.deepening)).0;
-      standing = λ (d : ℕ) (le : d ≤ c.args.depth). sym (stands_pop left last.0 d (omega (arith, le, deep))) ∙ ap (λ (ks : List ℕ). stands_in ks d) (sym last.1) ∙ c.deeper.invariant.standing d le;
+      deepening =
+          (deepening_pop left last.0 (subst AreDeepening last.1 c.deeper.invariant.deepening)).0;
+      standing = λ (d : ℕ) (le : d ≤ c.args.depth).
+          sym (stands_pop left last.0 d (omega (arith, le, deep)))
+          ∙ ap (λ (ks : List ℕ). stands_in ks d) (sym last.1) ∙ c.deeper.invariant.standing d le;
     }

@@ -12,14 +12,19 @@ returns-clause-types c = λ es.
     let s = sections c.args.ctx.now.form in
     let e = given_entry c.args.entry.now in
     c.in_ok-take_function.ensures.types es
-    ∙ ap (λ (ts : List SourceType). ts ++ prototypes_at s e es) (c.in_ok-meet.ensures.types es c.close.new.reading.types.items ∙ c.in_ok-close.ensures.types (scope c.args.ctx.now) (e ∷ es) (shallow_first e es))
+    ∙ ap (λ (ts : List SourceType). ts ++ prototypes_at s e es)
+    (c.in_ok-meet.ensures.types es c.close.new.reading.types.items
+    ∙ c.in_ok-close.ensures.types (scope c.args.ctx.now) (e ∷ es) (shallow_first e es))
 
 pub returns-clause-pointed : goal.returns-clause-pointed
 returns-clause-pointed c = λ d le.
     let os = c.close.new.reading.opens.items in
     let k = c.args.entry.now.depth in
     c.in_ok-take_function.ensures.pointed d
-    (c.in_ok-meet.ensures.pointed d ∙ low_pointed os k d (λ (j : ℕ) (low : j ≤ k). c.in_ok-close.ensures.pointed j low ∙ c.requires.pointed j low) c.in_ok-close.ensures.above le)
+    (c.in_ok-meet.ensures.pointed d
+    ∙ low_pointed os k d (λ (j : ℕ) (low : j ≤ k). c.in_ok-close.ensures.pointed j low
+    ∙ c.requires.pointed j low) c.in_ok-close.ensures.above le)
 
 pub meet-requires-clause-ready : goal.meet-requires-clause-ready
-meet-requires-clause-ready c = λ needed. never (scope c.args.ctx.now) (given_entry c.args.entry.now) c.requires.version needed
+meet-requires-clause-ready c =
+    λ needed. never (scope c.args.ctx.now) (given_entry c.args.entry.now) c.requires.version needed

@@ -1,4 +1,5 @@
-use Rattle.std.proofs.Common.{◌≡◌, ◌++◌, ◌∷◌, [], ◌∙◌, Bool, true, List, Option, if◌then◌else◌, refl, sym, ap}
+use Rattle.std.proofs.Common.{◌≡◌, ◌++◌, ◌∷◌, [], ◌∙◌, Bool, true, List, Option, if◌then◌else◌}
+use Rattle.std.proofs.Common.{refl, sym, ap}
 use Rattle.dwarf_forms.specs.Meanings.{sections}
 use Rattle.entry_tree.specs.Walks.{given_entry}
 use Rattle.type_attributes.specs.declared.fault.TypeFault.{TypeFault}
@@ -21,7 +22,8 @@ returns-clause-types c = λ es.
     let made = (function_row s e (children_of c.args.entry.now.depth es)).made in
     let is = (head_known (is_function s e) _ c.in-Some.head (sym c.in-Some.ensures.head)).0 in
     c.in_ok-begin.ensures.types u (function_row s e) es c.in_ok-open_function.ensures
-    ∙ ap (λ (b : Bool). filled u c.args.gathering.now.reading.opens.items es c.args.gathering.now.reading.types.items ++ (if b then made ∷ [] else [])) (sym is)
+    ∙ ap (λ (b : Bool). filled u c.args.gathering.now.reading.opens.items es
+    c.args.gathering.now.reading.types.items ++ (if b then made ∷ [] else [])) (sym is)
 
 pub returns-clause-least : goal.returns-clause-least
 returns-clause-least c = λ es later.
@@ -33,5 +35,8 @@ returns-clause-least c = λ es later.
     let current = c.args.gathering.now.reading.current in
     let is = (head_known (is_function s e) _ c.in-Some.head (sym c.in-Some.ensures.head)).0 in
     c.in_ok-begin.ensures.least u (function_row s e) es later c.in_ok-open_function.ensures
-    ∙ taken_least u os es current c.read_head.new.least (head_refused s e) (row.refused ++ later) c.read_head.ensures.noted
-    ∙ ap (λ (fs : List TypeFault). least_of u os es current fs) (refusals_joined (is_function s e) (name_asked s e).refused (flag_asked 0x3c e).refused (flag_asked 0x3f e).refused row.refused later is)
+    ∙ taken_least u os es current c.read_head.new.least (head_refused s e)
+    (row.refused ++ later) c.read_head.ensures.noted
+    ∙ ap (λ (fs : List TypeFault). least_of u os es current fs)
+    (refusals_joined (is_function s e) (name_asked s e).refused (flag_asked 0x3c e).refused
+    (flag_asked 0x3f e).refused row.refused later is)

@@ -6,5 +6,6 @@ use Rattle.func_merge.proofs.prototype_tests.push_units.Given as goal
 abbrev pub invariant-loop-i : goal.invariant-loop-i
 invariant-loop-i l = record {
   readable : All IsReadable l.all.items;
-  files : (files : ℕ → List ℕ) → l.bytes ≡ files l.file → AreOf files l.initial.all.items → AreOf files l.all.items;
+  files : (files : ℕ → List ℕ) → l.bytes ≡ files l.file → AreOf files l.initial.all.items
+      → AreOf files l.all.items;
 }

@@ -11,5 +11,6 @@ unfolding two_files
 returns-clause-files c =
     let files = two_files c.args.first.now c.args.second.now in (
       files,
-      c.in_ok-push_units-2.ensures.files files refl (c.in_ok-push_units.ensures.files files refl (rw c.new-all.ensures.items (All-nil (λ (u : FileUnit). u.bytes ≡ files u.file)))),
+      c.in_ok-push_units-2.ensures.files files refl (c.in_ok-push_units.ensures.files files refl
+          (rw c.new-all.ensures.items (All-nil (λ (u : FileUnit). u.bytes ≡ files u.file)))),
     )

@@ -3,4 +3,5 @@ use Rattle.c_model.specs.Partition.{targets_at}
 use Rattle.func_types.proofs.nodes.targets_of.Given as goal
 
 abbrev pub invariant-loop-i : goal.invariant-loop-i
-invariant-loop-i b l = l.targets.items ≡ take l.i (targets_at (b.G.TypeGraph.shape l.graph).nodes l.x)
+invariant-loop-i b l =
+    l.targets.items ≡ take l.i (targets_at (b.G.TypeGraph.shape l.graph).nodes l.x)

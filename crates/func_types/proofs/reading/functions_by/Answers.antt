@@ -9,5 +9,7 @@ returns-in_err-table-clause-functions c =
     let u = c.args.at.now in
     let p = err_from_is_err_and c.from_residual.result c.from_residual.ensures.1 in
     rw (p.1, p.2)
-    (no_table c.in_err-table.field-0.0 (types_of_unit_of c.args.at.now.bytes c.args.at.now.unit) (functions_of_unit_of c.args.at.now.bytes c.args.at.now.unit) c.requires.types.types c.requires.types.read
+    (no_table c.in_err-table.field-0.0 (types_of_unit_of c.args.at.now.bytes c.args.at.now.unit)
+    (functions_of_unit_of c.args.at.now.bytes c.args.at.now.unit) c.requires.types.types
+    c.requires.types.read
     c.in_err-table.ensures.refused)

@@ -6,7 +6,11 @@ use Rattle.c_model.specs.declared.graph.Ref.TheVariants.{Void}
 use Rattle.graph_cases.proofs.fitting.are_below.Goals as goal
 
 pub loop-target-preserved : goal.loop-target-preserved
-loop-target-preserved c = rw (take_more c.args.targets.now c.loop-target.target-index Void c.loop-target-test.true) (All-push (IsBelow c.args.limit) (take c.loop-target.target-index c.args.targets.now) _ c.loop-target.invariant (c.is_below.ensures c.if-not-is_below.false))
+loop-target-preserved c =
+    rw (take_more c.args.targets.now c.loop-target.target-index Void c.loop-target-test.true)
+    (All-push (IsBelow c.args.limit) (take c.loop-target.target-index c.args.targets.now) _
+    c.loop-target.invariant (c.is_below.ensures c.if-not-is_below.false))
 
 pub returns : goal.returns
-returns c t = rw (take_all c.loop-target.target-index c.args.targets.now c.loop-target-test.false) at c.loop-target.invariant
+returns c t = rw (take_all c.loop-target.target-index c.args.targets.now c.loop-target-test.false)
+    at c.loop-target.invariant

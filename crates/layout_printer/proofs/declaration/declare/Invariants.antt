@@ -5,4 +5,5 @@ use Rattle.layout_printer.proofs.declaration.declare.Given as goal
 -- with the declaration of the rest it is all
 abbrev pub invariant-loop : goal.invariant-loop
 invariant-loop l =
-    around l.draft.front.items (decl_in (list_at l.types) (64 - l.counter) l.types l.at l.draft.name.items) l.draft.back.items ≡ decl_in (list_at l.types) 64 l.types l.fn.r l.name
+    around l.draft.front.items (decl_in (list_at l.types) (64 - l.counter) l.types l.at
+    l.draft.name.items) l.draft.back.items ≡ decl_in (list_at l.types) 64 l.types l.fn.r l.name

@@ -5,4 +5,5 @@ use Rattle.layout_printer.proofs.declaration.parameters.Given as goal
 
 -- the parameters so far
 abbrev pub invariant-loop-place : goal.invariant-loop-place
-invariant-loop-place l = l.out.items ≡ flat_map (parameter_at l.types l.r) (range_with_len 0 l.place)
+invariant-loop-place l =
+    l.out.items ≡ flat_map (parameter_at l.types l.r) (range_with_len 0 l.place)

@@ -3,4 +3,5 @@ use Rattle.layout_printer.proofs.Appending.{three}
 use Rattle.layout_printer.proofs.lines.put_crossed.Goals as goal
 
 pub returns : goal.returns
-returns c = on_ok_weaker c.put-2.result (three _ _ _ _ _ _ _ c.in_ok-put.ensures c.in_ok-put_if.ensures) c.put-2.ensures
+returns c = on_ok_weaker c.put-2.result
+    (three _ _ _ _ _ _ _ c.in_ok-put.ensures c.in_ok-put_if.ensures) c.put-2.ensures

@@ -4,4 +4,5 @@ use Rattle.layout_printer.proofs.pieces.put.Given as goal
 
 -- with the rest of the pieces it is all
 abbrev pub invariant-loop-piece : goal.invariant-loop-piece
-invariant-loop-piece l = l.out.items ++ texts (drop l.piece-index l.pieces) ≡ l.initial.out.items ++ texts l.pieces
+invariant-loop-piece l =
+    l.out.items ++ texts (drop l.piece-index l.pieces) ≡ l.initial.out.items ++ texts l.pieces

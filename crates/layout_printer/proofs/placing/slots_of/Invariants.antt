@@ -9,6 +9,7 @@ use Rattle.layout_printer.proofs.placing.slots_of.Given as goal
 abbrev pub invariant-loop-k : goal.invariant-loop-k
 invariant-loop-k l = record {
   count : length l.slots.items ≡ l.k;
-  each : (types : List CType) → AreSizes types l.sizes → (j : ℕ) → j < l.k → IsSlotAt types l.sizes.pointer l.t l.slots.items j;
+  each : (types : List CType) → AreSizes types l.sizes → (j : ℕ) → j < l.k
+      → IsSlotAt types l.sizes.pointer l.t l.slots.items j;
   end : l.end ≡ farthest l.slots.items;
 }

@@ -10,11 +10,15 @@ use Rattle.layout_printer.proofs.summary.put_summary.Goals as goal
 pub returns : goal.returns
 returns c =
     let shown = c.args.shown.now in
-    let sums = subst (λ (ss : List Slot). AreTotals ss c.sum_up.result) c.items.ensures c.sum_up.ensures in
+    let sums =
+    subst (λ (ss : List Slot). AreTotals ss c.sum_up.result) c.items.ensures c.sum_up.ensures in
     on_ok_weaker c.put_last_line.result
-    (four (size_text c.args.line shown) (holes_text shown.slots) (padding_text shown.padding) (last_line_text c.args.line shown.size)
-    c.args.out.now.items c.put_size.new.out.items c.put_holes.new.out.items c.put_padding.new.out.items c.put_last_line.new.out.items
+    (four (size_text c.args.line shown) (holes_text shown.slots) (padding_text shown.padding)
+    (last_line_text c.args.line shown.size)
+    c.args.out.now.items c.put_size.new.out.items c.put_holes.new.out.items
+    c.put_padding.new.out.items c.put_last_line.new.out.items
     c.in_ok-put_size.ensures
-    (c.in_ok-put_holes.ensures ∙ ap (λ t. c.put_size.new.out.items ++ t) (sums_are shown.slots c.sum_up.result sums))
+    (c.in_ok-put_holes.ensures
+    ∙ ap (λ t. c.put_size.new.out.items ++ t) (sums_are shown.slots c.sum_up.result sums))
     c.in_ok-put_padding.ensures)
     c.put_last_line.ensures

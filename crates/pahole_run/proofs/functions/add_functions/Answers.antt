@@ -24,6 +24,8 @@ returns-clause-told g c =
     (first (funcs_checks c.args.funcs most before (prototypes_of_units most us nodes)) ≡ None)
     × AreTheOnly (AreNodesOf c.args.funcs before nodes (prototypes_of_units most us nodes)) these)
     same
-    (added_some most before nodes (prototypes_of_units most c.as_slice.result.now nodes) c.args.funcs
+    (added_some most before nodes
+    (prototypes_of_units most c.as_slice.result.now nodes) c.args.funcs
     (option_map (λ (b : Bor Table). before_of b.now) c.as_ref.result) these asked
-    (seen_before c.as_ref.result ∙ ap (option_map before_of) c.as_ref.ensures.value) c.in_ok-graph.ensures.told)
+    (seen_before c.as_ref.result
+    ∙ ap (option_map before_of) c.as_ref.ensures.value) c.in_ok-graph.ensures.told)

@@ -8,5 +8,7 @@ use Rattle.pahole_run.proofs.merging.merge_sources.Goals as goal
 
 pub returns-clause-told : goal.returns-clause-told
 returns-clause-told g c =
-    subst (λ (b : Option Before). Merges c.args.context.now.limits.nodes b c.args.sources.graph.nodes c.merge_graph.result)
-    (seen_before c.as_ref.result ∙ ap (option_map before_of) c.as_ref.ensures.value) c.merge_graph.ensures.told
+    subst (λ (b : Option Before).
+    Merges c.args.context.now.limits.nodes b c.args.sources.graph.nodes c.merge_graph.result)
+    (seen_before c.as_ref.result
+    ∙ ap (option_map before_of) c.as_ref.ensures.value) c.merge_graph.ensures.told

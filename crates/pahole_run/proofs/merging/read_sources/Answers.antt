@@ -20,7 +20,10 @@ returns-in_err-images-clause-told g c funcs =
     rw gone
     (part_told (Vec Image) Sources (λ (v : Vec Image). map file_of v.items ≡ c.args.files.now)
     (λ (s : Sources).
-    (graph_in c.args.context.now.limits c.args.files.now ≡ Ok s.graph.nodes) × (option_map before_of s.base ≡ base_in Dwarf inputs))
-    (first_file elf_check 0 c.args.files.now) (first (graph_checks c.args.context.now.limits inputs)) c.in_err-images.field-0.0
-    (λ r at. images_not_first c.args.files.now (first (graph_checks c.args.context.now.limits inputs)) r c.requires.images at)
+    (graph_in c.args.context.now.limits c.args.files.now ≡ Ok s.graph.nodes)
+    × (option_map before_of s.base ≡ base_in Dwarf inputs))
+    (first_file elf_check 0 c.args.files.now)
+    (first (graph_checks c.args.context.now.limits inputs)) c.in_err-images.field-0.0
+    (λ r at. images_not_first c.args.files.now
+    (first (graph_checks c.args.context.now.limits inputs)) r c.requires.images at)
     c.in_err-images.ensures.told)

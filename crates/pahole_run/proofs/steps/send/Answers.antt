@@ -6,7 +6,8 @@ use Rattle.pahole_run.proofs.steps.send.Goals as goal
 pub returns-in-Stored : goal.returns-in-Stored
 returns-in-Stored g c limits task before is made =
     rw c.done_of_store.ensures
-    (done_sent_stored limits task c.in-Stored.out.now before _ _ c.args.bytes.now c.store.result (is ∙ ap output_of c.in-Stored.is)
+    (done_sent_stored limits task c.in-Stored.out.now before _ _ c.args.bytes.now c.store.result
+    (is ∙ ap output_of c.in-Stored.is)
     made c.store.ensures)
 
 pub returns-in-Shown : goal.returns-in-Shown

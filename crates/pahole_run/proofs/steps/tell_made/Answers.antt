@@ -17,13 +17,17 @@ returns-in_err-patch_inputs g c w =
     let bytes : c.in-Ok.image ≡ image_bytes (spec_from c.args.number) =
     c.in-Ok.ensures.bytes ∙ ap image_bytes c.spec_of.ensures.is in
     rw gone
-    (made_unread (λ (u : Unit {0}). c.patch_inputs.new.files ≡ patched_by Dwarf (c.in-Ok.image ∷ [])) c.args.context.now.limits c.args.number w
-    c.in-Ok.image c.in_err-patch_inputs.field-0.0 bytes c.in_err-patch_inputs.ensures.told c.in_err-patch_inputs.ensures.own)
+    (made_unread (λ (u : Unit {0}). c.patch_inputs.new.files
+    ≡ patched_by Dwarf (c.in-Ok.image ∷ [])) c.args.context.now.limits c.args.number w
+    c.in-Ok.image c.in_err-patch_inputs.field-0.0 bytes c.in_err-patch_inputs.ensures.told
+    c.in_err-patch_inputs.ensures.own)
 
 pub returns : goal.returns
 returns g c w =
     let bytes : c.in-Ok.image ≡ image_bytes (spec_from c.args.number) =
     c.in-Ok.ensures.bytes ∙ ap image_bytes c.spec_of.ensures.is in
-    prepared c.args.context.now.limits (made_task c.args.number) w w (inputs_from c.patch_inputs.new.files None false) c.make_line.result
-    (ready_made c.args.context.now.limits c.args.number w c.in-Ok.image c.patch_inputs.new.files bytes c.in_ok-patch_inputs.ensures.told)
+    prepared c.args.context.now.limits (made_task c.args.number) w w
+    (inputs_from c.patch_inputs.new.files None false) c.make_line.result
+    (ready_made c.args.context.now.limits c.args.number w c.in-Ok.image c.patch_inputs.new.files
+    bytes c.in_ok-patch_inputs.ensures.told)
     c.make_line.ensures

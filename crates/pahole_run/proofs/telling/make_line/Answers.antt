@@ -11,7 +11,8 @@ pub returns-in_err-made : goal.returns-in_err-made
 returns-in_err-made g c =
     let gone : c.from_residual.result ≡ Err c.in_err-made.field-0.0 = search rules in
     rw gone
-    (bytes_unmade Told c.args.context.now.limits (inputs_from c.args.files.now None false) c.in_err-made.field-0.0 c.in_err-made.ensures.made)
+    (bytes_unmade Told c.args.context.now.limits (inputs_from c.args.files.now None false)
+    c.in_err-made.field-0.0 c.in_err-made.ensures.made)
 
 pub returns-in_err-bytes : goal.returns-in_err-bytes
 returns-in_err-bytes g c =
@@ -19,14 +20,17 @@ returns-in_err-bytes g c =
     let inputs : Inputs = inputs_from c.args.files.now None false in
     rw gone
     (line_unwritten c.args.context.now.limits inputs c.in_ok-made.made
-    (λ (v : List ℕ). v ≡ btf_of c.order_in.result (base_in Dwarf inputs) c.in_ok-made.made.table.types) c.in_err-bytes.field-0.0 c.in_ok-made.ensures.made
-    (c.in_err-bytes.ensures.told (base_in Dwarf inputs) c.in_ok-made.ensures.made.over) c.in_err-bytes.ensures.own)
+    (λ (v : List ℕ). v ≡ btf_of c.order_in.result (base_in Dwarf inputs)
+    c.in_ok-made.made.table.types) c.in_err-bytes.field-0.0 c.in_ok-made.ensures.made
+    (c.in_err-bytes.ensures.told (base_in Dwarf inputs) c.in_ok-made.ensures.made.over)
+    c.in_err-bytes.ensures.own)
 
 pub returns : goal.returns
 returns g c =
     let inputs : Inputs = inputs_from c.args.files.now None false in
     let over = c.in_ok-made.ensures.made.over in
-    line_made c.args.context.now.limits inputs c.in_ok-made.made c.in_ok-bytes.bytes c.line_of.result c.in_ok-made.ensures.made
+    line_made c.args.context.now.limits inputs c.in_ok-made.made c.in_ok-bytes.bytes
+    c.line_of.result c.in_ok-made.ensures.made
     c.in_ok-made.ensures.counted
     (rw c.order_in.ensures at (c.in_ok-bytes.ensures.told (base_in Dwarf inputs) over).1)
     (rw c.order_in.ensures at (c.in_ok-bytes.ensures.spelled (base_in Dwarf inputs) over))

@@ -10,7 +10,11 @@ returns-in-Ok g c limits before d =
     record {
       outcome = Did c.args.job.now (Ok tt);
       middle = g.W.World.meaning c.args.world.now;
-      ran = (refl, subst (Done limits (task_of c.args.job.now) before (g.W.World.meaning c.args.world.now)) c.in-Ok.is d);
+      ran = (
+        refl,
+        subst (Done limits (task_of c.args.job.now) before
+            (g.W.World.meaning c.args.world.now)) c.in-Ok.is d,
+      );
       heard = Ok tt;
       said = says_nothing _;
       is = refl;
@@ -22,7 +26,11 @@ returns-in-Err g c limits before d =
     record {
       outcome = Did c.args.job.now (Err c.in-Err.ended);
       middle = g.W.World.meaning c.args.world.now;
-      ran = (refl, subst (Done limits (task_of c.args.job.now) before (g.W.World.meaning c.args.world.now)) c.in-Err.is d);
+      ran = (
+        refl,
+        subst (Done limits (task_of c.args.job.now) before
+            (g.W.World.meaning c.args.world.now)) c.in-Err.is d,
+      );
       heard = c.say_end.result;
       said = c.say_end.ensures;
       is = c.status.ensures;

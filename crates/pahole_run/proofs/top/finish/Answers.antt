@@ -15,4 +15,5 @@ returns-in-Ok g c limits before p =
 pub returns-in-Err : goal.returns-in-Err
 returns-in-Err g c limits before p =
     c.end_job-in-Err.ensures limits before
-    (subst (Prepares limits (task_of c.args.job.now) before (g.W.World.meaning c.args.world.now)) c.in-Err.is p)
+    (subst (Prepares limits (task_of c.args.job.now) before (g.W.World.meaning c.args.world.now))
+    c.in-Err.is p)

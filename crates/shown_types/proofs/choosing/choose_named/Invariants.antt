@@ -7,4 +7,5 @@ use Rattle.shown_types.proofs.choosing.choose_named.Given as goal
 abbrev pub invariant-loop-i : goal.invariant-loop-i
 invariant-loop-i l =
     (missing_from l.types l.i (drop l.i l.names) ≡ missing_from l.types 0 l.names)
-    × (l.all.items ++ flat_map (places_named l.types) (drop l.i l.names) ≡ flat_map (places_named l.types) l.names)
+    × (l.all.items ++ flat_map (places_named l.types) (drop l.i l.names)
+    ≡ flat_map (places_named l.types) l.names)

@@ -5,7 +5,8 @@ use Rattle.shown_types.proofs.listed.listed.Goals as goal
 
 pub loop-x-preserved : goal.loop-x-preserved
 loop-x-preserved c =
-    kept_more (is_listed c.args.types.now) c.loop-x.x (length c.args.types.now) c.is_some.result c.loop-x.all.items c.push_if.new.all.items
+    kept_more (is_listed c.args.types.now) c.loop-x.x
+    (length c.args.types.now) c.is_some.result c.loop-x.all.items c.push_if.new.all.items
     (listed c.args.types.now c.args.from) (omega arith)
     (c.is_some.ensures ∙ ap (λ (o : Option ℕ). is_some o) c.structure_at.ensures)
     c.in_ok-push_if.ensures c.loop-x.invariant

@@ -8,8 +8,10 @@ use Rattle.shown_types.proofs.showing.show.Goals as goal
 pub show_places-requires-clause-listed : goal.show_places-requires-clause-listed
 show_places-requires-clause-listed c =
     let types : List CType = c.args.table.now.types in
-    let places : c.as_slice.result.now ≡ chosen types c.args.table.now.base (option_copied c.args.names) =
+    let places : c.as_slice.result.now
+    ≡ chosen types c.args.table.now.base (option_copied c.args.names) =
     c.as_slice.ensures.value ∙ c.in_ok-places.ensures.1
-    ∙ ap (λ (ts : List CType). chosen ts c.args.table.now.base (option_copied c.args.names)) c.items.ensures in
+    ∙ ap (λ (ts : List CType). chosen ts c.args.table.now.base (option_copied c.args.names))
+    c.items.ensures in
     subst (All (λ (x : ℕ). IsTrue (is_listed types x))) (sym places)
     (chosen_listed types c.args.table.now.base (option_copied c.args.names))

@@ -6,7 +6,8 @@ loop-i-preserved c =
     let p = c.in_ok-started.ensures.shows in
     record {
       shown =
-          shown_more c.args.table.now.types c.args.sizes.now.pointer c.args.style c.args.places.now c.loop-i.i 0 _ _ _ _ p.0
+          shown_more c.args.table.now.types c.args.sizes.now.pointer c.args.style c.args.places.now
+          c.loop-i.i 0 _ _ _ _ p.0
           c.loop-i-test.true c.loop-i.invariant.shown p.1 p.2;
       kept = c.in_ok-started.ensures.kept;
     }

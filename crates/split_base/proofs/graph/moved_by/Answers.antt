@@ -13,4 +13,6 @@ loop-target-preserved c =
     let same = ap length (c.deref_mut-target-items.ensures.value ∙ c.into_items-targets.ensures) in
     let within : i < length items = omega (arith, same, c.loop-target.auto.target-items) in
     let old : Ref = get_or items i Void in
-    rw (c.moved_target.ensures, get_or_default items i _ Void within) (map_over_more (moved c.args.count) c.args.t.targets items i old (omega (arith, same)) c.loop-target.invariant (get_or_default items i Void old within))
+    rw (c.moved_target.ensures, get_or_default items i _ Void within)
+    (map_over_more (moved c.args.count) c.args.t.targets items i old
+    (omega (arith, same)) c.loop-target.invariant (get_or_default items i Void old within))

@@ -12,33 +12,45 @@ use Rattle.split_base.proofs.graph.with_base_packed.Goals as goal
 pub new-requires-clause-within : goal.new-requires-clause-within
 new-requires-clause-within c =
     let is : c.in_ok-nodes.nodes ≡ joined c.args.table.now.types c.args.graph.nodes =
-    joined-packed c.args.table.now.types c.args.graph.nodes c.in_ok-packed_types.field-0 c.into_nodes-own.result c.in_ok-nodes.nodes
-    (c.in_ok-packed_types.ensures ∙ c.items-types.ensures) c.into_nodes-own.ensures c.in_ok-nodes.ensures in
+    joined-packed c.args.table.now.types c.args.graph.nodes c.in_ok-packed_types.field-0
+    c.into_nodes-own.result c.in_ok-nodes.nodes
+    (c.in_ok-packed_types.ensures
+    ∙ c.items-types.ensures) c.into_nodes-own.ensures c.in_ok-nodes.ensures in
     subst (λ (all : List CType). RefersWithin (length all) all) (sym is)
-    (joined_within c.args.table.now.types c.args.graph.nodes c.requires.within c.len.ensures.sound.within)
+    (joined_within c.args.table.now.types c.args.graph.nodes c.requires.within
+    c.len.ensures.sound.within)
 
 pub new-requires-clause-base_within : goal.new-requires-clause-base_within
 new-requires-clause-base_within c =
     let is : c.in_ok-nodes.nodes ≡ joined c.args.table.now.types c.args.graph.nodes =
-    joined-packed c.args.table.now.types c.args.graph.nodes c.in_ok-packed_types.field-0 c.into_nodes-own.result c.in_ok-nodes.nodes
-    (c.in_ok-packed_types.ensures ∙ c.items-types.ensures) c.into_nodes-own.ensures c.in_ok-nodes.ensures in
-    let base : c.in_ok-base.base ≡ length c.args.table.now.types = c.in_ok-base.ensures.count ∙ ap length c.items-types.ensures in
+    joined-packed c.args.table.now.types c.args.graph.nodes c.in_ok-packed_types.field-0
+    c.into_nodes-own.result c.in_ok-nodes.nodes
+    (c.in_ok-packed_types.ensures
+    ∙ c.items-types.ensures) c.into_nodes-own.ensures c.in_ok-nodes.ensures in
+    let base : c.in_ok-base.base ≡ length c.args.table.now.types =
+    c.in_ok-base.ensures.count ∙ ap length c.items-types.ensures in
     subst (λ (n : ℕ). RefersWithin n (take n c.in_ok-nodes.nodes)) (sym base)
     (subst (RefersWithin (length c.args.table.now.types))
-    (sym (ap (take (length c.args.table.now.types)) is ∙ base_of_joined c.args.table.now.types c.args.graph.nodes)) c.requires.within)
+    (sym (ap (take (length c.args.table.now.types)) is
+    ∙ base_of_joined c.args.table.now.types c.args.graph.nodes)) c.requires.within)
 
 pub returns-clause-whole : goal.returns-clause-whole
 returns-clause-whole c =
     let is : c.in_ok-nodes.nodes ≡ joined c.args.table.now.types c.args.graph.nodes =
-    joined-packed c.args.table.now.types c.args.graph.nodes c.in_ok-packed_types.field-0 c.into_nodes-own.result c.in_ok-nodes.nodes
-    (c.in_ok-packed_types.ensures ∙ c.items-types.ensures) c.into_nodes-own.ensures c.in_ok-nodes.ensures in
-    let base : c.in_ok-base.base ≡ length c.args.table.now.types = c.in_ok-base.ensures.count ∙ ap length c.items-types.ensures in
+    joined-packed c.args.table.now.types c.args.graph.nodes c.in_ok-packed_types.field-0
+    c.into_nodes-own.result c.in_ok-nodes.nodes
+    (c.in_ok-packed_types.ensures
+    ∙ c.items-types.ensures) c.into_nodes-own.ensures c.in_ok-nodes.ensures in
+    let base : c.in_ok-base.base ≡ length c.args.table.now.types =
+    c.in_ok-base.ensures.count ∙ ap length c.items-types.ensures in
     λ i. record { base = (c.new.ensures.base ∙ base) i; nodes = (c.new.ensures.nodes ∙ is) i }
 
 pub returns-clause-formed : goal.returns-clause-formed
 returns-clause-formed c types nodes =
-    subst (All IsWellFormed) (sym (ap (λ s. s.nodes) (returns-clause-whole c))) (joined_formed c.args.table.now.types c.args.graph.nodes types nodes)
+    subst (All IsWellFormed) (sym (ap (λ s. s.nodes) (returns-clause-whole c)))
+    (joined_formed c.args.table.now.types c.args.graph.nodes types nodes)
 
 pub returns-clause-fitting : goal.returns-clause-fitting
 returns-clause-fitting c all fit =
-    subst HasFittingForwards (sym (returns-clause-whole c)) (joined_fits c.args.table.now.types c.args.graph c.requires.files all fit)
+    subst HasFittingForwards (sym (returns-clause-whole c))
+    (joined_fits c.args.table.now.types c.args.graph c.requires.files all fit)

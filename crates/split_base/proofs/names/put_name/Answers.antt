@@ -3,7 +3,8 @@ use Rattle.split_base.proofs.Naming.{put_one, put_full}
 use Rattle.split_base.proofs.names.put_name.Goals as goal
 
 pub returns-in-Ok : goal.returns-in-Ok
-returns-in-Ok c = put_one c.args.strings.now c.put.new.self c.args.name c.in-Ok.field-0 c.in-Ok.ensures.ok c.in-Ok.ensures.offset c.in-Ok.ensures.room
+returns-in-Ok c = put_one c.args.strings.now c.put.new.self c.args.name c.in-Ok.field-0
+    c.in-Ok.ensures.ok c.in-Ok.ensures.offset c.in-Ok.ensures.room
 
 pub returns-in-Err-Full : goal.returns-in-Err-Full
 returns-in-Err-Full c =

@@ -10,6 +10,8 @@ loop-x-preserved b c = record {
   nodes =
       c.in_ok-push.ensures.items
       ∙ ap (λ (xs : List ℕ). xs ++ c.in_ok-class_place.field-0 ∷ []) c.loop-x.invariant.nodes
-      ∙ ap (λ (k : ℕ). map (place_of (b.G.TypeGraph.shape c.args.graph.now) c.args.classes.now) (range_with_len 0 c.loop-x.x) ++ k ∷ []) c.in_ok-class_place.ensures.place
-      ∙ sym (map-range_with_len_more (place_of (b.G.TypeGraph.shape c.args.graph.now) c.args.classes.now) 0 c.loop-x.x c.loop-x.x (omega arith));
+      ∙ ap (λ (k : ℕ). map (place_of (b.G.TypeGraph.shape c.args.graph.now) c.args.classes.now)
+      (range_with_len 0 c.loop-x.x) ++ k ∷ []) c.in_ok-class_place.ensures.place
+      ∙ sym (map-range_with_len_more (place_of (b.G.TypeGraph.shape c.args.graph.now)
+      c.args.classes.now) 0 c.loop-x.x c.loop-x.x (omega arith));
 }

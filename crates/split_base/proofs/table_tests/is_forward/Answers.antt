@@ -7,7 +7,8 @@ returns c = λ (h : IsTrue c.is_text.result).
     let kind : c.args.t.now.label.kind ≡ 7 = omega arith in
     let parts : length c.items-parts.result.now ≡ 0 = omega arith in
     let targets : length c.items-targets.result.now ≡ 0 = omega arith in
-    let no_parts : length c.args.t.now.label.parts ≡ 0 = ap length (sym c.items-parts.ensures) ∙ parts in
+    let no_parts : length c.args.t.now.label.parts ≡ 0 =
+    ap length (sym c.items-parts.ensures) ∙ parts in
     record {
       row = plain_row 1 1 true;
       of_kind = ap row_of kind;

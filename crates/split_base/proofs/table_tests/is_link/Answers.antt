@@ -8,7 +8,8 @@ returns c = λ (h : IsTrue c.is_text.result).
     let off : c.args.t.now.label.flag ≡ false = search rules in
     let parts : length c.items-parts.result.now ≡ 0 = omega arith in
     let targets : length c.items-targets.result.now ≡ 1 = omega arith in
-    let no_parts : length c.args.t.now.label.parts ≡ 0 = ap length (sym c.items-parts.ensures) ∙ parts in
+    let no_parts : length c.args.t.now.label.parts ≡ 0 =
+    ap length (sym c.items-parts.ensures) ∙ parts in
     record {
       row = linked_row 1 false;
       of_kind = ap row_of kind ∙ c.requires;

@@ -3,4 +3,8 @@ use Rattle.split_base.proofs.types.base_types.Goals as goal
 
 pub loop-x-preserved : goal.loop-x-preserved
 loop-x-preserved b c =
-    rw (take-read (b.G.TypeGraph.shape c.args.graph.now).nodes c.loop-x.x _ c.in_ok-base_node.ensures, ← c.loop-x.invariant) c.in_ok-push.ensures.items
+    rw (
+      take-read (b.G.TypeGraph.shape c.args.graph.now).nodes c.loop-x.x _
+          c.in_ok-base_node.ensures,
+      ← c.loop-x.invariant,
+    ) c.in_ok-push.ensures.items

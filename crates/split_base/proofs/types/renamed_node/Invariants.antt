@@ -4,4 +4,5 @@ use Rattle.split_base.specs.Table.{renamed}
 use Rattle.split_base.proofs.types.renamed_node.Given as goal
 
 abbrev pub invariant-loop-i : goal.invariant-loop-i
-invariant-loop-i b l = l.targets.items ≡ map (renamed (slice_index l.places)) (take l.i (targets_at (b.G.TypeGraph.shape l.graph).nodes l.x))
+invariant-loop-i b l = l.targets.items ≡ map (renamed (slice_index l.places))
+    (take l.i (targets_at (b.G.TypeGraph.shape l.graph).nodes l.x))

@@ -16,4 +16,5 @@ loop-source-preserved b c =
     c.in_ok-push.ensures.items ∙ ap (λ (ts : List CType). ts ++ t ∷ []) c.loop-source.invariant
     ∙ append_assoc before own (t ∷ [])
     ∙ ap (λ (ts : List CType). before ++ ts)
-    (sym (filter_map-take_more (type_by g c.args.places.now) c.args.sources.now i t c.loop-source-test.true c.in_ok-renamed_node.ensures))
+    (sym (filter_map-take_more (type_by g c.args.places.now) c.args.sources.now i t
+    c.loop-source-test.true c.in_ok-renamed_node.ensures))

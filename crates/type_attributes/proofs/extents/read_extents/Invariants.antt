@@ -4,7 +4,8 @@ use Rattle.type_attributes.specs.Rows.{rows_of}
 use Rattle.type_attributes.proofs.extents.read_extents.Given as goal
 
 abbrev pub invariant-entries : goal.invariant-entries
-invariant-entries l = l.rows.items ++ rows_of (sections l.form) l.walk.entries ≡ rows_of (sections l.form) l.initial.walk.entries
+invariant-entries l = l.rows.items ++ rows_of (sections l.form) l.walk.entries
+    ≡ rows_of (sections l.form) l.initial.walk.entries
 
 abbrev pub decreases-entries : goal.decreases-entries
 decreases-entries l = length l.walk.entries

@@ -6,4 +6,5 @@ use Rattle.type_signature.specs.Hashing.{mixed}
 use Rattle.type_signature.proofs.hashing.hash_of.Given as goal
 
 abbrev pub invariant-loop-word : goal.invariant-loop-word
-invariant-loop-word l = l.hash ≡ fold mixed l.own (classes_of l.now (map ref_of (take l.word-index l.words)))
+invariant-loop-word l =
+    l.hash ≡ fold mixed l.own (classes_of l.now (map ref_of (take l.word-index l.words)))

@@ -5,4 +5,5 @@ use Rattle.unit_graph.specs.Numbers.{Numbers}
 use Rattle.unit_graph.proofs.links.link_targets.Given as goal
 
 abbrev pub invariant-loop-i : goal.invariant-loop-i
-invariant-loop-i l = (all : List Source) → Numbers l.places all → length all ≡ l.count → refs_from all l.file l.index l.refs.items (drop l.i l.targets) ≡ refs_from all l.file l.index [] l.targets
+invariant-loop-i l = (all : List Source) → Numbers l.places all → length all ≡ l.count → refs_from
+    all l.file l.index l.refs.items (drop l.i l.targets) ≡ refs_from all l.file l.index [] l.targets

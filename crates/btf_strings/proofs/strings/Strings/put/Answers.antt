@@ -11,13 +11,17 @@ passed c = c.new.ensures ∙ c.bytes-bytes.ensures
 pub returns-in-Some-clause-list : goal.returns-in-Some-clause-list
 returns-in-Some-clause-list c =
     listed_after c.args.self.now c.args.self.now c.args.name
-    (with_known c.args.self.now c.args.name c.in-Some.at (ap (λ (n : List ℕ). offset_of c.args.self.now n) (sym (passed c)) ∙ sym c.in-Some.ensures.value))
+    (with_known c.args.self.now c.args.name c.in-Some.at (ap (λ (n : List ℕ).
+    offset_of c.args.self.now n) (sym (passed c)) ∙ sym c.in-Some.ensures.value))
 
 missing : (c : goal.In_ok-append) → offset_of c.args.self.now c.args.name ≡ None
-missing c = ap (λ (n : List ℕ). offset_of c.args.self.now n) (sym (c.new.ensures ∙ c.bytes-bytes.ensures)) ∙ sym c.offset_of.ensures.value ∙ c.in_default.is
+missing c = ap (λ (n : List ℕ). offset_of c.args.self.now n)
+    (sym (c.new.ensures ∙ c.bytes-bytes.ensures)) ∙ sym c.offset_of.ensures.value ∙ c.in_default.is
 
-appended : (c : goal.In_ok-append) → c.append.new.self ≡ record c.args.self.now { own = c.args.self.now.own ++ c.args.name ∷ [] }
-appended c = c.in_ok-append.ensures.ok ∙ ap (λ (n : List ℕ). let t : Names = record c.args.self.now { own = c.args.self.now.own ++ n ∷ [] } in t) c.bytes-bytes.ensures
+appended : (c : goal.In_ok-append)
+    → c.append.new.self ≡ record c.args.self.now { own = c.args.self.now.own ++ c.args.name ∷ [] }
+appended c = c.in_ok-append.ensures.ok ∙ ap (λ (n : List ℕ). let t : Names = record c.args.self.now
+    { own = c.args.self.now.own ++ n ∷ [] } in t) c.bytes-bytes.ensures
 
 pub returns-clause-offset : goal.returns-clause-offset
 returns-clause-offset c =
@@ -26,8 +30,10 @@ returns-clause-offset c =
     ∙ ap (λ (n : ℕ). Some n) (sym c.next_offset-at.ensures)
 
 pub returns-clause-list : goal.returns-clause-list
-returns-clause-list c = listed_after c.args.self.now c.append.new.self c.args.name (appended c ∙ with_new c.args.self.now c.args.name (missing c))
+returns-clause-list c = listed_after c.args.self.now c.append.new.self c.args.name
+    (appended c ∙ with_new c.args.self.now c.args.name (missing c))
 
 pub returns-clause-kept : goal.returns-clause-kept
 returns-clause-kept c = λ (other : List ℕ) (at : ℕ) (e : offset_of c.args.self.now other ≡ Some at).
-    ap (λ (t : Names). offset_of t other) (appended c) ∙ offset_kept c.args.self.now c.args.name other at e
+    ap (λ (t : Names). offset_of t other) (appended c)
+    ∙ offset_kept c.args.self.now c.args.name other at e

@@ -3,30 +3,49 @@ use Rattle.dwarf_abbrev.specs.Rows.{declarations_of, declaration_of}
 use Rattle.dwarf_abbrev.specs.Declarations.{Declaration, place_of, declaration_with}
 use Rattle.dwarf_abbrev.specs.declared.row.Row.{Row}
 use Rattle.dwarf_abbrev.specs.declared.spec.Spec.{Spec}
-use Rattle.dwarf_abbrev.proofs.Placing.{declaration_there, no_declaration, declarations_length, declaration_of_row}
+use Rattle.dwarf_abbrev.proofs.Placing.{declaration_there, no_declaration, declarations_length}
+use Rattle.dwarf_abbrev.proofs.Placing.{declaration_of_row}
 use Rattle.dwarf_abbrev.proofs.abbrevs.Abbrevs.get.Goals as goal
 
 pub returns-in_err-index : goal.returns-in_err-index
 returns-in_err-index c =
-    let h : None ≡ place_of c.args.code (declarations_of c.as_slice.result.now) = c.in_err-index.ensures in
-    let k : None ≡ place_of c.args.code (declarations_of c.self.inside.rows.items) = h ∙ ap (λ (rows : List Row). place_of c.args.code (declarations_of rows)) c.as_slice.ensures.value in
-    rw c.from_residual.ensures (sym (no_declaration c.args.self.now c.args.code (sym (k ∙ ap (place_of c.args.code) c.self.view_is))))
+    let h : None ≡ place_of c.args.code (declarations_of c.as_slice.result.now) =
+    c.in_err-index.ensures in
+    let k : None ≡ place_of c.args.code (declarations_of c.self.inside.rows.items) =
+    h ∙ ap (λ (rows : List Row). place_of c.args.code (declarations_of rows))
+    c.as_slice.ensures.value in
+    rw c.from_residual.ensures (sym (no_declaration c.args.self.now c.args.code
+    (sym (k ∙ ap (place_of c.args.code) c.self.view_is))))
 
 pub index-row-requires : goal.index-row-requires
 index-row-requires c =
-    let h : Some c.in_ok-index.index ≡ place_of c.args.code (declarations_of c.as_slice.result.now) = c.in_ok-index.ensures in
-    let k = h ∙ ap (λ (rows : List Row). place_of c.args.code (declarations_of rows)) c.as_slice.ensures.value in
+    let h : Some c.in_ok-index.index
+    ≡ place_of c.args.code (declarations_of c.as_slice.result.now) = c.in_ok-index.ensures in
+    let k = h ∙ ap (λ (rows : List Row). place_of c.args.code (declarations_of rows))
+    c.as_slice.ensures.value in
     let d : Declaration = record { code = 0; tag = 0; children = false; specs = [] } in
-    let p = declaration_there (declarations_of c.self.inside.rows.items) c.args.code c.in_ok-index.index d (sym k) in
+    let p = declaration_there
+    (declarations_of c.self.inside.rows.items) c.args.code c.in_ok-index.index d (sym k) in
     omega (arith, p.0, declarations_length c.self.inside.rows.items, c.self.inside.rows.ok.0)
 
 pub returns : goal.returns
 returns c =
-    let h : Some c.in_ok-index.index ≡ place_of c.args.code (declarations_of c.as_slice.result.now) = c.in_ok-index.ensures in
-    let k = h ∙ ap (λ (rows : List Row). place_of c.args.code (declarations_of rows)) c.as_slice.ensures.value in
+    let h : Some c.in_ok-index.index
+    ≡ place_of c.args.code (declarations_of c.as_slice.result.now) = c.in_ok-index.ensures in
+    let k = h ∙ ap (λ (rows : List Row). place_of c.args.code (declarations_of rows))
+    c.as_slice.ensures.value in
     let x = c.index-row.result.now in
-    let p = declaration_there (declarations_of c.self.inside.rows.items) c.args.code c.in_ok-index.index (declaration_of c.index-row.result.now) (sym k) in
-    let lt : c.in_ok-index.index < length c.self.inside.rows.items = omega (arith, p.0, declarations_length c.self.inside.rows.items) in
-    let e = declaration_of_row c.self.inside.rows.items c.in_ok-index.index c.index-row.result.now lt c.index-row.ensures in
+    let p = declaration_there (declarations_of c.self.inside.rows.items) c.args.code
+    c.in_ok-index.index (declaration_of c.index-row.result.now) (sym k) in
+    let lt : c.in_ok-index.index < length c.self.inside.rows.items =
+    omega (arith, p.0, declarations_length c.self.inside.rows.items) in
+    let e = declaration_of_row c.self.inside.rows.items c.in_ok-index.index c.index-row.result.now
+    lt c.index-row.ensures in
     let q = p.1 ∙ ap (λ (r : Declaration). Some r) e in
-    ap (λ (s : List Spec). Some (record { code = c.index-row.result.now.code; tag = c.index-row.result.now.tag; children = c.index-row.result.now.children; specs = s })) c.as_slice-2.ensures.value ∙ sym q ∙ ap (declaration_with c.args.code) c.self.view_is
+    ap (λ (s : List Spec). Some (record {
+      code = c.index-row.result.now.code;
+      tag = c.index-row.result.now.tag;
+      children = c.index-row.result.now.children;
+      specs = s;
+    }))
+    c.as_slice-2.ensures.value ∙ sym q ∙ ap (declaration_with c.args.code) c.self.view_is

@@ -8,7 +8,8 @@ use Rattle.layout_printer.proofs.sizes.Sizes.of.Goals as goal
 
 pub returns-clause-value : goal.returns-clause-value
 returns-clause-value c = λ (types : List CType) (a : AreSizes types c.args.self.now).
-    c.kept_at.ensures ∙ ap (λ s. kept_at s c.args.r) c.deref.ensures.value ∙ size_kept types c.args.self.now a c.args.r
+    c.kept_at.ensures ∙ ap (λ s. kept_at s c.args.r) c.deref.ensures.value
+    ∙ size_kept types c.args.self.now a c.args.r
 
 pub returns-clause-fits : goal.returns-clause-fits
 returns-clause-fits c = λ (types : List CType) (a : AreSizes types c.args.self.now).

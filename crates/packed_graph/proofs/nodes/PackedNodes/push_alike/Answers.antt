@@ -1,4 +1,5 @@
-use Rattle.std.proofs.Common.{◌≡◌, ◌<◌, ◌+◌, ◌++◌, ◌∷◌, [], List, Some, get_or, map, length, sym, ◌∙◌, ap, arith}
+use Rattle.std.proofs.Common.{◌≡◌, ◌<◌, ◌+◌, ◌++◌, ◌∷◌, [], List, Some, get_or, map, length, sym}
+use Rattle.std.proofs.Common.{◌∙◌, ap, arith}
 use Rattle.std.proofs.lemmas.List.{get_or_read}
 use Rattle.std.proofs.lemmas.Option.{same_Some}
 use Rattle.c_model.specs.declared.label.Label.{Label}
@@ -11,27 +12,62 @@ use Rattle.packed_graph.proofs.Reading.{label_at-nodes_of, node-within}
 use Rattle.packed_graph.proofs.nodes.PackedNodes.push_alike.Goals as goal
 
 pub index-place-requires : goal.index-place-requires
-index-place-requires c = let h = node-within (columns c.self.inside) c.args.x (rw (← c.self.view_is) at c.requires.node) in omega (arith, c.self.inside.numbers.ok.0, h)
+index-place-requires c = let h = node-within (columns c.self.inside) c.args.x
+    (rw (← c.self.view_is) at c.requires.node) in omega (arith, c.self.inside.numbers.ok.0, h)
 
 pub invariant_of-self-2 : goal.invariant_of-self-2
 invariant_of-self-2 c =
     let s = columns c.self.inside in
     let h = node-within s c.args.x (rw (← c.self.view_is) at c.requires.node) in
     let place = c.index-place.result.now in
-    let at : get_or s.numbers c.args.x 0 ≡ place = sym (get_or_read s.numbers c.args.x place h c.index-place.ensures 0) in
-    let is : c.in-Ok.end ≡ length s.words + length c.args.targets.now = omega (arith, c.self.inside.words.ok.0, c.in-Ok.ensures, c.len.ensures, c.saturating_add.ensures) in
-    rw (c.in_ok-push-2.ensures.items, c.in_ok-reserve.ensures.items, c.in_ok-push.ensures.items, c.in_ok-reserve-2.ensures.items, c.in_ok-push_words.ensures.words, c.in_ok-reserve-3.ensures.items)
-    (IsPacked-push s c.self.invariant s.labels (get_or s.labels place no_label) place (takes_label s c.self.invariant c.args.x place h at) c.args.targets.now c.in-Ok.end is)
+    let at : get_or s.numbers c.args.x 0 ≡ place =
+    sym (get_or_read s.numbers c.args.x place h c.index-place.ensures 0) in
+    let is : c.in-Ok.end ≡ length s.words + length c.args.targets.now = omega (
+      arith,
+      c.self.inside.words.ok.0,
+      c.in-Ok.ensures,
+      c.len.ensures,
+      c.saturating_add.ensures,
+    ) in
+    rw (
+      c.in_ok-push-2.ensures.items,
+      c.in_ok-reserve.ensures.items,
+      c.in_ok-push.ensures.items,
+      c.in_ok-reserve-2.ensures.items,
+      c.in_ok-push_words.ensures.words,
+      c.in_ok-reserve-3.ensures.items,
+    )
+    (IsPacked-push s c.self.invariant s.labels (get_or s.labels place no_label) place
+    (takes_label s c.self.invariant c.args.x place h at) c.args.targets.now c.in-Ok.end is)
 
 pub returns-clause-pushed : goal.returns-clause-pushed
 returns-clause-pushed c l labelled =
     let s = columns c.self.inside in
     let h = node-within s c.args.x (rw (← c.self.view_is) at c.requires.node) in
     let place = c.index-place.result.now in
-    let at : get_or s.numbers c.args.x 0 ≡ place = sym (get_or_read s.numbers c.args.x place h c.index-place.ensures 0) in
-    let is : c.in-Ok.end ≡ length s.words + length c.args.targets.now = omega (arith, c.self.inside.words.ok.0, c.in-Ok.ensures, c.len.ensures, c.saturating_add.ensures) in
+    let at : get_or s.numbers c.args.x 0 ≡ place =
+    sym (get_or_read s.numbers c.args.x place h c.index-place.ensures 0) in
+    let is : c.in-Ok.end ≡ length s.words + length c.args.targets.now = omega (
+      arith,
+      c.self.inside.words.ok.0,
+      c.in-Ok.ensures,
+      c.len.ensures,
+      c.saturating_add.ensures,
+    ) in
     let found : label_at (nodes_of s) c.args.x ≡ Some l = rw (← c.self.view_is) at labelled in
-    let own : get_or s.labels place no_label ≡ l = ap (λ n. get_or s.labels n no_label) (sym at) ∙ same_Some (get_or s.labels (get_or s.numbers c.args.x 0) no_label) l (sym (label_at-nodes_of s c.args.x h) ∙ found) in
-    rw (c.in_ok-push-2.ensures.items, c.in_ok-reserve.ensures.items, c.in_ok-push.ensures.items, c.in_ok-reserve-2.ensures.items, c.in_ok-push_words.ensures.words, c.in_ok-reserve-3.ensures.items, ← c.self.view_is)
-    (nodes_of-push s c.self.invariant s.labels (get_or s.labels place no_label) place (takes_label s c.self.invariant c.args.x place h at) c.args.targets.now c.in-Ok.end is
-    ∙ ap (λ (k : Label). nodes_of s ++ (let t : CType = record { label = k; targets = c.args.targets.now } in t) ∷ []) own)
+    let own : get_or s.labels place no_label ≡ l = ap (λ n. get_or s.labels n no_label) (sym at)
+    ∙ same_Some (get_or s.labels (get_or s.numbers c.args.x 0) no_label) l
+    (sym (label_at-nodes_of s c.args.x h) ∙ found) in
+    rw (
+      c.in_ok-push-2.ensures.items,
+      c.in_ok-reserve.ensures.items,
+      c.in_ok-push.ensures.items,
+      c.in_ok-reserve-2.ensures.items,
+      c.in_ok-push_words.ensures.words,
+      c.in_ok-reserve-3.ensures.items,
+      ← c.self.view_is,
+    )
+    (nodes_of-push s c.self.invariant s.labels (get_or s.labels place no_label) place
+    (takes_label s c.self.invariant c.args.x place h at) c.args.targets.now c.in-Ok.end is
+    ∙ ap (λ (k : Label). nodes_of s
+    ++ (let t : CType = record { label = k; targets = c.args.targets.now } in t) ∷ []) own)
