@@ -18,5 +18,5 @@ mod tests;
 pub use abbrevs::Abbrevs;
 pub use fault::AbbrevFault;
 pub use row::Abbrev;
-pub use size::{Size, Width};
+pub use size::{Size, Width, size_at};
 pub use spec::Spec;

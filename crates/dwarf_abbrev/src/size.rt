@@ -1,6 +1,7 @@
 //! How many bytes the values of an abbreviation have, where that is known without the values.
-ghost use Rattle.std.specs.Prelude.{◌≡◌, ◌+◌, ℕ, Some, IfSome};
-ghost use Rattle.dwarf_abbrev.specs.Sizes.{width_of, bytes_of, width_in, total, IsSize};
+ghost use Rattle.std.specs.Prelude.{◌≡◌, ◌+◌, ℕ, Some, IfSome, IfOk, slice_get};
+ghost use Rattle.std.specs.Option.{ForSome};
+ghost use Rattle.dwarf_abbrev.specs.Sizes.{width_of, bytes_of, width_in, plus, total, AreSizes};
 
 use crate::constants::{
     DW_FORM_GNU_ref_alt, DW_FORM_GNU_strp_alt, DW_FORM_addr, DW_FORM_addrx1, DW_FORM_addrx2,
@@ -11,6 +12,7 @@ use crate::constants::{
     DW_FORM_strx1, DW_FORM_strx2, DW_FORM_strx3, DW_FORM_strx4,
 };
 use crate::spec::Spec;
+use std::alloc::{AllocError, Global};
 
 /// How many bytes the value of a form has.
 #[derive(Clone, Copy, Debug, PartialEq, Eq)]
@@ -108,19 +110,43 @@ fn with_width(size: Size, width: Width) -> Option<Size>
     }
 }
 
-/// The bytes of the values of some pairs, where they are known without the values. `None` where a
-/// form has no fixed width, and where a sum passes 32 bits.
-pub(crate) fn fixed_size(specs: &[Spec]) -> Option<Size>
-    ensures { IfSome result (IsSize specs.now) }
+/// So many bytes and those of one form more. `None` where the form has no fixed width, and where a
+/// sum passes 32 bits.
+fn with_form(size: Size, form: u64) -> Option<Size>
+    ensures { (o a : ℕ) → IfSome result
+        (λ z. plus (Some (total o a size)) (bytes_of o a form) ≡ Some (total o a z)) }
 {
+    let width = form_width(form)?;
+    with_width(size, width)
+}
+
+/// The bytes of the values before each pair, and of all at the end, as far as they are known
+/// without the values: up to the first form that has no fixed width, or to a sum that passes 32
+/// bits.
+pub(crate) fn fixed_sizes(alloc: Global, specs: &[Spec]) -> Result<Vec<Size>, AllocError>
+    ensures { IfOk result (λ sizes. AreSizes specs.now sizes.items) }
+{
+    let mut sizes = Vec::new(alloc);
     let mut size = Size {
         bytes: 0,
         offsets: 0,
         addresses: 0,
     };
     for spec in specs {
-        let width = form_width(spec.form)?;
-        size = with_width(size, width)?;
+        sizes.push(size)?;
+        match with_form(size, spec.form) {
+            Some(next) => size = next,
+            None => return Ok(sizes),
+        }
     }
-    Some(size)
+    sizes.push(size)?;
+    Ok(sizes)
+}
+
+/// The size at a place of a list; `None` where the list has no such place.
+#[inline(always)]
+pub fn size_at(sizes: &[Size], index: usize) -> Option<Size>
+    ensures { ForSome result (λ z. slice_get sizes.now index ≡ Some z) }
+{
+    sizes.get(index).copied()
 }

@@ -1,5 +1,7 @@
 -- The place after the values of some pairs, one pair after the other.
 use Rattle.std.proofs.Common.{◌≡◌, ℕ, ◌+◌, ◌<◌, ◌≤◌, List, [], ◌∷◌, length, drop, get_or, Bool}
+use Rattle.std.proofs.Common.{◌||◌, ◌++◌}
+use Rattle.std.proofs.Common.{take, zero, suc}
 use Rattle.std.proofs.Common.{true, false, ◌==◌, Some, None, if◌then◌else◌, Result, Ok, Err, is_ok}
 use Rattle.std.proofs.Common.{refl, sym, ap, ◌∙◌, arith}
 use Rattle.std.proofs.lemmas.List.{drop_more, drop_all}
@@ -11,6 +13,7 @@ use Rattle.std.proofs.lemmas.Bool.{eq-eqb, ne_eqb}
 use Rattle.entry_tree.specs.Reads.{and_then, values_at, end_of_values, ends_at, found_in}
 use Rattle.entry_tree.specs.Reads.{value_with}
 use Rattle.entry_tree.specs.Items.{listed}
+use Rattle.entry_tree.specs.Firsts.{has_spec}
 
 rest : (s : Spec) (x : Shown) (q : Result (List (ℕ × Shown) × ℕ) FormFault)
     → end_of_values (and_then q (λ (vs : List (ℕ × Shown) × ℕ). Ok ((s.attribute, x) ∷ vs.0, vs.1)))
@@ -141,3 +144,53 @@ listed_by c specs at name (Err f) h e = cc
 pub found_listed : (c : Within) (specs : List Spec) (at name : ℕ) → is_ok (values_at c specs at)
     ≡ true → found_in c specs at name ≡ Ok (value_with name (listed (values_at c specs at)))
 found_listed c specs at name e = listed_by c specs at name (values_at c specs at) refl e
+
+-- the first value of an attribute that stands behind others
+behind : (c : Within) (s : Spec) (ss : List Spec) (i at name : ℕ) (r : Result (Shown × ℕ) FormFault)
+    → ((e : ℕ) → found_in c ss e name
+    ≡ and_then (ends_at c (take i ss) e) (λ (m : ℕ). found_in c (drop i ss) m name))
+    → and_then (end_of r) (λ (e : ℕ). found_in c ss e name)
+    ≡ and_then (and_then (end_of r) (λ (e : ℕ). ends_at c (take i ss) e))
+    (λ (m : ℕ). found_in c (drop i ss) m name)
+behind c s ss i at name (Ok v) h = h v.1
+behind c s ss i at name (Err f) h = refl
+
+or_false : (a b : Bool) → (a || b) ≡ false → (a ≡ false) × (b ≡ false)
+or_false false b h = (refl, h)
+or_false true b h = cc
+
+pub found_behind : (c : Within) (specs : List Spec) (i at name : ℕ)
+    → has_spec name (take i specs) ≡ false → found_in c specs at name
+    ≡ and_then (ends_at c (take i specs) at) (λ (m : ℕ). found_in c (drop i specs) m name)
+found_behind c specs zero at name h =
+    sym (ap (λ (r : Result ℕ FormFault). and_then r (λ (m : ℕ). found_in c specs m name))
+    (ends_none c at))
+found_behind c [] (suc i) at name h =
+    sym (ap (λ (r : Result ℕ FormFault). and_then r (λ (m : ℕ). found_in c [] m name))
+    (ends_none c at))
+found_behind c (s ∷ ss) (suc i) at name h =
+    let n = or_false (s.attribute == name) (has_spec name (take i ss)) h in
+    found_more c s ss at name ∙ rw n.0 (behind c s ss i at name (value_of c s at)
+    (λ (e : ℕ). found_behind c ss i e name n.1)
+    ∙ sym (ap (λ (r : Result ℕ FormFault). and_then r (λ (m : ℕ). found_in c (drop i ss) m name))
+    (ends_more c s (take i ss) at)))
+
+-- no pair of the first has a name, one pair more
+one_without : (b : Bool) → b ≡ false → (b || false) ≡ false
+one_without b h = rw h refl
+
+pub has_spec_push : (ss : List Spec) (s : Spec) (name : ℕ) → has_spec name ss ≡ false
+    → (s.attribute ≡ name → ⊥) → has_spec name (ss ++ s ∷ []) ≡ false
+has_spec_push [] s name h ne = one_without (s.attribute == name) (ne_eqb s.attribute name ne)
+has_spec_push (t ∷ ss) s name h ne =
+    let n = or_false (t.attribute == name) (has_spec name ss) h in
+    rw n.0 (has_spec_push ss s name n.1 ne)
+
+pub found_at : (c : Within) (specs : List Spec) (i from at name : ℕ) (d : Spec) → i < length specs
+    → has_spec name (take i specs) ≡ false → (get_or specs i d).attribute ≡ name
+    → ends_at c (take i specs) from ≡ Ok at → found_in c specs from name
+    ≡ and_then (value_of c (get_or specs i d) at) (λ (v : Shown × ℕ). Ok (Some v.0))
+found_at c specs i from at name d lt before is e =
+    found_behind c specs i from name before
+    ∙ ap (λ (r : Result ℕ FormFault). and_then r (λ (m : ℕ). found_in c (drop i specs) m name)) e
+    ∙ found_here c specs i at name d lt is

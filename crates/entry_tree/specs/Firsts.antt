@@ -1,6 +1,7 @@
 -- The first values of the attributes that types want, and which attributes an abbreviation has.
 use Rattle.std.specs.Prelude.{ℕ, ◌≡◌, ◌==◌, ◌||◌, Bool, true, false, is_ok, is_some, List, [], ◌∷◌}
-use Rattle.std.specs.Prelude.{Option, None, Some, Result, Ok, Err, if◌then◌else◌}
+use Rattle.std.specs.Prelude.{Option, None, Some, Result, Ok, Err, if◌then◌else◌, ◌<◌, length}
+use Rattle.std.specs.Prelude.{take, get_or}
 use Rattle.std.specs.Option.{option_map}
 use Rattle.dwarf_abbrev.specs.declared.constants.TheConstants.{DW_AT_name, DW_AT_byte_size}
 use Rattle.dwarf_abbrev.specs.declared.constants.TheConstants.{DW_AT_bit_offset, DW_AT_bit_size}
@@ -77,6 +78,12 @@ Gets (Err f) all = all ≡ Err f
 abbrev pub has_spec : ℕ → List Spec → Bool
 has_spec name [] = false
 has_spec name (s ∷ ss) = s.attribute == name || has_spec name ss
+
+-- the first attribute of a name stands in this place
+pub record IsFirst (name : ℕ) (specs : List Spec) (i : ℕ) : Type 0 where
+  pub inside : i < length specs
+  pub before : has_spec name (take i specs) ≡ false
+  pub there : (d : Spec) → (get_or specs i d).attribute ≡ name
 
 -- an entry whose values can be read has a value of an attribute exactly where its abbreviation has
 -- the attribute

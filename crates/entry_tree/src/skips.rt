@@ -1,11 +1,11 @@
 //! Passing the values of an entry.
-ghost use Rattle.std.specs.Prelude.{◌≡◌, ◌+◌, ℕ, Some};
+ghost use Rattle.std.specs.Prelude.{◌≡◌, ◌+◌, ℕ, Some, Ok, IfSome, take};
 ghost use Rattle.std.specs.Option.{ForSome};
-ghost use Rattle.dwarf_abbrev.specs.Sizes.{total, IsSize};
+ghost use Rattle.dwarf_abbrev.specs.Sizes.{total, AreSizes, IsSize};
 ghost use Rattle.dwarf_forms.specs.Values.{IsContext, within};
 ghost use Rattle.entry_tree.specs.Reads.{ends_at};
 
-use dwarf_abbrev::{Size, Spec};
+use dwarf_abbrev::{Size, Spec, size_at};
 use dwarf_forms::{FormCtx, FormFault, skip, unit_of};
 
 /// The place after the values of some pairs, value by value.
@@ -43,6 +43,29 @@ fn skip_fixed(ctx: &FormCtx<'_>, specs: &[Spec], size: Size, at: u64) -> Result<
         return Ok(at + sum);
     }
     skip_all(ctx, specs, at)
+}
+
+/// The place after the values of the first `count` pairs, by one addition. `None` where their sizes
+/// are not known or they do not all lie in the unit.
+#[inline(always)]
+pub(crate) fn place_behind(
+    ctx: &FormCtx<'_>,
+    specs: &[Spec],
+    sizes: &[Size],
+    count: usize,
+    at: u64,
+) -> Option<u64>
+    requires context { IsContext ctx.now }
+    requires sizes { AreSizes specs.now sizes.now }
+    ensures { IfSome result (λ end. ends_at (within ctx.now) (take count specs.now) at ≡ Ok end) }
+{
+    let sum = bytes_in(ctx, size_at(sizes, count)?);
+    let len = unit_of(ctx).len() as u64;
+    if at <= len && sum <= len - at {
+        Some(at + sum)
+    } else {
+        None
+    }
 }
 
 /// The place after the values of some pairs, of which `size` is the size where that is known. It is

@@ -13,6 +13,7 @@ invariant_of-result c =
     (shown c.in-Found.abbrev) c.in-Found.from c.in-Found.field-2 (rw c.in-Found.is at h) in
     record {
       context = c.requires;
+      sized = c.in-Found.abbrev.stepped;
       read = values_read
           (within c.args.ctx.now) c.in-Found.abbrev.specs.now c.in-Found.from
           c.in-Found.field-2 p.2;
