@@ -60,8 +60,8 @@ pub(crate) fn place_behind(
     ensures { IfSome result (λ end. ends_at (within ctx.now) (take count specs.now) at ≡ Ok end) }
 {
     let sum = bytes_in(ctx, size_at(sizes, count)?);
-    let len = unit_of(ctx).len() as u64;
-    if at <= len && sum <= len - at {
+    let length = unit_of(ctx).len() as u64;
+    if at <= length && sum <= length - at {
         Some(at + sum)
     } else {
         None

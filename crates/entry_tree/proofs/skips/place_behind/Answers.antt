@@ -3,14 +3,14 @@ use Rattle.dwarf_forms.specs.Values.{within}
 use Rattle.entry_tree.proofs.Fixed.{ends_fixed}
 use Rattle.entry_tree.proofs.skips.place_behind.Goals as goal
 
-pub returns-then-sum-len : goal.returns-then-sum-len
-returns-then-sum-len c =
+pub returns-then-sum-length : goal.returns-then-sum-length
+returns-then-sum-length c =
     let inside : c.args.at + c.bytes_in-sum.result ≤ length (within c.args.ctx.now).unit =
     omega (
       arith,
       ap (λ (bs : List ℕ). length bs) c.unit_of.ensures,
-      c.if-at-len.true,
-      c.if-sum-len.true,
+      c.if-at-length.true,
+      c.if-sum-length.true,
     ) in
     ends_fixed (within c.args.ctx.now) (take c.args.count c.args.specs.now) c.args.at
     c.bytes_in-sum.result
