@@ -40,8 +40,8 @@ def occurrences(pattern, line):
 
 
 def in_tests(crate, value):
-    """The value, where a crate's tests name it."""
-    files = [f"crates/{crate}/src/tests.rt", f"crates/{crate}/src/tests/*.rt"]
+    """The value, where the tests of a crate name it, which stand in a crate of tests."""
+    files = [f"crates/*_tests/src/{crate}_tests.rt", f"crates/*_tests/src/{crate}_tests/*.rt"]
     return value if any(occurrences(path, rf"\b{value:_}\b") for path in files) else 0
 
 

@@ -3,13 +3,7 @@
 #![tactic(auto)]
 
 pub mod choose;
-#[cfg(test)]
-mod fitting;
 pub mod laws;
 mod parted;
-#[cfg(test)]
-mod prototype_tests;
-#[cfg(test)]
-mod tests;
 
 pub use choose::{Chosen, choose_over};

@@ -12,8 +12,6 @@ pub mod places;
 pub mod protos;
 pub mod reading;
 mod shared;
-#[cfg(test)]
-mod tests;
 pub mod units;
 pub mod workers;
 

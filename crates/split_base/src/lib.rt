@@ -15,10 +15,6 @@ mod places;
 mod shared;
 mod sources;
 pub mod table;
-#[cfg(test)]
-mod table_tests;
-#[cfg(test)]
-mod tests;
 mod types;
 
 pub use fault::TableFault;

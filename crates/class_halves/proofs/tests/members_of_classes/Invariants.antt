@@ -1,4 +1,0 @@
-use Rattle.class_halves.proofs.tests.members_of_classes.Given as goal
-
-abbrev pub ghosts-moved : goal.ghosts-moved
-ghosts-moved g a = record { name = a.blank.name; parts = a.blank.parts }

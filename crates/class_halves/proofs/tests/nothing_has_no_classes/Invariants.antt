@@ -1,4 +1,0 @@
-use Rattle.class_halves.proofs.tests.nothing_has_no_classes.Given as goal
-
-abbrev pub ghosts-classes_of_nothing : goal.ghosts-classes_of_nothing
-ghosts-classes_of_nothing g a = record { name = a.blank.name; parts = a.blank.parts }

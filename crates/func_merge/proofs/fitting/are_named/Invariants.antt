@@ -1,7 +1,0 @@
-use Rattle.std.proofs.Common.{ℕ, ◌<◌, get_or}
-use Rattle.c_model.specs.Kinds.{HasNoNul}
-use Rattle.func_types.specs.declared.protos.Func.{Func}
-use Rattle.func_merge.proofs.fitting.are_named.Given as goal
-
-abbrev pub invariant-loop-func : goal.invariant-loop-func
-invariant-loop-func l = (k : ℕ) (d : Func) → k < l.func-index → HasNoNul (get_or l.funcs k d).name

@@ -1,5 +1,0 @@
-use Rattle.func_merge.proofs.Encoded.{encoded}
-use Rattle.func_merge.proofs.prototype_tests.types_of.Goals as goal
-
-pub returns-in-Ok : goal.returns-in-Ok
-returns-in-Ok g c = encoded 4294967295 c.args.units.now c.in-Ok.graph.nodes c.in-Ok.ensures.nodes

@@ -1,0 +1,201 @@
+//! A small graph: its classes, the references to its nodes, and the members of its classes. Rings,
+//! chains, trees and forwards are compared with the plain program in `graph_cases`.
+ghost use Rattle.std.specs.Prelude.{◌≡◌, ◌<◌, ◌≤◌, ◌+◌, ◌∷◌, ℕ, Some, [], length, All, IsTrue};
+ghost use Rattle.std.specs.Prelude.{IfOk, OnOk};
+ghost use Rattle.c_model.specs.Graph.{IsBelow, RefersWithin};
+ghost use Rattle.c_model.specs.Forwards.{Tag, declaration_at, HasFittingForwards, IsIndexOf};
+
+use c_model::{CType, Classes, Graph, Label, Nodes, Numbers, Parts, Ref, Refs};
+use class_halves::{Incoming, Members, classes_by_halves, split_by_halves};
+use dw_base::{Name, Steps};
+use forward_rule::FwdIndex;
+use forward_rule::families::declared_family;
+use std::alloc::{AllocError, Global};
+use std::marker::Brand;
+use std::sync::ledger::{Blank, Ledger};
+use std::test::Fail;
+use std::thread::Threads;
+
+/// Appends a structure of two members, which are void or of the first four nodes.
+fn push_structure<'n>(
+    alloc: Global,
+    nodes: &mut Vec<CType<'n>>,
+    x: Ref,
+    y: Ref,
+) -> Result<(), AllocError>
+    requires x { IsBelow 4 x }
+    requires y { IsBelow 4 y }
+    requires within { RefersWithin 4 nodes.old.items }
+    ensures within { OnOk result (RefersWithin 4 nodes.new.items) }
+    ensures more { OnOk result (length nodes.new.items ≡ length nodes.old.items + 1) }
+{
+    let label = Label {
+        kind: 4,
+        name: Name::new(b"s"),
+        flag: false,
+        size: 8,
+        extra: 0,
+        parts: Parts::new(Vec::new(alloc)),
+    };
+    let targets = Refs::new(Vec::from_slice(alloc, &[x, y])?);
+    nodes.push(CType { label, targets })?;
+    Ok(())
+}
+
+/// A node that refers to itself at both positions, one that refers to it at both, one that refers
+/// to two nodes, and one that refers to none.
+fn four_nodes(alloc: Global) -> Result<Graph<'static>, AllocError>
+    ensures { IfOk result (λ g. length g.nodes ≡ 4) }
+{
+    let mut nodes = Vec::new(alloc);
+    push_structure(alloc, &mut nodes, Ref::Node(0), Ref::Node(0))?;
+    push_structure(alloc, &mut nodes, Ref::Node(0), Ref::Node(0))?;
+    push_structure(alloc, &mut nodes, Ref::Node(3), Ref::Node(0))?;
+    push_structure(alloc, &mut nodes, Ref::Void, Ref::Void)?;
+    Ok(Graph::new(0, Nodes::new(nodes)))
+}
+
+/// Whether no node is a declaration.
+fn declares_nothing(graph: &Graph<'_>) -> bool
+    ensures { IsTrue result → HasFittingForwards graph.now }
+{
+    for x in 0..graph.len() {
+        if declared_family(&graph.node(x).label).is_some() {
+            return false;
+        }
+    }
+    true
+}
+
+/// The classes of a graph, split from labels on, and behind a guess.
+fn both_ways<R: Threads + Sync, L: Ledger>(
+    rt: &R,
+    alloc: Global,
+    graph: &Graph<'_>,
+    blank: Blank,
+) -> Result<(Classes, Classes), Fail>
+    requires name { blank.name ≡ L.name }
+    requires parts { blank.parts ≡ L.parts }
+    requires some { 0 < L.parts }
+{
+    let mut steps = Steps::<L>::new(blank);
+    if !declares_nothing(graph) {
+        return Err(Fail::from("a declaration"));
+    }
+    let fwd = FwdIndex::plain(graph);
+    let split = split_by_halves(alloc, graph, &fwd, &mut steps)?;
+    let guessed = classes_by_halves(rt, alloc, 2, graph, &fwd, &mut steps)?;
+    Ok((split, guessed))
+}
+
+#[test]
+fn four_nodes_have_three_classes(rt: HostRuntime) -> Result<(), Fail> {
+    let graph = four_nodes(rt.alloc())?;
+    let (split, guessed) = both_ways::<HostRuntime, Brand>(&rt, rt.alloc(), &graph, Blank::new(1))?;
+    for classes in [split, guessed] {
+        let [a, b, c, d] = classes.numbers() else {
+            return Err(Fail::from("other nodes"));
+        };
+        assert!(rt; a == b && a != c && a != d && c != d);
+    }
+    Ok(())
+}
+
+/// The classes of a graph without nodes take no steps.
+fn of_nothing<L: Ledger>(
+    alloc: Global,
+    graph: &Graph<'_>,
+    steps: &mut Steps<L>,
+) -> Result<Classes, AllocError>
+    requires { length graph.now.nodes ≡ 0 }
+    ensures { OnOk result (steps.new ≤ steps.old) }
+{
+    let fwd = FwdIndex::plain(graph);
+    split_by_halves(alloc, graph, &fwd, steps)
+}
+
+/// The number of classes of the graph without nodes.
+fn classes_of_nothing<L: Ledger>(alloc: Global, blank: Blank) -> Result<usize, AllocError>
+    requires name { blank.name ≡ L.name }
+    requires parts { blank.parts ≡ L.parts }
+    requires some { 0 < L.parts }
+{
+    let mut steps = Steps::<L>::new(blank);
+    let graph = Graph::new(0, Nodes::new(Vec::new(alloc)));
+    let classes = of_nothing(alloc, &graph, &mut steps)?;
+    Ok(classes.numbers().len())
+}
+
+#[test]
+fn nothing_has_no_classes(rt: HostRuntime) -> Result<(), Fail> {
+    let count = classes_of_nothing::<Brand>(rt.alloc(), Blank::new(1))?;
+    assert_eq!(rt; count, 0);
+    Ok(())
+}
+
+/// The references to a node of a graph.
+fn references_to<L: Ledger>(
+    alloc: Global,
+    graph: &Graph<'_>,
+    x: u32,
+    blank: Blank,
+) -> Result<Vec<(u32, u64)>, AllocError>
+    requires name { blank.name ≡ L.name }
+    requires parts { blank.parts ≡ L.parts }
+    requires some { 0 < L.parts }
+    requires node { x < length graph.now.nodes }
+{
+    let mut steps = Steps::<L>::new(blank);
+    let incoming = Incoming::build(alloc, graph)?;
+    let mut found = Vec::new(alloc);
+    for i in 0..incoming.count(x) {
+        found.push(incoming.get(x, i, &mut steps))?;
+    }
+    Ok(found)
+}
+
+#[test]
+fn references_in_their_order(rt: HostRuntime) -> Result<(), Fail> {
+    let graph = four_nodes(rt.alloc())?;
+    let found = references_to::<Brand>(rt.alloc(), &graph, 0, Blank::new(1))?;
+    assert_eq!(rt;
+        found.as_slice(),
+        [(0, 0), (0, 1), (1, 0), (1, 1), (2, 1)].as_slice()
+    );
+    let found = references_to::<Brand>(rt.alloc(), &graph, 3, Blank::new(1))?;
+    assert_eq!(rt; found.as_slice(), [(2, 0)].as_slice());
+    let found = references_to::<Brand>(rt.alloc(), &graph, 1, Blank::new(1))?;
+    assert!(rt; found.is_empty());
+    Ok(())
+}
+
+/// Members of the classes 0, 0, 1 and 2, of which node 1 goes to a new class, and node 3 to class
+/// 0.
+fn moved<L: Ledger>(alloc: Global, blank: Blank) -> Result<Members, AllocError>
+    requires name { blank.name ≡ L.name }
+    requires parts { blank.parts ≡ L.parts }
+    requires some { 0 < L.parts }
+    ensures { IfOk result (λ m. m ≡ 0 ∷ 3 ∷ 1 ∷ 0 ∷ []) }
+{
+    let mut steps = Steps::<L>::new(blank);
+    let classes = Classes::new(Numbers::new(Vec::from_slice(alloc, &[0, 0, 1, 2])?));
+    let mut members = Members::new(alloc, &classes)?;
+    members.put(1, 3, &mut steps);
+    members.put(3, 0, &mut steps);
+    Ok(members)
+}
+
+#[test]
+fn members_of_classes(rt: HostRuntime) -> Result<(), Fail> {
+    let members = moved::<Brand>(rt.alloc(), Blank::new(1))?;
+    assert_eq!(rt; members.numbers(), [0, 3, 1, 0].as_slice());
+    assert_eq!(rt;
+        (members.of(1), members.size(0), members.size(2)),
+        (3, 2, 0)
+    );
+    let mut nodes = Vec::new(rt.alloc());
+    members.list(0, &mut nodes)?;
+    nodes.sort_unstable();
+    assert_eq!(rt; nodes.as_slice(), [0, 3].as_slice());
+    Ok(())
+}

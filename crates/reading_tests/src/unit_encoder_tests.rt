@@ -1,0 +1,556 @@
+//! Units in bytes, and their graph.
+ghost use Rattle.std.specs.Prelude.{◌≡◌, ◌≤◌, ℕ, List, All, IfOk, OnOk};
+ghost use Rattle.elf_sections.specs.Images.{file_of as bytes_of};
+ghost use Rattle.entry_tree.specs.Contexts.{IsUnitOf};
+ghost use Rattle.unit_graph.specs.Sources.{IsReadable};
+ghost use Rattle.unit_graph.specs.Tables.{AreOf, AreOfFiles};
+
+use c_model::{Graph, Ref};
+use c_types::TypeFault;
+use dwarf_abbrev::AbbrevFault;
+use elf_sections::Image;
+use entry_tree::{Unit, units};
+use std::alloc::{AllocError, Global};
+use std::sync::atomic::{AtomicBool, AtomicU64, Ordering};
+use std::test::Fail;
+use std::thread::Threads;
+use unit_encoder::{EncodeFault, encode, encode_files};
+use unit_graph::UnitAt;
+use world_io::{Gate, OpenGate};
+
+/// The abbreviations of all cases: the code, the tag, children or none, attributes and forms.
+const ABBREVIATIONS: &[u8] = &[
+    1, 0x11, 1, 0, 0, // compile_unit
+    2, 0x24, 0, 0x03, 0x08, 0x0b, 0x0b, 0x3e, 0x0b, 0, 0, // base_type with name, byte_size, encoding
+    3, 0x0f, 0, 0x49, 0x13, 0, 0, // pointer_type with type by ref4
+    4, 0x0f, 0, 0x49, 0x10, 0, 0, // by ref_addr
+    5, 0x01, 1, 0x49, 0x13, 0, 0, // array_type with type
+    6, 0x21, 0, 0x2f, 0x0b, 0, 0, // subrange_type with upper_bound
+    7, 0x15, 1, 0, 0, // subroutine_type
+    8, 0x05, 0, 0, 0, // formal_parameter
+    9, 0x11, 1, 0x13, 0x0b, 0, 0, // compile_unit with language
+    10, 0x2e, 0, 0, 0, // subprogram
+    11, 0x0f, 0, 0x49, 0x14, 0, 0, // pointer_type with type by ref8
+    12, 0x13, 1, 0x03, 0x08, 0x0b, 0x0b, 0, 0, // structure_type with name, byte_size
+    13, 0x0d, 0, 0x03, 0x08, 0x49, 0x13, 0x38, 0x0b, 0, 0, // member with name, type by ref4, data_member_location
+    14, 0x13, 0, 0x03, 0x08, 0x3c, 0x19, 0, 0, // structure_type with name, declared
+    15, 0x16, 0, 0x03, 0x08, 0x49, 0x13, 0, 0, // typedef with name, type by ref4
+    0,
+];
+
+/// Puts a number of `width` bytes behind others, the lowest byte first.
+fn put(file: &mut Vec<u8>, number: u64, width: u32) -> Result<(), AllocError> {
+    for byte in number.to_le_bytes().iter().take(width as usize) {
+        file.push(*byte)?;
+    }
+    Ok(())
+}
+
+/// Puts a section header.
+fn put_header(
+    file: &mut Vec<u8>,
+    name: u64,
+    kind: u64,
+    at: u64,
+    size: u64,
+) -> Result<(), AllocError> {
+    put(file, name, 4)?;
+    put(file, kind, 4)?;
+    for number in [0, 0, at, size, 0, 0, 0] {
+        put(file, number, 8)?;
+    }
+    Ok(())
+}
+
+/// Puts a unit of these entries, whose abbreviations stand at this offset.
+fn put_unit(info: &mut Vec<u8>, abbrev_at: u64, entries: &[u8]) -> Result<(), AllocError> {
+    put(info, (entries.len() as u64).wrapping_add(8), 4)?;
+    info.extend_from_slice(&[5, 0, 1, 8])?;
+    put(info, abbrev_at, 4)?;
+    info.extend_from_slice(entries)
+}
+
+/// A file with units of these entries and the abbreviations of all cases.
+fn file_of(alloc: Global, units: &[&[u8]]) -> Result<Vec<u8>, AllocError> {
+    let mut info = Vec::new(alloc);
+    for entries in units {
+        put_unit(&mut info, 0, entries)?;
+    }
+    file_with(alloc, info.as_slice(), ABBREVIATIONS)
+}
+
+/// A file of 64 bits, little-endian, with these units and abbreviations.
+fn file_with<'s>(
+    alloc: Global,
+    info: &'s [u8],
+    abbreviations: &'s [u8],
+) -> Result<Vec<u8>, AllocError> {
+    let names: &'s [u8] = b"\0.debug_info\0.debug_abbrev\0";
+    let mut file = Vec::new(alloc);
+    file.extend_from_slice(b"\x7fELF\x02\x01\x01\0\0\0\0\0\0\0\0\0")?;
+    put(&mut file, 2, 2)?;
+    put(&mut file, 62, 2)?;
+    put(&mut file, 1, 4)?;
+    put(&mut file, 0, 8)?;
+    put(&mut file, 0, 8)?;
+    put(&mut file, 64, 8)?;
+    put(&mut file, 0, 4)?;
+    for half in [64, 0, 0, 64, 4, 3] {
+        put(&mut file, half, 2)?;
+    }
+    put_header(&mut file, 0, 0, 0, 0)?;
+    let mut at = 64 + 4 * 64;
+    for (name, section) in [(1u64, info), (13, abbreviations), (0, names)] {
+        put_header(&mut file, name, 1, at, section.len() as u64)?;
+        at = at.wrapping_add(section.len() as u64);
+    }
+    for section in [info, abbreviations, names] {
+        file.extend_from_slice(section)?;
+    }
+    Ok(file)
+}
+
+/// One unit more, where it has fewer than 2^32 bytes.
+#[tactic(auto, using(crate::proofs::Keeping::files_more))]
+fn push_readable<'a>(
+    all: &mut Vec<UnitAt<'a>>,
+    file: u32,
+    image: Image<'a>,
+    unit: Unit,
+) -> Result<(), AllocError>
+    requires unit { IsUnitOf (bytes_of image) unit }
+    requires readable { All IsReadable all.old.items }
+    ensures readable { OnOk result (All IsReadable all.new.items) }
+    ensures files { OnOk result ((files : ℕ → List ℕ) → bytes_of image.entry ≡ files file
+        → AreOf files all.old.items → AreOf files all.new.items) }
+{
+    if unit.end.saturating_sub(unit.at) < 1 << 32 {
+        all.push(UnitAt { file, image, unit })?;
+    }
+    Ok(())
+}
+
+/// Puts the units of a file of this number behind others.
+fn push_units<'a>(
+    alloc: Global,
+    all: &mut Vec<UnitAt<'a>>,
+    file: u32,
+    bytes: &'a [u8],
+) -> Result<(), Fail>
+    requires readable { All IsReadable all.old.items }
+    ensures readable { OnOk result (All IsReadable all.new.items) }
+    ensures files { OnOk result ((files : ℕ → List ℕ) → bytes.now ≡ files file
+        → AreOf files all.old.items → AreOf files all.new.items) }
+{
+    if let Ok(image) = Image::read(bytes) {
+        let list = units(alloc, &image)?;
+        for i in 0..list.items().len() {
+            push_readable(all, file, image, list.items()[i])?;
+        }
+    }
+    Ok(())
+}
+
+/// The nodes in a line: kind, last word, and what they refer to.
+fn line(alloc: Global, graph: &Graph<'_>) -> Result<String, Fail> {
+    let mut text = String::new(alloc);
+    for x in 0..graph.len() {
+        let node = graph.node(x);
+        let one = format!(in alloc; "{}:{}", node.label.kind, node.label.extra)?;
+        text.push_str(one.as_str())?;
+        for target in node.targets.items() {
+            let more = match target {
+                Ref::Void => format!(in alloc; ",void")?,
+                Ref::Node(y) => format!(in alloc; ",{y}")?,
+            };
+            text.push_str(more.as_str())?;
+        }
+        text.push_str(" ")?;
+    }
+    Ok(text)
+}
+
+/// A gate that keeps the numbers that it was told, as digits from 1.
+#[derive(Drop)]
+struct Told {
+    digits: AtomicU64,
+}
+
+impl Gate for Told {
+    fn enter(&self, unit: u32) {
+        let before = self.digits.load(Ordering::SeqCst);
+        let digit = u64::from(unit).wrapping_add(1);
+        self.digits.store(
+            before.wrapping_mul(10).wrapping_add(digit),
+            Ordering::SeqCst,
+        );
+    }
+}
+
+/// The graph of some units in a line, or why there is none.
+fn answer<R: Threads + Sync, G: Gate>(
+    rt: &R,
+    alloc: Global,
+    gate: &G,
+    jobs: u32,
+    most: u32,
+    units: &[UnitAt<'_>],
+) -> Result<Result<String, EncodeFault>, Fail>
+    requires jobs { 1 ≤ jobs }
+    requires readable { All IsReadable units.now }
+{
+    if units.len() as u64 >= 1 << 32 {
+        return Ok(Ok(String::new(alloc)));
+    }
+    match encode(rt, alloc, gate, jobs, most, units) {
+        Ok(graph) => Ok(Ok(line(alloc, &graph)?)),
+        Err(fault) => Ok(Err(fault)),
+    }
+}
+
+/// The graph of the units of files in a line, or why there is none. The files have these numbers.
+fn answer_of<R: Threads + Sync, G: Gate>(
+    rt: &R,
+    alloc: Global,
+    gate: &G,
+    jobs: u32,
+    most: u32,
+    numbers: &[u32],
+    files: &[Vec<u8>],
+) -> Result<Result<String, EncodeFault>, Fail>
+    requires jobs { 1 ≤ jobs }
+{
+    let mut all = Vec::new(alloc);
+    for (file, bytes) in numbers.iter().zip(files.iter()) {
+        push_units(alloc, &mut all, *file, bytes.as_slice())?;
+    }
+    answer(rt, alloc, gate, jobs, most, all.as_slice())
+}
+
+/// One file of units of these entries.
+fn one_file(alloc: Global, units: &[&[u8]]) -> Result<Vec<Vec<u8>>, AllocError> {
+    let mut files = Vec::new(alloc);
+    files.push(file_of(alloc, units)?)?;
+    Ok(files)
+}
+
+/// A reference of the first file that names no type.
+fn out(from: u64, to: u128, tag: u64) -> EncodeFault {
+    EncodeFault::TypeRefOut {
+        file: 0,
+        from,
+        to,
+        tag,
+    }
+}
+
+/// A unit of the first file that is refused.
+fn refused(unit: u32, fault: TypeFault) -> EncodeFault {
+    EncodeFault::Unit {
+        file: 0,
+        unit,
+        fault,
+    }
+}
+
+const INT: &[u8] = b"\x01\x02i\0\x04\x05\0";
+/// A pointer to itself, by the offset in its unit.
+const ITSELF: &[u8] = b"\x01\x03\x0d\0\0\0\0";
+/// A pointer to the first type of the file, by the offset in the file.
+const OVER: &[u8] = b"\x01\x04\x0d\0\0\0\0";
+/// A pointer to the first type of a second unit, where this is the first.
+const AHEAD: &[u8] = b"\x01\x04\x20\0\0\0\0";
+/// An array of six of `int`.
+const ARRAY: &[u8] = b"\x01\x02i\0\x04\x05\x05\x0d\0\0\0\x06\x04\x06\x05\0\0";
+/// A function, and a pointer to it.
+const TO_FUNCTION: &[u8] = b"\x01\x0a\x03\x0d\0\0\0\0";
+/// A pointer to an offset of 64 bits, all of them set, in its unit.
+const FAR: &[u8] = b"\x01\x0b\xff\xff\xff\xff\xff\xff\xff\xff\0";
+
+/// The units of one file, the most nodes, and what comes of them.
+#[test]
+fn graphs(rt: HostRuntime) -> Result<(), Fail> {
+    let alloc = rt.alloc();
+    let forward: &[u8] = b"\x01\x03\x12\0\0\0\x02i\0\x04\x05\0";
+    let backward: &[u8] = b"\x01\x02i\0\x04\x05\x03\x0d\0\0\0\0";
+    let over_other: &[u8] = b"\x01\x04\x0e\0\0\0\0";
+    let to_root: &[u8] = b"\x01\x03\x0c\0\0\0\0";
+    let to_middle: &[u8] = b"\x01\x02i\0\x04\x05\x03\x0e\0\0\0\0";
+    let untyped: &[u8] = b"\x01\x07\x08\0\0";
+    let other: &[u8] = b"\x09\x04\x02i\0\x04\x05\0";
+    let root: &[u8] = b"\x01\0";
+    let late: &[u8] = b"\x01\x02i\0\x04\x05\x02i\0\x04\x05\x07\x08\0\0";
+    let cases: [(&[&[u8]], u32, Result<&str, EncodeFault>); 24] = [
+        (&[], 0, Ok("")),
+        (&[root], 0, Ok("")),
+        (&[forward], 8, Ok("2:0,1 1:16777248 ")),
+        (&[backward], 8, Ok("1:16777248 2:0,0 ")),
+        (&[ITSELF, ITSELF], 2, Ok("2:0,0 2:0,1 ")),
+        (&[ITSELF, ITSELF], 1, Err(EncodeFault::NodesTooMany(2))),
+        (&[INT, OVER], 8, Ok("1:16777248 2:0,0 ")),
+        (&[OVER, INT], 8, Ok("2:0,0 1:16777248 ")),
+        (&[AHEAD, INT], 8, Ok("2:0,1 1:16777248 ")),
+        (&[ARRAY], 3, Ok("1:16777248 3:30,0,2 1:32 ")),
+        (&[ARRAY], 2, Err(EncodeFault::NodesTooMany(3))),
+        (
+            &[ARRAY, ARRAY],
+            6,
+            Ok("1:16777248 3:30,0,2 1:32 1:16777248 3:30,3,5 1:32 "),
+        ),
+        (&[to_root], 8, Err(out(13, 12, 0x11))),
+        (&[TO_FUNCTION], 8, Err(out(14, 13, 0x2e))),
+        (&[AHEAD, TO_FUNCTION], 8, Err(out(13, 32, 0x2e))),
+        (&[to_middle], 8, Err(out(18, 14, 0))),
+        (&[FAR], 8, Err(out(13, 18_446_744_073_709_551_615, 0))),
+        (
+            &[ITSELF, FAR],
+            8,
+            Err(out(32, 18_446_744_073_709_551_634, 0)),
+        ),
+        (&[other, over_other], 8, Err(out(33, 14, 0))),
+        (&[to_root, FAR], 1, Err(EncodeFault::NodesTooMany(2))),
+        (
+            &[ITSELF, untyped],
+            0,
+            Err(refused(1, TypeFault::MissingType(33))),
+        ),
+        (
+            &[untyped, untyped],
+            0,
+            Err(refused(0, TypeFault::MissingType(14))),
+        ),
+        (
+            &[late, untyped],
+            0,
+            Err(refused(0, TypeFault::MissingType(24))),
+        ),
+        (
+            &[untyped, late],
+            0,
+            Err(refused(0, TypeFault::MissingType(14))),
+        ),
+    ];
+    for (units, most, wanted) in cases {
+        let files = one_file(alloc, units)?;
+        for jobs in [1, 2, 4, 256] {
+            match answer_of(&rt, alloc, &OpenGate, jobs, most, &[0], files.as_slice())? {
+                Ok(found) => assert_eq!(rt; Ok(found.as_str()), wanted),
+                Err(fault) => assert_eq!(rt; Err(fault), wanted),
+            }
+        }
+    }
+    Ok(())
+}
+
+/// A reference never leaves its file. Files may come in any order, and one may come again: then the
+/// last node at a place counts.
+#[test]
+fn files(rt: HostRuntime) -> Result<(), Fail> {
+    let alloc = rt.alloc();
+    let two: &[u8] = b"\x01\x02i\0\x04\x05\x03\x12\0\0\0\0";
+    let past: &[u8] = b"\x01\x04\x12\0\0\0\0";
+    let past_out = EncodeFault::TypeRefOut {
+        file: 1,
+        from: 13,
+        to: 18,
+        tag: 0,
+    };
+    let cases: [(u32, &[u8], u32, &[u8], Result<&str, EncodeFault>); 6] = [
+        (0, INT, 1, OVER, Ok("1:16777248 2:0,1 ")),
+        (1, INT, 0, OVER, Ok("1:16777248 2:0,1 ")),
+        (0, two, 0, past, Ok("1:16777248 2:0,1 2:0,1 ")),
+        (0, two, 1, past, Err(past_out)),
+        (1, past, 0, two, Err(past_out)),
+        (0, ITSELF, 0, ITSELF, Ok("2:0,1 2:0,1 ")),
+    ];
+    for (first, unit, second, other, wanted) in cases {
+        let mut files = one_file(alloc, &[unit])?;
+        files.push(file_of(alloc, &[other])?)?;
+        match answer_of(
+            &rt,
+            alloc,
+            &OpenGate,
+            1,
+            8,
+            &[first, second],
+            files.as_slice(),
+        )? {
+            Ok(found) => assert_eq!(rt; Ok(found.as_str()), wanted),
+            Err(fault) => assert_eq!(rt; Err(fault), wanted),
+        }
+    }
+    Ok(())
+}
+
+/// Units as compilers write them, and the numbers that the gate is told.
+#[test]
+fn compiled_units(rt: HostRuntime) -> Result<(), Fail> {
+    let alloc = rt.alloc();
+    let int: &[u8] = b"\x09\x1d\x02int\0\x04\x05\0";
+    let nameless: &[u8] = b"\x09\x1d\x02\0\x04\x05\0\0\0\0";
+    let typedef_of_root: &[u8] = b"\x09\x1d\x0ft\0\x0c\0\0\0\0";
+    let list_head: &[u8] =
+        b"\x09\x1d\x0clist_head\0\x10\x0dnext\0\x31\0\0\0\0\x0dprev\0\x31\0\0\0\x08\0\x03\x0e\0\0\0\0";
+    let a_to_declared: &[u8] = b"\x09\x1d\x0cA\0\x08\x0db\0\x1b\0\0\0\0\0\x03\x20\0\0\0\x0eB\0\0";
+    let b_to_declared: &[u8] = b"\x09\x1d\x0cB\0\x08\x0da\0\x1b\0\0\0\0\0\x03\x20\0\0\0\x0eA\0\0";
+    let both: &[u8] =
+        b"\x09\x1d\x0cA\0\x08\x0db\0\x1b\0\0\0\0\0\x03\x20\0\0\0\x0cB\0\x08\x0da\0\x2d\0\0\0\0\0\x03\x0e\0\0\0\0";
+    let cases: [(&[&[u8]], u64, Result<&str, EncodeFault>); 4] = [
+        (
+            &[list_head, list_head],
+            12,
+            Ok("4:0,1,1 2:0,0 4:0,3,3 2:0,2 "),
+        ),
+        (
+            &[a_to_declared, b_to_declared, both],
+            123,
+            Ok("4:0,1 2:0,2 7:0 4:0,4 2:0,5 7:0 4:0,7 2:0,8 4:0,9 2:0,6 "),
+        ),
+        (
+            &[int, nameless, int, int, nameless, int],
+            12,
+            Err(refused(1, TypeFault::MissingName(36))),
+        ),
+        (&[typedef_of_root], 1, Err(out(14, 12, 0x11))),
+    ];
+    for (units, told, wanted) in cases {
+        let gate = Told {
+            digits: AtomicU64::new(0),
+        };
+        let files = one_file(alloc, units)?;
+        match answer_of(&rt, alloc, &gate, 1, 10, &[0], files.as_slice())? {
+            Ok(found) => assert_eq!(rt; Ok(found.as_str()), wanted),
+            Err(fault) => assert_eq!(rt; Err(fault), wanted),
+        }
+        assert_eq!(rt; gate.digits.load(Ordering::SeqCst), told);
+    }
+    Ok(())
+}
+
+/// How often the gate below looks.
+const LOOKS: u32 = 100_000_000;
+
+/// A gate that holds unit 0 until unit 1 was entered, and keeps whether it saw that.
+#[derive(Drop)]
+struct Held {
+    entered: AtomicBool,
+    seen: AtomicBool,
+}
+
+impl Gate for Held {
+    fn enter(&self, unit: u32) {
+        if unit == 1 {
+            self.entered.store(true, Ordering::SeqCst);
+            return;
+        }
+        for _ in 0..LOOKS {
+            if self.entered.load(Ordering::SeqCst) {
+                self.seen.store(true, Ordering::SeqCst);
+                return;
+            }
+        }
+    }
+}
+
+/// Two workers read two units at the same time: the first is held until the second has begun.
+#[test]
+fn two_workers(rt: HostRuntime) -> Result<(), Fail> {
+    let alloc = rt.alloc();
+    let gate = Held {
+        entered: AtomicBool::new(false),
+        seen: AtomicBool::new(false),
+    };
+    let files = one_file(alloc, &[ITSELF, INT])?;
+    let answer = answer_of(&rt, alloc, &gate, 2, 8, &[0], files.as_slice())?;
+    assert!(rt; gate.seen.load(Ordering::SeqCst));
+    match answer {
+        Ok(found) => assert_eq!(rt; found.as_str(), "2:0,0 1:16777248 "),
+        Err(fault) => return Err(Fail::from(fault)),
+    }
+    Ok(())
+}
+
+/// Abbreviations by which the entries of `INT` are a structure.
+const AS_STRUCTURE: &[u8] = &[
+    1, 0x11, 1, 0, 0, // compile_unit
+    2, 0x13, 0, 0x03, 0x08, 0x0b, 0x0b, 0x3e, 0x0b, 0, 0, // structure_type with name, byte_size, encoding
+    0,
+];
+
+/// The units of two files, which have the numbers 0 and 1.
+fn units_of_two<'a>(
+    alloc: Global,
+    first: &'a [u8],
+    second: &'a [u8],
+) -> Result<Vec<UnitAt<'a>>, Fail>
+    ensures readable { IfOk result (λ v. All IsReadable v.items) }
+    ensures files { IfOk result (λ v. AreOfFiles v.items) }
+{
+    let mut all = Vec::new(alloc);
+    push_units(alloc, &mut all, 0, first)?;
+    push_units(alloc, &mut all, 1, second)?;
+    Ok(all)
+}
+
+/// The graph of the units of two files in a line, or why there is none.
+fn answer_of_two<R: Threads + Sync>(
+    rt: &R,
+    alloc: Global,
+    jobs: u32,
+    first: &[u8],
+    second: &[u8],
+) -> Result<Result<String, EncodeFault>, Fail>
+    requires { 1 ≤ jobs }
+{
+    let all = units_of_two(alloc, first, second)?;
+    if all.len() as u64 >= 1 << 32 {
+        return Ok(Ok(String::new(alloc)));
+    }
+    match encode_files(rt, alloc, &OpenGate, jobs, 8, all.as_slice()) {
+        Ok(graph) => Ok(Ok(line(alloc, &graph.unpack(alloc)?)?)),
+        Err(fault) => Ok(Err(fault)),
+    }
+}
+
+/// A table is read by the place that a unit names in its own file. Each unit has the entries of
+/// `INT`, which are those of a base type by the first file's table at 0 and the second's at 17, and
+/// of a structure by the two others.
+#[test]
+fn tables(rt: HostRuntime) -> Result<(), Fail> {
+    let alloc = rt.alloc();
+    let mut ints_first = Vec::new(alloc);
+    ints_first.extend_from_slice(&ABBREVIATIONS[..16])?;
+    ints_first.push(0)?;
+    ints_first.extend_from_slice(AS_STRUCTURE)?;
+    let mut structures_first = Vec::new(alloc);
+    structures_first.extend_from_slice(AS_STRUCTURE)?;
+    structures_first.extend_from_slice(&ABBREVIATIONS[..16])?;
+    structures_first.push(0)?;
+    let truncated = refused(2, TypeFault::Abbrev(AbbrevFault::AbbrevTruncated(999)));
+    let cases: [(&[u64], &[u64], Result<&str, EncodeFault>); 5] = [
+        (&[0, 0, 0], &[], Ok("1:16777248 1:16777248 1:16777248 ")),
+        (&[0, 17, 17, 0], &[], Ok("1:16777248 4:0 4:0 1:16777248 ")),
+        (&[0, 0], &[0, 0], Ok("1:16777248 1:16777248 4:0 4:0 ")),
+        (&[17, 0], &[0, 17], Ok("4:0 1:16777248 4:0 1:16777248 ")),
+        (&[0, 0, 999, 0], &[0], Err(truncated)),
+    ];
+    for (first, second, wanted) in cases {
+        let mut info = Vec::new(alloc);
+        for at in first {
+            put_unit(&mut info, *at, INT)?;
+        }
+        let file = file_with(alloc, info.as_slice(), ints_first.as_slice())?;
+        let mut info = Vec::new(alloc);
+        for at in second {
+            put_unit(&mut info, *at, INT)?;
+        }
+        let other = file_with(alloc, info.as_slice(), structures_first.as_slice())?;
+        for jobs in [1, 2, 256] {
+            match answer_of_two(&rt, alloc, jobs, file.as_slice(), other.as_slice())? {
+                Ok(found) => assert_eq!(rt; Ok(found.as_str()), wanted),
+                Err(fault) => assert_eq!(rt; Err(fault), wanted),
+            }
+        }
+    }
+    Ok(())
+}
