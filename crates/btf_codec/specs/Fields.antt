@@ -3,6 +3,15 @@
 use Rattle.std.specs.Prelude.{ℕ, ◌+◌, ◌*◌, ◌/◌, ◌%◌, ◌^◌, ◌==◌, Bool, true, false, List, [], ◌∷◌}
 use Rattle.std.specs.Prelude.{◌++◌, length, drop, slice_get, unwrap_or, Option, None, Some}
 use Rattle.std.specs.Prelude.{if◌then◌else◌}
+use Rattle.c_model.specs.declared.kinds.TheConstants.{BTF_KIND_INT, BTF_KIND_PTR, BTF_KIND_ARRAY}
+use Rattle.c_model.specs.declared.kinds.TheConstants.{BTF_KIND_STRUCT, BTF_KIND_UNION}
+use Rattle.c_model.specs.declared.kinds.TheConstants.{BTF_KIND_ENUM, BTF_KIND_FWD, BTF_KIND_TYPEDEF}
+use Rattle.c_model.specs.declared.kinds.TheConstants.{BTF_KIND_VOLATILE, BTF_KIND_CONST}
+use Rattle.c_model.specs.declared.kinds.TheConstants.{BTF_KIND_RESTRICT, BTF_KIND_FUNC}
+use Rattle.c_model.specs.declared.kinds.TheConstants.{BTF_KIND_FUNC_PROTO, BTF_KIND_VAR}
+use Rattle.c_model.specs.declared.kinds.TheConstants.{BTF_KIND_DATASEC, BTF_KIND_FLOAT}
+use Rattle.c_model.specs.declared.kinds.TheConstants.{BTF_KIND_DECL_TAG, BTF_KIND_TYPE_TAG}
+use Rattle.c_model.specs.declared.kinds.TheConstants.{BTF_KIND_ENUM64}
 use Rattle.c_model.specs.declared.label.Label.{Label}
 use Rattle.c_model.specs.declared.label.Part.{Part}
 use Rattle.c_model.specs.declared.graph.CType.{CType}
@@ -30,30 +39,30 @@ id_of (Node x) = x + 1
 -- the layout of a kind; None where no kind has that number
 abbrev pub layout_of : ℕ → Option Layout
 layout_of k =
-    if k == 1 then Some Int  -- INT
-    else if k == 2 then Some Link  -- PTR
-    else if k == 3 then Some Array  -- ARRAY
-    else if k == 4 then Some (Sized Member)  -- STRUCT
-    else if k == 5 then Some (Sized Member)  -- UNION
-    else if k == 6 then Some (Sized Enumerator)  -- ENUM
-    else if k == 7 then Some Forward  -- FWD
-    else if k == 8 then Some Link  -- TYPEDEF
-    else if k == 9 then Some Link  -- VOLATILE
-    else if k == 10 then Some Link  -- CONST
-    else if k == 11 then Some Link  -- RESTRICT
-    else if k == 12 then Some Link  -- FUNC
-    else if k == 13 then Some Prototype  -- FUNC_PROTO
-    else if k == 14 then Some TaggedLink  -- VAR
-    else if k == 15 then Some (Sized Variable)  -- DATASEC
-    else if k == 16 then Some Float  -- FLOAT
-    else if k == 17 then Some TaggedLink  -- DECL_TAG
-    else if k == 18 then Some Link  -- TYPE_TAG
-    else if k == 19 then Some (Sized WideEnumerator)  -- ENUM64
+    if k == BTF_KIND_INT then Some Int
+    else if k == BTF_KIND_PTR then Some Link
+    else if k == BTF_KIND_ARRAY then Some Array
+    else if k == BTF_KIND_STRUCT then Some (Sized Member)
+    else if k == BTF_KIND_UNION then Some (Sized Member)
+    else if k == BTF_KIND_ENUM then Some (Sized Enumerator)
+    else if k == BTF_KIND_FWD then Some Forward
+    else if k == BTF_KIND_TYPEDEF then Some Link
+    else if k == BTF_KIND_VOLATILE then Some Link
+    else if k == BTF_KIND_CONST then Some Link
+    else if k == BTF_KIND_RESTRICT then Some Link
+    else if k == BTF_KIND_FUNC then Some Link
+    else if k == BTF_KIND_FUNC_PROTO then Some Prototype
+    else if k == BTF_KIND_VAR then Some TaggedLink
+    else if k == BTF_KIND_DATASEC then Some (Sized Variable)
+    else if k == BTF_KIND_FLOAT then Some Float
+    else if k == BTF_KIND_DECL_TAG then Some TaggedLink
+    else if k == BTF_KIND_TYPE_TAG then Some Link
+    else if k == BTF_KIND_ENUM64 then Some (Sized WideEnumerator)
     else None
 
 -- bits 0 to 15: the number of parts, but of a FUNC its linkage
 abbrev pub vlen_of : Label → ℕ
-vlen_of l = if l.kind == 12 then l.extra else length l.parts
+vlen_of l = if l.kind == BTF_KIND_FUNC then l.extra else length l.parts
 
 abbrev pub bit_of : Bool → ℕ
 bit_of true = 1

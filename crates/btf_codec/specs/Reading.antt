@@ -11,6 +11,10 @@ use Rattle.std.specs.Int.{from_le_bytes, from_be_bytes, w32}
 use Rattle.dw_base.specs.Texts.{text_of}
 use Rattle.dw_base.specs.declared.numbers.Order.{Order}
 use Rattle.dw_base.specs.declared.numbers.Order.TheVariants.{Little, Big}
+use Rattle.c_model.specs.declared.kinds.TheConstants.{BTF_KIND_STRUCT, BTF_KIND_UNION}
+use Rattle.c_model.specs.declared.kinds.TheConstants.{BTF_KIND_ENUM, BTF_KIND_FWD, BTF_KIND_FUNC}
+use Rattle.c_model.specs.declared.kinds.TheConstants.{BTF_KIND_DECL_TAG, BTF_KIND_TYPE_TAG}
+use Rattle.c_model.specs.declared.kinds.TheConstants.{BTF_KIND_ENUM64}
 use Rattle.c_model.specs.declared.label.Part.{Part}
 use Rattle.c_model.specs.declared.graph.CType.{CType}
 use Rattle.c_model.specs.declared.graph.Ref.{Ref}
@@ -58,13 +62,15 @@ is_clean y = y == vlen_in y + 2 ^ 24 * kind_in y + 2 ^ 31 * bit_of (flag_in y)
 
 -- kind_flag may be set on this kind
 abbrev pub may_flag : ℕ → Bool
-may_flag k = k == 4 || k == 5 || k == 6 || k == 7 || k == 17 || k == 18 || k == 19
+may_flag k =
+    k == BTF_KIND_STRUCT || k == BTF_KIND_UNION || k == BTF_KIND_ENUM || k == BTF_KIND_FWD
+    || k == BTF_KIND_DECL_TAG || k == BTF_KIND_TYPE_TAG || k == BTF_KIND_ENUM64
 
 -- vlen is a FUNC's linkage, the number of parts, or 0
 abbrev pub is_vlen : Layout → ℕ → ℕ → Bool
 is_vlen (Sized parts) k v = true
 is_vlen Prototype k v = true
-is_vlen Link k v = if k == 12 then nat_lt v 3 else v == 0
+is_vlen Link k v = if k == BTF_KIND_FUNC then nat_lt v 3 else v == 0
 is_vlen layout k v = v == 0
 
 -- the third word of an ARRAY and of a FWD is 0
@@ -206,7 +212,7 @@ size_by layout w = 0
 
 abbrev pub extra_by : Option Layout → (ℕ → ℕ) → ℕ
 extra_by (Some Int) w = w 3
-extra_by (Some Link) w = if kind_in (w 1) == 12 then vlen_in (w 1) else 0
+extra_by (Some Link) w = if kind_in (w 1) == BTF_KIND_FUNC then vlen_in (w 1) else 0
 extra_by (Some Array) w = w 5
 extra_by (Some TaggedLink) w = w 3
 extra_by layout w = 0

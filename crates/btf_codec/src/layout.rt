@@ -2,6 +2,13 @@
 ghost use Rattle.std.specs.Prelude.{◌≡◌};
 ghost use Rattle.btf_codec.specs.Fields.{layout_of};
 
+use c_model::kinds::{
+    BTF_KIND_ARRAY, BTF_KIND_CONST, BTF_KIND_DATASEC, BTF_KIND_DECL_TAG, BTF_KIND_ENUM,
+    BTF_KIND_ENUM64, BTF_KIND_FLOAT, BTF_KIND_FUNC, BTF_KIND_FUNC_PROTO, BTF_KIND_FWD,
+    BTF_KIND_INT, BTF_KIND_PTR, BTF_KIND_RESTRICT, BTF_KIND_STRUCT, BTF_KIND_TYPE_TAG,
+    BTF_KIND_TYPEDEF, BTF_KIND_UNION, BTF_KIND_VAR, BTF_KIND_VOLATILE,
+};
+
 /// What follows the name and the info word of a type.
 #[derive(Clone, Copy, Debug, PartialEq, Eq)]
 pub enum Layout {
@@ -43,17 +50,18 @@ pub fn layout_of(kind: u8) -> Option<Layout>
     ensures { result ≡ layout_of kind }
 {
     match kind {
-        1 => Some(Layout::Int),
-        2 | 8 | 9 | 10 | 11 | 12 | 18 => Some(Layout::Link),
-        3 => Some(Layout::Array),
-        4 | 5 => Some(Layout::Sized(PartLayout::Member)),
-        6 => Some(Layout::Sized(PartLayout::Enumerator)),
-        7 => Some(Layout::Forward),
-        13 => Some(Layout::Prototype),
-        14 | 17 => Some(Layout::TaggedLink),
-        15 => Some(Layout::Sized(PartLayout::Variable)),
-        16 => Some(Layout::Float),
-        19 => Some(Layout::Sized(PartLayout::WideEnumerator)),
+        BTF_KIND_INT => Some(Layout::Int),
+        BTF_KIND_PTR | BTF_KIND_TYPEDEF | BTF_KIND_FUNC | BTF_KIND_TYPE_TAG => Some(Layout::Link),
+        BTF_KIND_VOLATILE | BTF_KIND_CONST | BTF_KIND_RESTRICT => Some(Layout::Link),
+        BTF_KIND_ARRAY => Some(Layout::Array),
+        BTF_KIND_STRUCT | BTF_KIND_UNION => Some(Layout::Sized(PartLayout::Member)),
+        BTF_KIND_ENUM => Some(Layout::Sized(PartLayout::Enumerator)),
+        BTF_KIND_FWD => Some(Layout::Forward),
+        BTF_KIND_FUNC_PROTO => Some(Layout::Prototype),
+        BTF_KIND_VAR | BTF_KIND_DECL_TAG => Some(Layout::TaggedLink),
+        BTF_KIND_DATASEC => Some(Layout::Sized(PartLayout::Variable)),
+        BTF_KIND_FLOAT => Some(Layout::Float),
+        BTF_KIND_ENUM64 => Some(Layout::Sized(PartLayout::WideEnumerator)),
         _ => None,
     }
 }

@@ -11,6 +11,10 @@ ghost use Rattle.btf_codec.specs.Reading.{vlen_in, word_in, words_at, words_faul
 
 use crate::fault::BtfFault;
 use crate::layout::{Layout, PartLayout, layout_of};
+use c_model::kinds::{
+    BTF_KIND_DECL_TAG, BTF_KIND_ENUM, BTF_KIND_ENUM64, BTF_KIND_FUNC, BTF_KIND_FWD,
+    BTF_KIND_STRUCT, BTF_KIND_TYPE_TAG, BTF_KIND_UNION,
+};
 use dw_base::Order;
 
 /// The word at a place, counted in words.
@@ -90,7 +94,16 @@ fn is_clean(info: u32) -> bool
 fn may_flag(kind: u8) -> bool
     ensures { result ≡ may_flag kind }
 {
-    matches!(kind, 4 | 5 | 6 | 7 | 17 | 18 | 19)
+    matches!(
+        kind,
+        BTF_KIND_STRUCT
+            | BTF_KIND_UNION
+            | BTF_KIND_ENUM
+            | BTF_KIND_FWD
+            | BTF_KIND_DECL_TAG
+            | BTF_KIND_TYPE_TAG
+            | BTF_KIND_ENUM64
+    )
 }
 
 fn is_vlen(layout: Layout, kind: u8, vlen: u32) -> bool
@@ -99,7 +112,13 @@ fn is_vlen(layout: Layout, kind: u8, vlen: u32) -> bool
     match layout {
         Layout::Sized(_) => true,
         Layout::Prototype => true,
-        Layout::Link => { if kind == 12 { vlen < 3 } else { vlen == 0 } }
+        Layout::Link => {
+            if kind == BTF_KIND_FUNC {
+                vlen < 3
+            } else {
+                vlen == 0
+            }
+        }
         Layout::Int => vlen == 0,
         Layout::Array => vlen == 0,
         Layout::Forward => vlen == 0,

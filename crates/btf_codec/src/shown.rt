@@ -10,6 +10,7 @@ ghost use Rattle.btf_codec.specs.Reading.{word_in, words_at};
 
 use crate::layout::{Layout, PartLayout, layout_of};
 use crate::pieces::{flag_in, kind_in, part_width, vlen_in, word_in};
+use c_model::kinds::BTF_KIND_FUNC;
 use c_model::{CType, Label, Part, Parts, Ref, Refs};
 use dw_base::{Name, Order, text_at};
 use std::alloc::{AllocError, Global};
@@ -269,7 +270,7 @@ fn extra_by(layout: Layout, order: Order, piece: &[u8], vlen: u32) -> u32
     match layout {
         Layout::Int => word_in(order, piece, 3),
         Layout::Link => {
-            if kind_in(word_in(order, piece, 1)) == 12 {
+            if kind_in(word_in(order, piece, 1)) == BTF_KIND_FUNC {
                 vlen
             } else {
                 0

@@ -8,6 +8,7 @@ ghost use Rattle.btf_codec.specs.Spells.{half_bytes, word_bytes, words_bytes};
 ghost use Rattle.btf_strings.specs.Names.{offset_of};
 
 use btf_strings::Strings;
+use c_model::kinds::BTF_KIND_FUNC;
 use c_model::{Label, Ref};
 use dw_base::{Name, Order};
 use std::alloc::AllocError;
@@ -94,7 +95,7 @@ pub fn high_half(value: u64) -> u32
 pub fn info(label: &Label<'_>) -> u32
     ensures { vlen_of label.now ≤ 65535 → label.now.kind < 32 → result ≡ info_of label.now }
 {
-    let vlen = if label.kind == 12 {
+    let vlen = if label.kind == BTF_KIND_FUNC {
         label.extra.min(65535)
     } else {
         label.parts.items().len().min(65535) as u32

@@ -3,6 +3,7 @@
 -- they are those of a floating number, and else a structure of the name and size without members.
 use Rattle.std.specs.Prelude.{ℕ, ◌+◌, ◌*◌, ◌^◌, ◌==◌, ◌&&◌, ◌||◌, Bool, true, false, List, [], ◌++◌}
 use Rattle.std.specs.Prelude.{Option, None, Some, if◌then◌else◌}
+use Rattle.c_model.specs.declared.kinds.TheConstants.{BTF_KIND_INT, BTF_KIND_FLOAT, BTF_KIND_STRUCT}
 use Rattle.c_model.specs.declared.label.Label.{Label}
 use Rattle.dwarf_forms.specs.Meanings.{Sections}
 use Rattle.entry_tree.specs.Items.{Given}
@@ -54,9 +55,16 @@ base_with size encoding bits =
 
 abbrev pub base_label : List ℕ → ℕ → Base → Label
 base_label name size (Int extra) =
-    record { kind = 1; name = name; flag = false; size = size; extra = extra; parts = [] }
-base_label name size Float = plain_label 16 name size
-base_label name size Opaque = plain_label 4 name size
+    record {
+      kind = BTF_KIND_INT;
+      name = name;
+      flag = false;
+      size = size;
+      extra = extra;
+      parts = [];
+    }
+base_label name size Float = plain_label BTF_KIND_FLOAT name size
+base_label name size Opaque = plain_label BTF_KIND_STRUCT name size
 
 abbrev pub base_row : Sections → Given → Row
 base_row c e =
@@ -74,7 +82,7 @@ base_row c e =
 -- an unspecified type is a structure of its name, if it has one, without members
 abbrev pub unspecified_row : Sections → Given → Row
 unspecified_row c e = record {
-  made = type_of e (plain_label 4 (name_in_full (name_asked c e)) 0)
+  made = type_of e (plain_label BTF_KIND_STRUCT (name_in_full (name_asked c e)) 0)
       [];
   refused = (name_asked c e).refused;
 }

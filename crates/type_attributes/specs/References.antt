@@ -1,5 +1,6 @@
 -- Types that refer to one other type (DWARF 5, sections 5.3 and 5.4): qualifiers and typedefs.
 use Rattle.std.specs.Prelude.{ℕ, List, [], ◌∷◌, ◌++◌}
+use Rattle.c_model.specs.declared.kinds.TheConstants.{BTF_KIND_TYPEDEF}
 use Rattle.dwarf_forms.specs.Meanings.{Sections}
 use Rattle.entry_tree.specs.Items.{Given}
 use Rattle.type_attributes.specs.declared.fault.TypeFault.TheVariants.{MissingName}
@@ -26,7 +27,8 @@ typedef_row c e =
     let name = name_asked c e in
     let target = target_asked c e in
     record {
-      made = type_of e (plain_label 8 (name_in_full name) 0) (target_of_type e.at target ∷ []);
+      made = type_of e (plain_label BTF_KIND_TYPEDEF (name_in_full name) 0)
+          (target_of_type e.at target ∷ []);
       refused = name.refused
           ++ (refuse_if (is_empty (name_in_full name)) (MissingName e.at) ++ target.refused);
     }

@@ -12,6 +12,7 @@ use crate::fault::{TypeFault, note_if};
 use crate::labels::{given_size, is_unnamed, make_label, no_targets, note_size};
 use crate::number::Number;
 use crate::source::SourceType;
+use c_model::kinds::{BTF_KIND_FLOAT, BTF_KIND_INT, BTF_KIND_STRUCT};
 use c_model::{Label, Parts};
 use dw_base::Name;
 use dwarf_abbrev::constants::{DW_AT_bit_size, DW_AT_byte_size, DW_AT_encoding};
@@ -94,15 +95,15 @@ fn base_type_label<'a>(alloc: Global, name: Name<'a>, size: u32, base: Base) -> 
 {
     match base {
         Base::Int(extra) => Label {
-            kind: 1,
+            kind: BTF_KIND_INT,
             name,
             flag: false,
             size,
             extra,
             parts: Parts::new(Vec::new(alloc)),
         },
-        Base::Float => make_label(alloc, 16, name, size),
-        Base::Opaque => make_label(alloc, 4, name, size),
+        Base::Float => make_label(alloc, BTF_KIND_FLOAT, name, size),
+        Base::Opaque => make_label(alloc, BTF_KIND_STRUCT, name, size),
     }
 }
 
@@ -148,7 +149,7 @@ pub fn unspecified_type<'a>(
     let name = name(ctx, entry, least);
     SourceType {
         at: entry.at,
-        label: make_label(alloc, 4, name, 0),
+        label: make_label(alloc, BTF_KIND_STRUCT, name, 0),
         targets: no_targets(alloc),
     }
 }

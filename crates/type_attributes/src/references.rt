@@ -10,6 +10,7 @@ use crate::attributes::{name, type_target};
 use crate::fault::{TypeFault, note_if};
 use crate::labels::{is_unnamed, make_label, one_target};
 use crate::source::SourceType;
+use c_model::kinds::BTF_KIND_TYPEDEF;
 use dw_base::Name;
 use dwarf_forms::FormCtx;
 use entry_tree::Entry;
@@ -57,7 +58,7 @@ pub fn typedef<'a>(
     let targets = one_target(alloc, target)?;
     Ok(SourceType {
         at: entry.at,
-        label: make_label(alloc, 8, name, 0),
+        label: make_label(alloc, BTF_KIND_TYPEDEF, name, 0),
         targets,
     })
 }
