@@ -26,6 +26,7 @@ use Rattle.func_entries.specs.Functions.{refusals_of}
 use Rattle.func_entries.specs.Laws.{PlacesAreTypes}
 use Rattle.func_entries.specs.Units.{unit_funcs, or_least, or_walk, functions_in, no_funcs}
 use Rattle.func_entries.specs.Units.{after_root, after_table, functions_of_unit_of}
+use Rattle.dwarf_abbrev.specs.declared.constants.TheConstants.{DW_TAG_array_type}
 
 same : (u v : UnitFuncs) → ◌≡◌ {A = Result UnitFuncs TypeFault} (Ok u) (Ok v) → u ≡ v
 same u v e = cc
@@ -83,7 +84,8 @@ same_types t s e = cc
 walk_agrees : (s : Scope) (ending : Option WalkFault) (u : UnitFuncs) (t : UnitTypes)
     → functions_in s ending ≡ Ok u → types.types_in s ending ≡ Ok t → Agree u t
 walk_agrees s ending u t e d =
-    let all = types.unit_types (some_tagged 0x01 s.entries) (types.types_of s [] s.entries) in
+    let all = types.unit_types (some_tagged DW_TAG_array_type s.entries)
+    (types.types_of s [] s.entries) in
     let none = least (types.refusals_of s [] s.entries) in
     let a = kept.accepted all t none (kept.walked ending (types.or_least all none) t d) in
     subst (λ (v : UnitFuncs). Agree v t) (in_walk s ending u e).1

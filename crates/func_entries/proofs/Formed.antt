@@ -27,6 +27,8 @@ use Rattle.func_entries.specs.Functions.{function_refused, functions_of, refusal
 use Rattle.func_entries.specs.Laws.{protos_of, IsName, FunctionsAreFormed, FunctionsAreNamed}
 use Rattle.func_entries.specs.Units.{functions_in, unit_funcs}
 use Rattle.func_entries.proofs.Accepted.{in_walk, in_unit}
+use Rattle.dwarf_abbrev.specs.declared.constants.TheConstants.{DW_AT_declaration, DW_AT_external}
+use Rattle.dwarf_abbrev.specs.declared.constants.TheConstants.{DW_TAG_subprogram}
 
 -- what holds of one function holds of all
 module _ (c : Sections) (P : FuncEntry → Type 0) (Q : Given → Type 0)
@@ -57,8 +59,10 @@ proto_formed : (c : Sections) (e : Given) (after : List Given) → IsNamedCleanl
     → HasFormed (function_at c e after)
 proto_formed c e after clean all is none =
     let row = function_row c e (children_of e.depth after) in
-    let unrefused : row.refused ≡ [] = second_empty (flag_asked 0x3f e).refused row.refused
-    (second_empty (flag_asked 0x3c e).refused ((flag_asked 0x3f e).refused ++ row.refused)
+    let unrefused : row.refused ≡ [] =
+    second_empty (flag_asked DW_AT_external e).refused row.refused
+    (second_empty (flag_asked DW_AT_declaration e).refused
+    ((flag_asked DW_AT_external e).refused ++ row.refused)
     (second_empty (name_asked c e).refused _ none)) in
     function_row_formed c e (children_of e.depth after)
     (children_all IsNamedCleanly e.depth after all) unrefused
@@ -95,8 +99,8 @@ name_is : (c : Sections) (e : Given) (after : List Given) → IsNamedCleanly e
     → IsName (name_in_full (name_asked c e))
 name_is c e after clean all is none =
     let unrefused : (name_asked c e).refused ≡ [] = first_empty (name_asked c e).refused _ none in
-    let named : has_name (name_asked c e) ≡ true = first_true (e.tag == 0x2e)
-    (has_name (name_asked c e)) (not (is_set (flag_asked 0x3c e))) is in (
+    let named : has_name (name_asked c e) ≡ true = first_true (e.tag == DW_TAG_subprogram)
+    (has_name (name_asked c e)) (not (is_set (flag_asked DW_AT_declaration e))) is in (
       named_by (name_asked c e).refused (name_in_full (name_asked c e)) unrefused named,
       name_clean c e clean,
     )

@@ -20,6 +20,8 @@ use Rattle.func_entries.specs.Functions.{some_refused, has_name, is_function, fu
 use Rattle.func_entries.specs.Functions.{functions_of, refusals_of}
 use Rattle.func_entries.specs.Walking.{head_listed, refused_at, heads_of, prototypes_of, entry_of}
 use Rattle.func_entries.specs.Walking.{paired}
+use Rattle.dwarf_abbrev.specs.declared.constants.TheConstants.{DW_AT_declaration, DW_AT_external}
+use Rattle.dwarf_abbrev.specs.declared.constants.TheConstants.{DW_TAG_subprogram}
 
 one_paired : (t : Bool) (h : Head) (p : SourceType) (hs : List Head) (ps : List SourceType)
     (fs : List FuncEntry) → paired hs ps ≡ fs
@@ -34,7 +36,7 @@ functions_paired c [] = refl
 functions_paired c (e ∷ es) =
     one_paired (is_function c e) (record {
       name = name_in_full (name_asked c e);
-      external = is_set (flag_asked 0x3f e);
+      external = is_set (flag_asked DW_AT_external e);
     }) (function_row c e (children_of e.depth es)).made
     (heads_of c es) (prototypes_of c es) (functions_of c es) (functions_paired c es)
 
@@ -48,8 +50,10 @@ pub refusals_split : (c : Sections) (e : Given) (es : List Given)
 refusals_split c e es = one_refused (is_function c e) (function_refused c e es) (refusals_of c es)
 
 -- what an entry is, by the tests that are made of it
-pub function_by : (c : Sections) (e : Given) (t n d : Bool) → (e.tag == 0x2e) ≡ t → has_name
-    (name_asked c e) ≡ n → is_set (flag_asked 0x3c e) ≡ d → is_function c e ≡ (t && (n && not d))
+pub function_by : (c : Sections) (e : Given) (t n d : Bool) → (e.tag == DW_TAG_subprogram) ≡ t
+    → has_name
+    (name_asked c e) ≡ n → is_set (flag_asked DW_AT_declaration e) ≡ d
+    → is_function c e ≡ (t && (n && not d))
 function_by c e t n d p q r = rw (p, q, r) refl
 
 -- whether something was refused

@@ -19,6 +19,18 @@ use Rattle.c_types.specs.Structures.{structure_row}
 use Rattle.c_types.specs.Types.{plain_row_of, row_of, made_in, listed, made_of}
 use Rattle.c_types.proofs.Standing.{TypeStandsAt, made_stands}
 use Rattle.func_entries.specs.Walking.{has_row, is_type, place_of}
+use Rattle.dwarf_abbrev.specs.declared.constants.TheConstants.{DW_TAG_array_type}
+use Rattle.dwarf_abbrev.specs.declared.constants.TheConstants.{DW_TAG_atomic_type, DW_TAG_base_type}
+use Rattle.dwarf_abbrev.specs.declared.constants.TheConstants.{DW_TAG_const_type}
+use Rattle.dwarf_abbrev.specs.declared.constants.TheConstants.{DW_TAG_enumeration_type}
+use Rattle.dwarf_abbrev.specs.declared.constants.TheConstants.{DW_TAG_pointer_type}
+use Rattle.dwarf_abbrev.specs.declared.constants.TheConstants.{DW_TAG_restrict_type}
+use Rattle.dwarf_abbrev.specs.declared.constants.TheConstants.{DW_TAG_structure_type}
+use Rattle.dwarf_abbrev.specs.declared.constants.TheConstants.{DW_TAG_subroutine_type}
+use Rattle.dwarf_abbrev.specs.declared.constants.TheConstants.{DW_TAG_typedef, DW_TAG_union_type}
+use Rattle.dwarf_abbrev.specs.declared.constants.TheConstants.{DW_TAG_unspecified_type}
+use Rattle.dwarf_abbrev.specs.declared.constants.TheConstants.{DW_TAG_volatile_type}
+use Rattle.type_attributes.specs.declared.tags.TheConstants.{DW_TAG_GNU_annotation}
 
 -- there is a row by the tag alone
 chosen : (t s : Bool) (r : Row) (o : Option Row) → is_some o ≡ s
@@ -30,19 +42,20 @@ row_there : (c : Scope) (e : Given) (after : List Given)
     → is_some (row_of c e after) ≡ has_row e.tag
 row_there c e after =
     let kids = children_of e.depth after in
-    chosen (e.tag == 0x01) _ (array_row c.sections e kids) _
-    (chosen (e.tag == 0x04) _ (enumeration_row c.sections e kids) _
-    (chosen (e.tag == 0x0f) _ (pointer_row c.sections e kids) _
-    (chosen (e.tag == 0x13) _ (structure_row c false e kids) _
-    (chosen (e.tag == 0x15) _ (function_row c.sections e kids) _
-    (chosen (e.tag == 0x17) _ (structure_row c true e kids) _
-    (chosen (e.tag == 0x16) _ (typedef_row c.sections e) _
-    (chosen (e.tag == 0x24) _ (base_row c.sections e) _
-    (chosen (e.tag == 0x26) _ (reference_row 10 [] c.sections e) _
-    (chosen (e.tag == 0x35) _ (reference_row 9 [] c.sections e) _
-    (chosen (e.tag == 0x37) _ (reference_row 11 [] c.sections e) _
-    (chosen (e.tag == 0x3b) _ (unspecified_row c.sections e) _
-    (chosen (e.tag == 0x47) false (reference_row 8 atomic_name c.sections e) None refl))))))))))))
+    chosen (e.tag == DW_TAG_array_type) _ (array_row c.sections e kids) _
+    (chosen (e.tag == DW_TAG_enumeration_type) _ (enumeration_row c.sections e kids) _
+    (chosen (e.tag == DW_TAG_pointer_type) _ (pointer_row c.sections e kids) _
+    (chosen (e.tag == DW_TAG_structure_type) _ (structure_row c false e kids) _
+    (chosen (e.tag == DW_TAG_subroutine_type) _ (function_row c.sections e kids) _
+    (chosen (e.tag == DW_TAG_union_type) _ (structure_row c true e kids) _
+    (chosen (e.tag == DW_TAG_typedef) _ (typedef_row c.sections e) _
+    (chosen (e.tag == DW_TAG_base_type) _ (base_row c.sections e) _
+    (chosen (e.tag == DW_TAG_const_type) _ (reference_row 10 [] c.sections e) _
+    (chosen (e.tag == DW_TAG_volatile_type) _ (reference_row 9 [] c.sections e) _
+    (chosen (e.tag == DW_TAG_restrict_type) _ (reference_row 11 [] c.sections e) _
+    (chosen (e.tag == DW_TAG_unspecified_type) _ (unspecified_row c.sections e) _
+    (chosen (e.tag == DW_TAG_atomic_type) false
+    (reference_row 8 atomic_name c.sections e) None refl))))))))))))
 
 made_there : (o : Option Row) → is_some (made_in o) ≡ is_some o
 made_there None = refl
@@ -75,7 +88,8 @@ type_place c pointed e after = placed e.at (made_of c pointed e after) (is_type 
     (is_some pointed) e) (made_stands c pointed e after) (type_there c pointed e after)
 
 -- an entry of another tag is no type tag
-pub other_tag : (c : Sections) (e : Given) → e.tag ≢ 0x6000 → is_type_tag c e ≡ false
+pub other_tag : (c : Sections) (e : Given) → e.tag ≢ DW_TAG_GNU_annotation → is_type_tag c e ≡ false
 unfolding is_type_tag
-other_tag c e ne = let differs : (e.tag == 0x6000) ≡ false = ne_eqb e.tag 0x6000 ne in
+other_tag c e ne = let differs : (e.tag == DW_TAG_GNU_annotation) ≡ false =
+    ne_eqb e.tag DW_TAG_GNU_annotation ne in
     rw differs refl

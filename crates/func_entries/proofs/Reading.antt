@@ -32,6 +32,11 @@ use Rattle.func_entries.specs.Walking.{head_at, head_listed, prototypes_at, refu
 use Rattle.func_entries.specs.Walking.{prototypes_of, paired, place_of, stands_in, of_version}
 use Rattle.func_entries.proofs.Heads.{functions_paired, refusals_split}
 use Rattle.func_entries.proofs.Placed.{type_place}
+use Rattle.dwarf_abbrev.specs.declared.constants.TheConstants.{DW_AT_bit_offset, DW_AT_bit_size}
+use Rattle.dwarf_abbrev.specs.declared.constants.TheConstants.{DW_AT_byte_size}
+use Rattle.dwarf_abbrev.specs.declared.constants.TheConstants.{DW_AT_data_bit_offset}
+use Rattle.dwarf_abbrev.specs.declared.constants.TheConstants.{DW_TAG_array_type, DW_TAG_member}
+use Rattle.dwarf_abbrev.specs.declared.constants.TheConstants.{DW_TAG_pointer_type}
 
 or_false : (a : Bool) → (a || false) ≡ a
 or_false true = refl
@@ -58,7 +63,8 @@ pub record IsPlacing (c : Scope) (ending : Option WalkFault) (places : List ℕ)
   pub most : ℕ
   pub places_so_far : places ++ map (λ (t : SourceType). t.at) (types_of c earlier walk.entries)
       ≡ places_of c
-  pub arrays_so_far : (has || some_tagged 0x01 walk.entries) ≡ some_tagged 0x01 c.entries
+  pub arrays_so_far : (has || some_tagged DW_TAG_array_type walk.entries)
+      ≡ some_tagged DW_TAG_array_type c.entries
   pub low : Descends most walk.entries
   pub standing : (d : ℕ) → d ≤ most
       → is_some (pointed_in c.sections earlier d) ≡ stands_in pointers d
@@ -139,17 +145,18 @@ some_pointer c e false = refl
 
 one_level : (c : Sections) (e : Given) (t : Bool) (x y : Option Target) (b : Bool)
     → x ≡ (if t then own_of_pointer c (Some e) else y) → (t ≡ false → is_some y ≡ b)
-    → is_some x ≡ (if t then e.tag == 0x0f else b)
+    → is_some x ≡ (if t then e.tag == DW_TAG_pointer_type else b)
 one_level c e true x y b is h =
-    ap (λ (o : Option Target). is_some o) is ∙ some_pointer c e (e.tag == 0x0f)
+    ap (λ (o : Option Target). is_some o) is ∙ some_pointer c e (e.tag == DW_TAG_pointer_type)
 one_level c e false x y b is h = ap (λ (o : Option Target). is_some o) is ∙ h refl
 
 placing_one : (c : Scope) (ending : Option WalkFault) (places more pointers others : List ℕ)
     (has had : Bool) (behind : Coming) (e : Given)
     → IsPlacing c ending places pointers has (with_first e behind)
     → more ≡ places ++ place_of c.sections (stands_in pointers e.depth) e
-    → had ≡ (has || e.tag == 0x01)
-    → ((d : ℕ) → d ≤ e.depth + 1 → stands_in others d ≡ (if e.depth + 1 == d then e.tag == 0x0f
+    → had ≡ (has || e.tag == DW_TAG_array_type)
+    → ((d : ℕ) → d ≤ e.depth + 1
+    → stands_in others d ≡ (if e.depth + 1 == d then e.tag == DW_TAG_pointer_type
     else stands_in pointers d)) → IsPlacing c ending more others had behind
 placing_one c ending places more pointers others has had behind e h m a s =
     let es = behind.entries in
@@ -168,8 +175,8 @@ placing_one c ending places more pointers others has had behind e h m a s =
           (map (λ (t : SourceType). t.at) rest)
           ∙ ap (λ (ns : List ℕ). places ++ ns) (sym (map-append
           (λ (t : SourceType). t.at) (listed (made_of c pointed e es)) rest)) ∙ h.places_so_far;
-      arrays_so_far = tests (λ (g : Given). g.tag == 0x01) (e ∷ es) es e has had
-          (some_tagged 0x01 c.entries) refl a h.arrays_so_far;
+      arrays_so_far = tests (λ (g : Given). g.tag == DW_TAG_array_type) (e ∷ es) es e has had
+          (some_tagged DW_TAG_array_type c.entries) refl a h.arrays_so_far;
       low = h.low.1;
       standing = λ (d : ℕ) (le : d ≤ e.depth + 1).
           one_level c.sections e (e.depth + 1 == d) (pointed_in c.sections (e ∷ h.earlier) d)
@@ -185,8 +192,9 @@ pub placing_more : (c : Scope) (ending : Option WalkFault) (places more pointers
     (has had : Bool) (old new : Coming) (e : Given)
     → old ≡ with_first e new → IsPlacing c ending places pointers has old
     → more ≡ places ++ place_of c.sections (stands_in pointers e.depth) e
-    → had ≡ (has || e.tag == 0x01)
-    → ((d : ℕ) → d ≤ e.depth + 1 → stands_in others d ≡ (if e.depth + 1 == d then e.tag == 0x0f
+    → had ≡ (has || e.tag == DW_TAG_array_type)
+    → ((d : ℕ) → d ≤ e.depth + 1
+    → stands_in others d ≡ (if e.depth + 1 == d then e.tag == DW_TAG_pointer_type
     else stands_in pointers d)) → IsPlacing c ending more others had new
 placing_more c ending places more pointers others has had old new e step h m a s =
     placing_one c ending places more pointers others has had new e
@@ -209,7 +217,7 @@ at_end s version ending heads os types current places pointers has r p =
     let t : filled s os [] types ≡ prototypes_of s.sections s.entries =
     sym (append-nil (filled s os [] types)) ∙ r.types_so_far in
     let n : places ≡ places_of (of_version version s) = sym (append-nil places) ∙ p.places_so_far in
-    let a : has ≡ some_tagged 0x01 s.entries = sym (or_false has) ∙ p.arrays_so_far in
+    let a : has ≡ some_tagged DW_TAG_array_type s.entries = sym (or_false has) ∙ p.arrays_so_far in
     let f : paired heads (filled s os [] types) ≡ functions_of s.sections s.entries =
     ap (λ (hs : List Head). paired hs (filled s os [] types)) h ∙ ap (λ (ts : List SourceType).
     paired (heads_of s.sections s.entries) ts) t ∙ functions_paired s.sections s.entries in
@@ -281,8 +289,9 @@ pub unneeded : (s : Scope) (e : Given) → s.version ≡ 5 → needs_extents s e
 unneeded s e is =
     let other : (s.version == 4) ≡ false =
     ne_eqb s.version 4 (λ (v : s.version ≡ 4). omega (arith, v, is)) in
-    rw other (ands (e.tag == 0x0d) (has 0x0d e) (has 0x0c e)
-    (not (has 0x6b e) && (not (has 0x0b e) && is_little s.sections.order)))
+    rw other (ands (e.tag == DW_TAG_member) (has DW_AT_bit_size e) (has DW_AT_bit_offset e)
+    (not (has DW_AT_data_bit_offset e)
+    && (not (has DW_AT_byte_size e) && is_little s.sections.order)))
 
 pub never : {X : Type 0} (s : Scope) (e : Given) → s.version ≡ 5 → needs_extents s e ≡ true → X
 never s e is needed = let no_need = unneeded s e is in absurd (cc)

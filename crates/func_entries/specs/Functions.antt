@@ -10,6 +10,8 @@ use Rattle.type_attributes.specs.Children.{children_of}
 use Rattle.c_types.specs.Functions.{function_row}
 use Rattle.type_attributes.specs.Labels.{is_empty}
 use Rattle.func_entries.specs.declared.entries.FuncEntry.{FuncEntry}
+use Rattle.dwarf_abbrev.specs.declared.constants.TheConstants.{DW_AT_declaration, DW_AT_external}
+use Rattle.dwarf_abbrev.specs.declared.constants.TheConstants.{DW_TAG_subprogram}
 
 abbrev pub some_refused : List TypeFault → Bool
 some_refused [] = false
@@ -22,7 +24,8 @@ has_name name = some_refused name.refused || not (is_empty (name_in_full name))
 -- a subprogram (0x2e) with a name and without a true declaration (0x3c); a declaration that is
 -- refused counts as one that is not true
 abbrev pub is_function : Sections → Given → Bool
-is_function c e = e.tag == 0x2e && (has_name (name_asked c e) && not (is_set (flag_asked 0x3c e)))
+is_function c e = e.tag == DW_TAG_subprogram
+    && (has_name (name_asked c e) && not (is_set (flag_asked DW_AT_declaration e)))
 
 -- its name, whether it is external (0x3f), and its prototype: the subroutine type of its own type
 -- and parameters
@@ -30,14 +33,15 @@ abbrev pub function_at : Sections → Given → List Given → FuncEntry
 function_at c e after =
     record {
       name = name_in_full (name_asked c e);
-      external = is_set (flag_asked 0x3f e);
+      external = is_set (flag_asked DW_AT_external e);
       proto = (function_row c e (children_of e.depth after)).made;
     }
 
 abbrev pub function_refused : Sections → Given → List Given → List TypeFault
 function_refused c e after =
-    (name_asked c e).refused ++ ((flag_asked 0x3c e).refused
-    ++ ((flag_asked 0x3f e).refused ++ (function_row c e (children_of e.depth after)).refused))
+    (name_asked c e).refused ++ ((flag_asked DW_AT_declaration e).refused
+    ++ ((flag_asked DW_AT_external e).refused
+    ++ (function_row c e (children_of e.depth after)).refused))
 
 -- the functions among some entries, in order, and all their refusals
 abbrev pub functions_of : Sections → List Given → List FuncEntry

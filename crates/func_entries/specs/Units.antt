@@ -22,6 +22,7 @@ use Rattle.type_attributes.specs.Scopes.{Scope, scope_of}
 use Rattle.c_types.specs.Types.{types_of, is_passed_over}
 use Rattle.func_entries.specs.declared.entries.UnitFuncs.{UnitFuncs}
 use Rattle.func_entries.specs.Functions.{functions_of, refusals_of}
+use Rattle.dwarf_abbrev.specs.declared.constants.TheConstants.{DW_TAG_array_type}
 
 -- of a unit's entries: the functions, the places of the types, and whether one of these is an array
 abbrev pub places_of : Scope → List ℕ
@@ -31,7 +32,7 @@ abbrev pub unit_funcs : Scope → UnitFuncs
 unit_funcs s = record {
   funcs = functions_of s.sections s.entries;
   places = places_of s;
-  has_array = some_tagged 0x01 s.entries;
+  has_array = some_tagged DW_TAG_array_type s.entries;
 }
 
 -- where nothing is refused, else the first refusal by place, number and what is kept

@@ -15,17 +15,29 @@ use Rattle.type_attributes.specs.Scopes.{Scope}
 use Rattle.func_entries.specs.declared.entries.FuncEntry.{FuncEntry}
 use Rattle.func_entries.specs.declared.walking.Head.{Head}
 use Rattle.func_entries.specs.Functions.{is_function, function_refused}
+use Rattle.dwarf_abbrev.specs.declared.constants.TheConstants.{DW_AT_declaration, DW_AT_external}
+use Rattle.dwarf_abbrev.specs.declared.constants.TheConstants.{DW_TAG_array_type}
+use Rattle.dwarf_abbrev.specs.declared.constants.TheConstants.{DW_TAG_atomic_type, DW_TAG_base_type}
+use Rattle.dwarf_abbrev.specs.declared.constants.TheConstants.{DW_TAG_const_type}
+use Rattle.dwarf_abbrev.specs.declared.constants.TheConstants.{DW_TAG_enumeration_type}
+use Rattle.dwarf_abbrev.specs.declared.constants.TheConstants.{DW_TAG_pointer_type}
+use Rattle.dwarf_abbrev.specs.declared.constants.TheConstants.{DW_TAG_restrict_type}
+use Rattle.dwarf_abbrev.specs.declared.constants.TheConstants.{DW_TAG_structure_type}
+use Rattle.dwarf_abbrev.specs.declared.constants.TheConstants.{DW_TAG_subroutine_type}
+use Rattle.dwarf_abbrev.specs.declared.constants.TheConstants.{DW_TAG_typedef, DW_TAG_union_type}
+use Rattle.dwarf_abbrev.specs.declared.constants.TheConstants.{DW_TAG_unspecified_type}
+use Rattle.dwarf_abbrev.specs.declared.constants.TheConstants.{DW_TAG_volatile_type}
 
 -- what an entry says of itself, where it is a function, and its own refusals
 abbrev pub head_at : Sections → Given → Option Head
 head_at c e = if is_function c e then Some (record {
   name = name_in_full (name_asked c e);
-  external = is_set (flag_asked 0x3f e);
+  external = is_set (flag_asked DW_AT_external e);
 }) else None
 
 abbrev pub head_refused : Sections → Given → List TypeFault
 head_refused c e = if is_function c e then (name_asked c e).refused
-    ++ ((flag_asked 0x3c e).refused ++ (flag_asked 0x3f e).refused) else []
+    ++ ((flag_asked DW_AT_declaration e).refused ++ (flag_asked DW_AT_external e).refused) else []
 
 abbrev pub head_listed : Option Head → List Head
 head_listed None = []
@@ -58,9 +70,11 @@ paired heads types = map entry_of (zip heads types)
 -- the tags of the entries that are types: those that have a row
 abbrev pub has_row : ℕ → Bool
 has_row tag =
-    tag == 0x01 || (tag == 0x04 || (tag == 0x0f
-    || (tag == 0x13 || (tag == 0x15 || (tag == 0x17 || (tag == 0x16 || (tag == 0x24 || (tag
-    == 0x26 || (tag == 0x35 || (tag == 0x37 || (tag == 0x3b || (tag == 0x47 || false))))))))))))
+    tag == DW_TAG_array_type || (tag == DW_TAG_enumeration_type || (tag == DW_TAG_pointer_type
+    || (tag == DW_TAG_structure_type || (tag == DW_TAG_subroutine_type
+    || (tag == DW_TAG_union_type || (tag == DW_TAG_typedef || (tag == DW_TAG_base_type || (tag
+    == DW_TAG_const_type || (tag == DW_TAG_volatile_type || (tag == DW_TAG_restrict_type
+    || (tag == DW_TAG_unspecified_type || (tag == DW_TAG_atomic_type || false))))))))))))
 
 -- an entry is a type, given whether its parent is a pointer
 abbrev pub is_type : Sections → Bool → Given → Bool

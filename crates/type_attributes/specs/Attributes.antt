@@ -14,6 +14,7 @@ use Rattle.type_attributes.specs.declared.source.Target.{Target}
 use Rattle.type_attributes.specs.declared.source.Target.TheVariants.{Void, Entry}
 use Rattle.type_attributes.specs.declared.number.Number.{Number}
 use Rattle.type_attributes.specs.Numbers.{number_from}
+use Rattle.dwarf_abbrev.specs.declared.constants.TheConstants.{DW_AT_name, DW_AT_type}
 
 -- what an attribute says, where it is given and of the class that is wanted, and else its refusal
 pub record Asked (A : Type 0) : Type 0 where
@@ -54,7 +55,7 @@ text_asked attribute c e =
 
 -- the name (0x03); an empty one counts as none
 abbrev pub name_asked : Sections → Given → Asked (List ℕ)
-name_asked c e = text_asked 0x03 c e
+name_asked c e = text_asked DW_AT_name c e
 
 abbrev pub or_empty : Option (List ℕ) → List ℕ
 or_empty None = []
@@ -65,7 +66,7 @@ name_in_full a = or_empty a.said
 
 -- the type (0x49) that is referred to
 abbrev pub target_asked : Sections → Given → Asked ℕ
-target_asked c e = asked e.at (option_map (target_in c 0x49) (value_with 0x49 e.values))
+target_asked c e = asked e.at (option_map (target_in c DW_AT_type) (value_with DW_AT_type e.values))
 
 abbrev pub referred : ℕ → Option ℕ → Target
 referred from None = Void

@@ -5,6 +5,11 @@ use Rattle.std.specs.Prelude.{ℕ, ◌+◌, ◌*◌, ◌^◌, ◌==◌, ◌&&◌
 use Rattle.std.specs.Prelude.{Option, None, Some, if◌then◌else◌}
 use Rattle.c_model.specs.declared.kinds.TheConstants.{BTF_KIND_INT, BTF_KIND_FLOAT, BTF_KIND_STRUCT}
 use Rattle.c_model.specs.declared.label.Label.{Label}
+use Rattle.dwarf_abbrev.specs.declared.constants.TheConstants.{DW_ATE_boolean, DW_ATE_float}
+use Rattle.dwarf_abbrev.specs.declared.constants.TheConstants.{DW_ATE_signed, DW_ATE_signed_char}
+use Rattle.dwarf_abbrev.specs.declared.constants.TheConstants.{DW_ATE_unsigned}
+use Rattle.dwarf_abbrev.specs.declared.constants.TheConstants.{DW_ATE_unsigned_char, DW_ATE_UTF}
+use Rattle.type_attributes.specs.declared.base.TheConstants.{BTF_INT_SIGNED, BTF_INT_BOOL}
 use Rattle.dwarf_forms.specs.Meanings.{Sections}
 use Rattle.entry_tree.specs.Items.{Given}
 use Rattle.type_attributes.specs.declared.number.Number.{Number}
@@ -15,6 +20,8 @@ use Rattle.type_attributes.specs.declared.fault.TypeFault.TheVariants.{MissingNa
 use Rattle.type_attributes.specs.Faults.{refuse_if}
 use Rattle.type_attributes.specs.Attributes.{name_asked, name_in_full, constant_asked, number_said}
 use Rattle.type_attributes.specs.Labels.{Row, type_of, plain_label, is_empty, size_in, size_refused}
+use Rattle.dwarf_abbrev.specs.declared.constants.TheConstants.{DW_AT_bit_size, DW_AT_byte_size}
+use Rattle.dwarf_abbrev.specs.declared.constants.TheConstants.{DW_AT_encoding}
 
 -- sizes of integers and of floating numbers
 abbrev pub is_integer : ℕ → Bool
@@ -23,19 +30,24 @@ is_integer size = size == 1 || size == 2 || size == 4 || size == 8 || size == 16
 abbrev pub is_float : ℕ → Bool
 is_float size = size == 2 || size == 4 || size == 8 || size == 12 || size == 16
 
--- the word of an INT: BTF's encoding (1 signed, 4 bool, 0 neither), an offset of 0, and all bits
+-- encodings of integers (section 7.8, table 7.11)
+abbrev pub is_signed : ℕ → Bool
+is_signed encoding = encoding == DW_ATE_signed || encoding == DW_ATE_signed_char
+
+abbrev pub is_unsigned : ℕ → Bool
+is_unsigned encoding =
+    encoding == DW_ATE_unsigned || encoding == DW_ATE_unsigned_char || encoding == DW_ATE_UTF
+
+-- the word of an INT: BTF's encoding, an offset of 0, and all bits
 abbrev pub int_word : ℕ → ℕ → ℕ
 int_word encoding size = encoding * 2 ^ 24 + 8 * size
 
--- the encodings (section 7.8): boolean 2, float 4, signed 5, signed_char 6, unsigned 7,
--- unsigned_char 8, UTF 16
 abbrev pub base_of : ℕ → ℕ → Base
 base_of size encoding =
-    if encoding == 2 && is_integer size then Int (int_word 4 size)
-    else if encoding == 4 && is_float size then Float
-    else if (encoding == 5 || encoding == 6) && is_integer size then Int (int_word 1 size)
-    else if (encoding == 7 || encoding == 8 || encoding == 16) && is_integer size
-    then Int (int_word 0 size)
+    if encoding == DW_ATE_boolean && is_integer size then Int (int_word BTF_INT_BOOL size)
+    else if encoding == DW_ATE_float && is_float size then Float
+    else if is_signed encoding && is_integer size then Int (int_word BTF_INT_SIGNED size)
+    else if is_unsigned encoding && is_integer size then Int (int_word 0 size)
     else Opaque
 
 -- one without encoding has none of these
@@ -69,9 +81,9 @@ base_label name size Opaque = plain_label BTF_KIND_STRUCT name size
 abbrev pub base_row : Sections → Given → Row
 base_row c e =
     let name = name_asked c e in
-    let size = constant_asked 0x0b e in
-    let encoding = constant_asked 0x3e e in
-    let bits = constant_asked 0x0d e in
+    let size = constant_asked DW_AT_byte_size e in
+    let encoding = constant_asked DW_AT_encoding e in
+    let bits = constant_asked DW_AT_bit_size e in
     record {
       made = type_of e (base_label (name_in_full name) (size_in size.said)
           (base_with (size_in size.said) (number_said encoding) (number_said bits))) [];

@@ -11,9 +11,14 @@ use Rattle.type_attributes.specs.declared.extents.Extent.{Extent}
 use Rattle.type_attributes.specs.declared.extents.Extent.TheVariants.{Bytes, SameAs, Unknown}
 use Rattle.type_attributes.specs.Scopes.{Scope}
 use Rattle.type_attributes.specs.Attributes.{has, constant_asked, number_said, target_asked}
+use Rattle.dwarf_abbrev.specs.declared.constants.TheConstants.{DW_AT_byte_size, DW_TAG_atomic_type}
+use Rattle.dwarf_abbrev.specs.declared.constants.TheConstants.{DW_TAG_const_type}
+use Rattle.dwarf_abbrev.specs.declared.constants.TheConstants.{DW_TAG_restrict_type, DW_TAG_typedef}
+use Rattle.dwarf_abbrev.specs.declared.constants.TheConstants.{DW_TAG_volatile_type}
 
 abbrev pub stands_for_another : ℕ → Bool
-stands_for_another tag = tag == 0x16 || tag == 0x26 || tag == 0x35 || tag == 0x37 || tag == 0x47
+stands_for_another tag = tag == DW_TAG_typedef || tag == DW_TAG_const_type || tag
+    == DW_TAG_volatile_type || tag == DW_TAG_restrict_type || tag == DW_TAG_atomic_type
 
 abbrev pub by_size : Option Number → Extent
 by_size None = Unknown
@@ -26,7 +31,7 @@ by_type (Some at) = SameAs at
 -- what an entry says; a value of the wrong class says nothing
 abbrev pub extent_of : Sections → Given → Extent
 extent_of c e =
-    if has 0x0b e then by_size (number_said (constant_asked 0x0b e))
+    if has DW_AT_byte_size e then by_size (number_said (constant_asked DW_AT_byte_size e))
     else (if stands_for_another e.tag then by_type (target_asked c e).said else Unknown)
 
 -- what the entry says that begins at a place

@@ -13,6 +13,11 @@ use Rattle.type_attributes.specs.Numbers.{number_from, integer}
 use Rattle.type_attributes.specs.Attributes.{Asked, has, constant_asked, number_said, offset_asked}
 use Rattle.type_attributes.specs.Attributes.{target_asked}
 use Rattle.type_attributes.specs.Extents.{bytes_at}
+use Rattle.dwarf_abbrev.specs.declared.constants.TheConstants.{DW_AT_bit_offset, DW_AT_bit_size}
+use Rattle.dwarf_abbrev.specs.declared.constants.TheConstants.{DW_AT_byte_size}
+use Rattle.dwarf_abbrev.specs.declared.constants.TheConstants.{DW_AT_data_bit_offset}
+use Rattle.dwarf_abbrev.specs.declared.constants.TheConstants.{DW_AT_data_member_location}
+use Rattle.dwarf_abbrev.specs.declared.constants.TheConstants.{DW_TAG_member}
 
 -- a place in bits: a natural number of units of so many bits
 abbrev pub placed : ℕ → ℕ → Number → Asked ℕ
@@ -38,7 +43,7 @@ after refused a = record { said = a.said; refused = refused ++ a.refused }
 -- significant bit, which is the first one in a big-endian file and the last one in a little-endian
 -- file
 abbrev pub is_stored : Scope → Given → Bool
-is_stored s m = has 0x0d m && (has 0x0c m && s.version == 4)
+is_stored s m = has DW_AT_bit_size m && (has DW_AT_bit_offset m && s.version == 4)
 
 -- the bytes before the storage: the data_member_location (0x38), 0 without one; none where it is
 -- computed at run time
@@ -47,7 +52,8 @@ offset_number (Some (Some z)) = Some (number_from z)
 offset_number other = None
 
 abbrev pub location_in : Given → Option Number
-location_in m = if has 0x38 m then offset_number (offset_asked 0x38 m).said else Some (Natural 0)
+location_in m = if has DW_AT_data_member_location m
+    then offset_number (offset_asked DW_AT_data_member_location m).said else Some (Natural 0)
 
 -- the bytes of the storage: the member's own byte_size (0x0b), else those of its type
 abbrev pub bytes_of_type : Scope → Option ℕ → Option Number
@@ -55,7 +61,7 @@ bytes_of_type s None = None
 bytes_of_type s (Some at) = bytes_at s at
 
 abbrev pub storage_in : Scope → Given → Option Number
-storage_in s m = if has 0x0b m then number_said (constant_asked 0x0b m)
+storage_in s m = if has DW_AT_byte_size m then number_said (constant_asked DW_AT_byte_size m)
     else bytes_of_type s (target_asked s.sections m).said
 
 abbrev pub eightfold : Number → ℤ
@@ -73,9 +79,10 @@ first_bit_little (Some location) (Some storage) (Some offset) (Some size) =
 first_bit_little location storage offset size = None
 
 abbrev pub first_bit : Order → Scope → Given → Option ℤ
-first_bit Big s m = first_bit_big (location_in m) (number_said (constant_asked 0x0c m))
+first_bit Big s m = first_bit_big (location_in m) (number_said (constant_asked DW_AT_bit_offset m))
 first_bit Little s m = first_bit_little (location_in m) (storage_in s m)
-    (number_said (constant_asked 0x0c m)) (number_said (constant_asked 0x0d m))
+    (number_said (constant_asked DW_AT_bit_offset m))
+    (number_said (constant_asked DW_AT_bit_size m))
 
 -- it is refused where it is not known or lies before the structure; a value of the wrong class is
 -- refused before that
@@ -85,24 +92,26 @@ counted at other = record { said = None; refused = MemberPlace at ∷ [] }
 
 abbrev pub storage_refused : Order → Given → List TypeFault
 storage_refused Big m = []
-storage_refused Little m = (constant_asked 0x0b m).refused
+storage_refused Little m = (constant_asked DW_AT_byte_size m).refused
 
 abbrev pub stored_position : Scope → Given → Asked ℕ
 stored_position s m =
-    after ((offset_asked 0x38 m).refused ++ ((constant_asked 0x0c m).refused
+    after ((offset_asked DW_AT_data_member_location m).refused
+    ++ ((constant_asked DW_AT_bit_offset m).refused
     ++ storage_refused s.sections.order m)) (counted m.at (first_bit s.sections.order s m))
 
 -- the bit position of a member: its data_bit_offset (0x6b), if it has one, else that in its
 -- storage, if it has one, else 8 times its location
 abbrev pub position_of : Scope → Given → Asked ℕ
 position_of s m =
-    if has 0x6b m
-    then after (constant_asked 0x6b m).refused
-    (placed_by_bits m.at (number_said (constant_asked 0x6b m)))
+    if has DW_AT_data_bit_offset m
+    then after (constant_asked DW_AT_data_bit_offset m).refused
+    (placed_by_bits m.at (number_said (constant_asked DW_AT_data_bit_offset m)))
     else (if is_stored s m
     then stored_position s m
-    else after (offset_asked 0x38 m).refused
-    (placed_by_bytes m.at (has 0x38 m) (offset_asked 0x38 m).said))
+    else after (offset_asked DW_AT_data_member_location m).refused
+    (placed_by_bytes m.at (has DW_AT_data_member_location m)
+    (offset_asked DW_AT_data_member_location m).said))
 
 -- whether the extent of another entry is needed
 abbrev pub is_little : Order → Bool
@@ -110,5 +119,6 @@ is_little Little = true
 is_little Big = false
 
 abbrev pub needs_extents : Scope → Given → Bool
-needs_extents s m = m.tag == 0x0d
-    && (is_stored s m && (not (has 0x6b m) && (not (has 0x0b m) && is_little s.sections.order)))
+needs_extents s m = m.tag == DW_TAG_member
+    && (is_stored s m && (not (has DW_AT_data_bit_offset m)
+    && (not (has DW_AT_byte_size m) && is_little s.sections.order)))

@@ -5,6 +5,7 @@ ghost use Rattle.dwarf_forms.specs.Meanings.{sections};
 ghost use Rattle.entry_tree.specs.Walks.{given_entry};
 ghost use Rattle.type_attributes.specs.Faults.{noted};
 ghost use Rattle.type_attributes.specs.BaseTypes.{is_integer, is_float, base_of, code_in, is_whole};
+ghost use Rattle.type_attributes.specs.BaseTypes.{is_signed, is_unsigned, int_word};
 ghost use Rattle.type_attributes.specs.BaseTypes.{base_with, base_label, base_row, unspecified_row};
 
 use crate::attributes::{constant, name, signed_constant};
@@ -15,10 +16,18 @@ use crate::source::SourceType;
 use c_model::kinds::{BTF_KIND_FLOAT, BTF_KIND_INT, BTF_KIND_STRUCT};
 use c_model::{Label, Parts};
 use dw_base::Name;
-use dwarf_abbrev::constants::{DW_AT_bit_size, DW_AT_byte_size, DW_AT_encoding};
+use dwarf_abbrev::constants::{
+    DW_AT_bit_size, DW_AT_byte_size, DW_AT_encoding, DW_ATE_UTF, DW_ATE_boolean, DW_ATE_float,
+    DW_ATE_signed, DW_ATE_signed_char, DW_ATE_unsigned, DW_ATE_unsigned_char,
+};
 use dwarf_forms::FormCtx;
 use entry_tree::Entry;
 use std::alloc::Global;
+
+/// An INT with a sign, in the first byte of its word (the kernel's BTF documentation, "BTF_KIND_INT").
+pub const BTF_INT_SIGNED: u32 = 1;
+/// An INT that is true or false.
+pub const BTF_INT_BOOL: u32 = 4;
 
 /// What a base type is to BTF.
 #[derive(Clone, Copy, Debug, PartialEq, Eq)]
@@ -44,18 +53,39 @@ fn is_float_size(size: u32) -> bool
     size == 2 || size == 4 || size == 8 || size == 12 || size == 16
 }
 
+fn is_signed(encoding: u64) -> bool
+    ensures { result ≡ is_signed encoding }
+{
+    encoding == DW_ATE_signed || encoding == DW_ATE_signed_char
+}
+
+fn is_unsigned(encoding: u64) -> bool
+    ensures { result ≡ is_unsigned encoding }
+{
+    encoding == DW_ATE_unsigned || encoding == DW_ATE_unsigned_char || encoding == DW_ATE_UTF
+}
+
+/// The last word of an INT: how it is encoded, the bit at which it begins, which is 0, and its bits.
+fn int_word(encoding: u32, size: u32) -> u32
+    requires encoding { encoding ≤ BTF_INT_BOOL }
+    requires size { size ≤ 16 }
+    ensures { result ≡ int_word encoding size }
+{
+    encoding * 16_777_216 + 8 * size
+}
+
 /// What a size and an encoding make.
 fn make_base(size: u32, encoding: u64) -> Base
     ensures { result ≡ base_of size encoding }
 {
-    if encoding == 2 && is_integer_size(size) {
-        Base::Int(4 * 16_777_216 + 8 * size)
-    } else if encoding == 4 && is_float_size(size) {
+    if encoding == DW_ATE_boolean && is_integer_size(size) {
+        Base::Int(int_word(BTF_INT_BOOL, size))
+    } else if encoding == DW_ATE_float && is_float_size(size) {
         Base::Float
-    } else if (encoding == 5 || encoding == 6) && is_integer_size(size) {
-        Base::Int(16_777_216 + 8 * size)
-    } else if (encoding == 7 || encoding == 8 || encoding == 16) && is_integer_size(size) {
-        Base::Int(8 * size)
+    } else if is_signed(encoding) && is_integer_size(size) {
+        Base::Int(int_word(BTF_INT_SIGNED, size))
+    } else if is_unsigned(encoding) && is_integer_size(size) {
+        Base::Int(int_word(0, size))
     } else {
         Base::Opaque
     }

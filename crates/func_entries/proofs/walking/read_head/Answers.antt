@@ -11,6 +11,8 @@ use Rattle.func_entries.proofs.Heads.{function_by, named_by_refusal, named_by_na
 use Rattle.func_entries.proofs.walking.read_head.Goals as goal
 use Rattle.func_entries.proofs.walking.read_head.Goals.{else-is_none-via-then-is_none+else-is_unnamed}
 use Rattle.func_entries.proofs.walking.read_head.Goals.{else-is_none-via-else-is_none}
+use Rattle.dwarf_abbrev.specs.declared.constants.TheConstants.{DW_AT_declaration, DW_AT_external}
+use Rattle.dwarf_abbrev.specs.declared.constants.TheConstants.{DW_TAG_subprogram}
 
 pub returns-clause-noted : goal.returns-clause-noted
 returns-clause-noted c =
@@ -18,8 +20,8 @@ returns-clause-noted c =
     let e = given_entry c.args.entry.now in
     let name = name_asked s e in
     let names = name.refused in
-    let declarations = (flag_asked 0x3c e).refused in
-    let externals = (flag_asked 0x3f e).refused in
+    let declarations = (flag_asked DW_AT_declaration e).refused in
+    let externals = (flag_asked DW_AT_external e).refused in
     let named : has_name
     (name_asked (sections c.args.ctx.now) (given_entry c.args.entry.now)) ≡ true =
     elim c.else-is_none.branch [
@@ -31,7 +33,8 @@ returns-clause-noted c =
           (c.is_none.ensures ∙ ap (λ (b : Bool). not b) w.if-is_none.false)
     ] in
     let is : is_function (sections c.args.ctx.now) (given_entry c.args.entry.now) ≡ true =
-    function_by s e true true false (eq-eqb e.tag 0x2e c.if-entry-ne-DW_TAG_subprogram.false)
+    function_by s e true true false
+    (eq-eqb e.tag DW_TAG_subprogram c.if-entry-ne-DW_TAG_subprogram.false)
     named (sym c.if-flag.ensures.said) in
     c.join.ensures
     ∙ values_noted c.args.least.now c.name-name.new.least c.flag.new.least

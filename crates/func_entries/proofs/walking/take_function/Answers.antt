@@ -13,6 +13,7 @@ use Rattle.func_entries.specs.Functions.{is_function}
 use Rattle.func_entries.specs.Walking.{head_refused}
 use Rattle.func_entries.proofs.Heads.{head_known, refusals_joined}
 use Rattle.func_entries.proofs.walking.take_function.Goals as goal
+use Rattle.dwarf_abbrev.specs.declared.constants.TheConstants.{DW_AT_declaration, DW_AT_external}
 
 pub returns-clause-types : goal.returns-clause-types
 returns-clause-types c = λ es.
@@ -38,5 +39,6 @@ returns-clause-least c = λ es later.
     ∙ taken_least u os es current c.read_head.new.least (head_refused s e)
     (row.refused ++ later) c.read_head.ensures.noted
     ∙ ap (λ (fs : List TypeFault). least_of u os es current fs)
-    (refusals_joined (is_function s e) (name_asked s e).refused (flag_asked 0x3c e).refused
-    (flag_asked 0x3f e).refused row.refused later is)
+    (refusals_joined (is_function s e) (name_asked s e).refused
+    (flag_asked DW_AT_declaration e).refused
+    (flag_asked DW_AT_external e).refused row.refused later is)
