@@ -4,6 +4,7 @@ use Rattle.std.specs.Prelude.{ℕ, ◌+◌, ◌*◌, ◌-◌, ◌^◌, nat_lt, �
 use Rattle.std.specs.Prelude.{List, [], ◌∷◌, ◌++◌, map, Option, None, Some, Result, Ok, Err}
 use Rattle.std.specs.Prelude.{if◌then◌else◌}
 use Rattle.dwarf_forms.specs.declared.fault.FormFault.{FormFault}
+use Rattle.c_model.specs.declared.kinds.TheConstants.{BTF_KIND_ARRAY}
 use Rattle.c_model.specs.declared.label.Label.{Label}
 use Rattle.dwarf_forms.specs.Values.{Shown}
 use Rattle.dwarf_forms.specs.Meanings.{Sections, constant_in}
@@ -78,7 +79,14 @@ is_refused lengths = some_long lengths || not (nat_lt (elements_of lengths) (2 ^
 
 abbrev pub array_label : ℕ → Label
 array_label elements =
-    record { kind = 3; name = []; flag = false; size = 0; extra = elements; parts = [] }
+    record {
+      kind = BTF_KIND_ARRAY;
+      name = [];
+      flag = false;
+      size = 0;
+      extra = elements;
+      parts = [];
+    }
 
 -- the number of elements where it fits
 abbrev pub elements_in : List (Option ℕ) → ℕ

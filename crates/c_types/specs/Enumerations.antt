@@ -2,6 +2,7 @@
 -- enumerations of 4 bytes without enumerators.
 use Rattle.std.specs.Prelude.{ℕ, ℤ, ◌-◌, ◌%◌, ◌^◌, nat_lt, ◌==◌, ◌&&◌, ◌||◌, not, Bool, true, false}
 use Rattle.std.specs.Prelude.{List, [], ◌∷◌, ◌++◌, length, map, Option, None, Some, if◌then◌else◌}
+use Rattle.c_model.specs.declared.kinds.TheConstants.{BTF_KIND_ENUM, BTF_KIND_ENUM64}
 use Rattle.c_model.specs.declared.label.Label.{Label}
 use Rattle.c_model.specs.declared.label.Part.{Part}
 use Rattle.dwarf_forms.specs.Meanings.{Sections}
@@ -80,7 +81,7 @@ enum_size_refused at (Some z) = refuse_if (not (fits_size (number_from z))) (Enu
 
 abbrev pub enumeration_label : Bool → List ℕ → Bool → ℕ → List Part → Label
 enumeration_label wide name signed size parts = record {
-  kind = if wide then 19 else 6;
+  kind = if wide then BTF_KIND_ENUM64 else BTF_KIND_ENUM;
   name = name;
   flag = signed;
   size = size;

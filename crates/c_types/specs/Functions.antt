@@ -1,6 +1,7 @@
 -- Subroutine types (DWARF 5, section 5.7): the type of the result, and the parameters.
 use Rattle.std.specs.Prelude.{nat_lt, not, List, [], ◌∷◌, ◌++◌, length, map, Bool, false}
 use Rattle.std.specs.Prelude.{if◌then◌else◌}
+use Rattle.c_model.specs.declared.kinds.TheConstants.{BTF_KIND_FUNC_PROTO}
 use Rattle.c_model.specs.declared.label.Label.{Label}
 use Rattle.c_model.specs.declared.label.Part.{Part}
 use Rattle.dwarf_forms.specs.Meanings.{Sections}
@@ -36,7 +37,14 @@ rest_target variadic = if variadic then Void ∷ [] else []
 
 abbrev pub function_label : List Part → Label
 function_label parts =
-    record { kind = 13; name = []; flag = false; size = 0; extra = 0; parts = parts }
+    record {
+      kind = BTF_KIND_FUNC_PROTO;
+      name = [];
+      flag = false;
+      size = 0;
+      extra = 0;
+      parts = parts;
+    }
 
 abbrev pub function_parts : Sections → List Given → List Part
 function_parts c children =

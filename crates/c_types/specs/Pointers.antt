@@ -6,6 +6,7 @@
 use Rattle.std.specs.Prelude.{ℕ, ◌-◌, ◌==◌, ◌&&◌, Bool, List, [], ◌∷◌, ◌++◌, codes, Option, None}
 use Rattle.std.specs.Prelude.{Some, is_some, if◌then◌else◌}
 use Rattle.std.specs.Str.{bytes_eq}
+use Rattle.c_model.specs.declared.kinds.TheConstants.{BTF_KIND_PTR, BTF_KIND_TYPE_TAG}
 use Rattle.dwarf_forms.specs.Meanings.{Sections}
 use Rattle.entry_tree.specs.Items.{Given}
 use Rattle.type_attributes.specs.declared.source.SourceType.{SourceType}
@@ -37,7 +38,8 @@ link_to c from own (k ∷ kids) = if is_type_tag c k then Entry from k.at else l
 abbrev pub pointer_row : Sections → Given → List Given → Row
 pointer_row c p children =
     record {
-      made = type_of p (plain_label 2 [] 0) (link_to c p.at (own_target c p) children ∷ []);
+      made =
+          type_of p (plain_label BTF_KIND_PTR [] 0) (link_to c p.at (own_target c p) children ∷ []);
       refused = (target_asked c p).refused;
     }
 
@@ -64,7 +66,8 @@ tag_in c pointed e = if is_tag_entry c pointed e then Some (name_in_full (tag_as
 -- its type, given the pointer's own type and the children of the pointer behind it
 abbrev pub tag_type : Sections → Target → Given → List Given → SourceType
 tag_type c own e later =
-    type_of e (plain_label 18 (name_in_full (tag_asked c e)) 0) (link_to c e.at own later ∷ [])
+    type_of e (plain_label BTF_KIND_TYPE_TAG (name_in_full (tag_asked c e)) 0)
+    (link_to c e.at own later ∷ [])
 
 abbrev pub tag_made : Sections → Option Target → Given → List Given → Option SourceType
 tag_made c None e after = None

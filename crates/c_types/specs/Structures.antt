@@ -2,6 +2,7 @@
 -- the others have a size and members.
 use Rattle.std.specs.Prelude.{ℕ, ℤ, ◌+◌, ◌*◌, ◌^◌, nat_lt, nat_le, ◌&&◌, not, Bool, false, List, []}
 use Rattle.std.specs.Prelude.{◌++◌, length, map, Option, None, Some, if◌then◌else◌}
+use Rattle.c_model.specs.declared.kinds.TheConstants.{BTF_KIND_FWD, BTF_KIND_STRUCT, BTF_KIND_UNION}
 use Rattle.c_model.specs.declared.label.Label.{Label}
 use Rattle.c_model.specs.declared.label.Part.{Part}
 use Rattle.entry_tree.specs.Items.{Given}
@@ -89,11 +90,11 @@ has_fields members = some_is (has 0x0d) members
 
 abbrev pub forward_label : Bool → List ℕ → Label
 forward_label union name =
-    record { kind = 7; name = name; flag = union; size = 0; extra = 0; parts = [] }
+    record { kind = BTF_KIND_FWD; name = name; flag = union; size = 0; extra = 0; parts = [] }
 
 abbrev pub structure_label : Bool → List ℕ → ℕ → Bool → List Part → Label
 structure_label union name size fields parts = record {
-  kind = if union then 5 else 4;
+  kind = if union then BTF_KIND_UNION else BTF_KIND_STRUCT;
   name = name;
   flag = fields;
   size = size;

@@ -3,6 +3,8 @@
 use Rattle.std.specs.Prelude.{ℕ, ℤ, pos, negsuc, ◌==◌, ◌||◌, Bool, true, false, List, [], ◌∷◌, ◌++◌}
 use Rattle.std.specs.Prelude.{Option, None, Some, Result, Ok, Err, if◌then◌else◌, ⊤, ◌≡◌}
 use Rattle.std.specs.Option.{option_map}
+use Rattle.c_model.specs.declared.kinds.TheConstants.{BTF_KIND_CONST, BTF_KIND_VOLATILE}
+use Rattle.c_model.specs.declared.kinds.TheConstants.{BTF_KIND_RESTRICT, BTF_KIND_TYPEDEF}
 use Rattle.elf_sections.specs.Sections.{section_bytes}
 use Rattle.elf_sections.specs.declared.fault.Kind.TheVariants.{Abbrev as AbbrevSection}
 use Rattle.dwarf_abbrev.specs.Declarations.{Declaration}
@@ -42,11 +44,11 @@ abbrev pub plain_row_of : Sections → Given → Option Row
 plain_row_of c e =
     if e.tag == 0x16 then Some (typedef_row c e)
     else if e.tag == 0x24 then Some (base_row c e)
-    else if e.tag == 0x26 then Some (reference_row 10 [] c e)
-    else if e.tag == 0x35 then Some (reference_row 9 [] c e)
-    else if e.tag == 0x37 then Some (reference_row 11 [] c e)
+    else if e.tag == 0x26 then Some (reference_row BTF_KIND_CONST [] c e)
+    else if e.tag == 0x35 then Some (reference_row BTF_KIND_VOLATILE [] c e)
+    else if e.tag == 0x37 then Some (reference_row BTF_KIND_RESTRICT [] c e)
     else if e.tag == 0x3b then Some (unspecified_row c e)
-    else if e.tag == 0x47 then Some (reference_row 8 atomic_name c e)
+    else if e.tag == 0x47 then Some (reference_row BTF_KIND_TYPEDEF atomic_name c e)
     else None
 
 -- and those whose rows do: arrays, enumerations, pointers, structures, subroutine types and unions

@@ -12,6 +12,7 @@ ghost use Rattle.c_types.specs.Opened.{array_made, array_refused, ComesTo};
 ghost use Rattle.c_types.specs.declared.open.Kept.TheVariants.{Array};
 
 use crate::open::{Complete, OpenArray};
+use c_model::kinds::BTF_KIND_ARRAY;
 use c_model::{Label, Parts};
 use dw_base::Name;
 use dwarf_abbrev::constants::{DW_AT_count, DW_AT_type, DW_AT_upper_bound, DW_TAG_subrange_type};
@@ -189,7 +190,7 @@ pub(crate) fn complete_array<'a>(
     let made = SourceType {
         at: whole.at,
         label: Label {
-            kind: 3,
+            kind: BTF_KIND_ARRAY,
             name: Name::new(&[]),
             flag: false,
             size: 0,

@@ -18,6 +18,7 @@ ghost use Rattle.c_types.specs.Opened.{GathersEnumerator};
 ghost use Rattle.c_types.specs.declared.open.Kept.TheVariants.{Enumeration};
 
 use crate::open::{Complete, OpenEnumeration};
+use c_model::kinds::{BTF_KIND_ENUM, BTF_KIND_ENUM64};
 use c_model::{Label, Part, Parts};
 use dw_base::Name;
 use dwarf_abbrev::constants::{DW_AT_byte_size, DW_AT_const_value, DW_TAG_enumerator};
@@ -203,7 +204,7 @@ fn make_enumeration<'a>(
 {
     if wide {
         Label {
-            kind: 19,
+            kind: BTF_KIND_ENUM64,
             name,
             flag: signed,
             size,
@@ -212,7 +213,7 @@ fn make_enumeration<'a>(
         }
     } else {
         Label {
-            kind: 6,
+            kind: BTF_KIND_ENUM,
             name,
             flag: signed,
             size,

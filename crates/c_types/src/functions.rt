@@ -11,6 +11,7 @@ ghost use Rattle.c_types.specs.Opened.{function_made, function_refused, ComesTo,
 ghost use Rattle.c_types.specs.declared.open.Kept.TheVariants.{Function};
 
 use crate::open::{Complete, OpenFunction};
+use c_model::kinds::BTF_KIND_FUNC_PROTO;
 use c_model::{Label, Part, Parts};
 use dw_base::Name;
 use dwarf_abbrev::constants::{DW_AT_type, DW_TAG_formal_parameter, DW_TAG_unspecified_parameters};
@@ -111,7 +112,7 @@ pub(crate) fn complete_function<'a>(whole: OpenFunction<'a>) -> Result<Complete<
     let made = SourceType {
         at,
         label: Label {
-            kind: 13,
+            kind: BTF_KIND_FUNC_PROTO,
             name: Name::new(&[]),
             flag: false,
             size: 0,

@@ -24,11 +24,6 @@ use type_attributes::labels::{is_unnamed, make_label, one_target};
 use type_attributes::source::{SourceType, Target};
 use type_attributes::tags::DW_TAG_GNU_annotation;
 
-/// The kinds of BTF that pointers and their tags are.
-pub(crate) const BTF_KIND_PTR: u8 = 2;
-
-pub(crate) const BTF_KIND_TYPE_TAG: u8 = 18;
-
 /// The type of a pointer, or of a tag entry, that refers to a target.
 pub(crate) fn pointing<'a>(
     alloc: Global,

@@ -11,6 +11,11 @@ ghost use Rattle.split_base.specs.declared.fault.TableFault.TheVariants.{TableTo
 use crate::fault::TableFault;
 use btf_strings::Strings;
 use c_model::CType;
+use c_model::kinds::{
+    BTF_KIND_ARRAY, BTF_KIND_DATASEC, BTF_KIND_DECL_TAG, BTF_KIND_ENUM, BTF_KIND_ENUM64,
+    BTF_KIND_FLOAT, BTF_KIND_FUNC_PROTO, BTF_KIND_INT, BTF_KIND_PTR, BTF_KIND_STRUCT,
+    BTF_KIND_TYPE_TAG, BTF_KIND_UNION, BTF_KIND_VAR,
+};
 
 /// Counts the bytes of own types and own strings. `TableTooLong` comes where a header can't say so
 /// many.
@@ -60,9 +65,14 @@ fn words_besides(kind: u8) -> u64
     ensures { result ≡ words_besides (layout_of kind) }
 {
     match kind {
-        1 | 14 | 17 => 4,
-        2 | 4..=13 | 15 | 16 | 18 | 19 => 3,
-        3 => 6,
+        BTF_KIND_INT | BTF_KIND_VAR | BTF_KIND_DECL_TAG => 4,
+        BTF_KIND_PTR
+        | BTF_KIND_STRUCT..=BTF_KIND_FUNC_PROTO
+        | BTF_KIND_DATASEC
+        | BTF_KIND_FLOAT
+        | BTF_KIND_TYPE_TAG
+        | BTF_KIND_ENUM64 => 3,
+        BTF_KIND_ARRAY => 6,
         _ => 2,
     }
 }
@@ -72,8 +82,8 @@ fn words_each(kind: u8) -> u64
     ensures { result ≡ words_each (layout_of kind) }
 {
     match kind {
-        4 | 5 | 15 | 19 => 3,
-        6 | 13 => 2,
+        BTF_KIND_STRUCT | BTF_KIND_UNION | BTF_KIND_DATASEC | BTF_KIND_ENUM64 => 3,
+        BTF_KIND_ENUM | BTF_KIND_FUNC_PROTO => 2,
         _ => 0,
     }
 }
