@@ -11,6 +11,7 @@ use Rattle.c_types.specs.Taking.{made_if}
 use Rattle.c_types.specs.Arrays.{subrange_length, is_long, some_long, or_zero, product_of}
 use Rattle.c_types.specs.Arrays.{lengths_of, is_refused, elements_in}
 use Rattle.c_types.specs.Lengths.{start, extended, is_too_long, elements_from}
+use Rattle.dwarf_abbrev.specs.declared.constants.TheConstants.{DW_TAG_subrange_type}
 
 -- a product that stops at 2^32, times more
 over : (a r : ℕ) → (r < 1) ⊎ (1 ≤ r) → 2 ^ 32 ≤ a → min (2 ^ 32 * r) (2 ^ 32) ≡ min (a * r) (2 ^ 32)
@@ -114,11 +115,14 @@ extend_one l e es true = refl
 extend_one l e es false = refl
 
 pub extends : (l more all : Lengths) (old new : List Given) (e : Given) → old ≡ e ∷ new
-    → more ≡ extended l (made_if 0x21 subrange_length e) → extended l (lengths_of old) ≡ all
+    → more ≡ extended l (made_if DW_TAG_subrange_type subrange_length e)
+    → extended l (lengths_of old) ≡ all
     → extended more (lengths_of new) ≡ all
 extends l more all old new e took made h =
-    ap (λ (m : Lengths). extended m (lengths_of new)) made ∙ sym (extend_one l e (tagged 0x21 new)
-    (e.tag == 0x21)) ∙ sym (ap (λ (ks : List Given). extended l (lengths_of ks)) took) ∙ h
+    ap (λ (m : Lengths). extended m (lengths_of new)) made
+    ∙ sym (extend_one l e (tagged DW_TAG_subrange_type new)
+    (e.tag == DW_TAG_subrange_type))
+    ∙ sym (ap (λ (ks : List Given). extended l (lengths_of ks)) took) ∙ h
 
 pub extended_all : (l all : Lengths) (kids : List Given) → kids ≡ []
     → extended l (lengths_of kids) ≡ all → l ≡ all

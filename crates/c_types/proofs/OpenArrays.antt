@@ -14,6 +14,7 @@ use Rattle.c_types.specs.Lengths.{start, extended, is_too_long}
 use Rattle.c_types.specs.Opened.{all_lengths, array_by, array_made, array_refused, ComesTo}
 use Rattle.type_attributes.proofs.Noting.{noted_append}
 use Rattle.c_types.proofs.Lengthening.{extends, refused_is, elements_are}
+use Rattle.dwarf_abbrev.specs.declared.constants.TheConstants.{DW_AT_type, DW_TAG_subrange_type}
 
 pub made_is : (o : OpenArray) (kids : List Given)
     → array_made o kids ≡ array_by o (all_lengths o kids)
@@ -27,7 +28,8 @@ refused_by_length o kids = refl
 
 -- a child is met
 module _ (e : Given) (o p : OpenArray) (kids : List Given)
-    (g : p.lengths ≡ extended o.lengths (made_if 0x21 subrange_length e)) (at : p.at ≡ o.at) where
+    (g : p.lengths ≡ extended o.lengths (made_if DW_TAG_subrange_type subrange_length e))
+    (at : p.at ≡ o.at) where
   lengths_met : all_lengths p kids ≡ all_lengths o (e ∷ kids)
   lengths_met = extends o.lengths p.lengths (all_lengths o (e ∷ kids)) (e ∷ kids) kids e refl g refl
 
@@ -44,7 +46,8 @@ pub record IsFresh (c : Sections) (e : Given) (o : OpenArray) : Type 0 where
   pub target : o.target ≡ target_of_type e.at (target_asked c e)
   pub lengths : o.lengths ≡ start
   pub least : o.least
-      ≡ noted None ((target_asked c e).refused ++ refuse_if (not (has 0x49 e)) (MissingType e.at))
+      ≡ noted None
+      ((target_asked c e).refused ++ refuse_if (not (has DW_AT_type e)) (MissingType e.at))
 
 pub array_comes : (s : Scope) (e : Given) (o : OpenArray) → IsFresh s.sections e o
     → ComesTo s (Array o) (array_row s.sections e)

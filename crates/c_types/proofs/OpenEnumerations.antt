@@ -25,6 +25,8 @@ use Rattle.c_types.specs.Opened.{enumeration_made, own_sign, too_many, enumerate
 use Rattle.c_types.specs.Opened.{enumeration_refused, GathersEnumerator, ComesTo}
 use Rattle.type_attributes.proofs.Noting.{noted_append}
 use Rattle.c_types.proofs.Gathering.{gathers, notes, tests, tag_tests}
+use Rattle.dwarf_abbrev.specs.declared.constants.TheConstants.{DW_AT_byte_size, DW_AT_declaration}
+use Rattle.dwarf_abbrev.specs.declared.constants.TheConstants.{DW_TAG_enumerator}
 
 made_is : (c : Sections) (o : OpenEnumeration) (kids : List Given) → enumeration_made c o kids
     ≡ enumeration_by o (ends_bare o kids) (all_negative o kids) (all_enumerators c o kids)
@@ -74,24 +76,29 @@ own_unsigned o e = rw e refl
 module _ (c : Sections) (e : Given) (o p : OpenEnumeration) (kids : List Given)
     (g : GathersEnumerator c e o p) where
   some_met : all_some p kids ≡ all_some o (e ∷ kids)
-  some_met = tests (λ (k : Given). k.tag == 0x28) (e ∷ kids) kids e o.has_some p.has_some
+  some_met =
+      tests (λ (k : Given). k.tag == DW_TAG_enumerator) (e ∷ kids) kids e o.has_some p.has_some
       (all_some o (e ∷ kids)) refl g.has_some refl
 
   negative_met : all_negative p kids ≡ all_negative o (e ∷ kids)
-  negative_met = tag_tests 0x28 is_negative (e ∷ kids) kids e o.has_negative p.has_negative
+  negative_met =
+      tag_tests DW_TAG_enumerator is_negative (e ∷ kids) kids e o.has_negative p.has_negative
       (all_negative o (e ∷ kids)) refl g.has_negative refl
 
   parts_met : all_enumerators c p kids ≡ all_enumerators c o (e ∷ kids)
   parts_met =
-      ap (λ (w : Bool). p.parts.items ++ map (enumerator_part c w) (tagged 0x28 kids)) g.wide
-      ∙ gathers 0x28 (enumerator_part c o.wide) (e ∷ kids) kids e o.parts.items p.parts.items
+      ap (λ (w : Bool).
+      p.parts.items ++ map (enumerator_part c w) (tagged DW_TAG_enumerator kids)) g.wide
+      ∙ gathers DW_TAG_enumerator (enumerator_part c o.wide)
+      (e ∷ kids) kids e o.parts.items p.parts.items
       (all_enumerators c o (e ∷ kids)) refl g.parts refl
 
   bare_met : ends_bare p kids ≡ ends_bare o (e ∷ kids)
   bare_met = rw (g.name, some_met) refl
 
   own_met : (b : Bool)
-      → own_sign p b ≡ noted (own_sign o b) (refused_if 0x28 (enumerator_refused c o.wide b) e)
+      → own_sign p b
+      ≡ noted (own_sign o b) (refused_if DW_TAG_enumerator (enumerator_refused c o.wide b) e)
   own_met true = g.signed
   own_met false = g.unsigned
 
@@ -99,19 +106,22 @@ module _ (c : Sections) (e : Given) (o p : OpenEnumeration) (kids : List Given)
       → enumerated c p b count kids ≡ enumerated c o b count (e ∷ kids)
   enumerated_met b count =
       let many = too_many o.at count in
-      let n : noted (own_sign p b) (refused_by (enumerator_refused c o.wide b) (tagged 0x28 kids))
+      let n : noted (own_sign p b)
+      (refused_by (enumerator_refused c o.wide b) (tagged DW_TAG_enumerator kids))
       ≡ noted (own_sign o b)
-      (refused_by (enumerator_refused c o.wide b) (tagged 0x28 (e ∷ kids))) =
-      notes 0x28 (enumerator_refused c o.wide b) (e ∷ kids) kids e (own_sign o b)
+      (refused_by (enumerator_refused c o.wide b) (tagged DW_TAG_enumerator (e ∷ kids))) =
+      notes DW_TAG_enumerator (enumerator_refused c o.wide b) (e ∷ kids) kids e (own_sign o b)
       (own_sign p b) _ refl (own_met b) refl in
       ap (λ (w : Bool). noted (own_sign p b)
-      (refused_by (enumerator_refused c w b) (tagged 0x28 kids) ++ too_many p.at count)) g.wide
+      (refused_by (enumerator_refused c w b) (tagged DW_TAG_enumerator kids)
+      ++ too_many p.at count)) g.wide
       ∙ ap (λ (at : ℕ). noted (own_sign p b)
-      (refused_by (enumerator_refused c o.wide b) (tagged 0x28 kids) ++ too_many at count)) g.at
+      (refused_by (enumerator_refused c o.wide b) (tagged DW_TAG_enumerator kids)
+      ++ too_many at count)) g.at
       ∙ noted_append (own_sign p b) (refused_by (enumerator_refused c o.wide b)
-      (tagged 0x28 kids)) many ∙ ap (λ (x : Option TypeFault). noted x many) n
+      (tagged DW_TAG_enumerator kids)) many ∙ ap (λ (x : Option TypeFault). noted x many) n
       ∙ sym (noted_append (own_sign o b)
-      (refused_by (enumerator_refused c o.wide b) (tagged 0x28 (e ∷ kids))) many)
+      (refused_by (enumerator_refused c o.wide b) (tagged DW_TAG_enumerator (e ∷ kids))) many)
 
   pub enumeration_met : enumeration_made c p kids ≡ enumeration_made c o (e ∷ kids)
   enumeration_met = made_is c p kids ∙ rw (
@@ -140,16 +150,17 @@ module _ (c : Sections) (e : Given) (o p : OpenEnumeration) (kids : List Given)
 pub record IsFresh (c : Sections) (e : Given) (o : OpenEnumeration) : Type 0 where
   pub at : o.at ≡ e.at
   pub name : o.name ≡ name_in_full (name_asked c e)
-  pub size : o.size ≡ size_in (constant_asked 0x0b e).said
-  pub wide : o.wide ≡ (size_in (constant_asked 0x0b e).said == 8)
+  pub size : o.size ≡ size_in (constant_asked DW_AT_byte_size e).said
+  pub wide : o.wide ≡ (size_in (constant_asked DW_AT_byte_size e).said == 8)
   pub has_some : o.has_some ≡ false
   pub has_negative : o.has_negative ≡ false
   pub parts : o.parts.items ≡ []
-  pub bare : o.bare ≡ noted (noted None (flag_asked 0x3c e).refused) (name_asked c e).refused
-  pub unsigned : o.unsigned ≡ noted (noted o.bare (constant_asked 0x0b e).refused)
-      (enum_size_refused e.at (constant_asked 0x0b e).said)
-  pub signed : o.signed ≡ noted (noted o.bare (constant_asked 0x0b e).refused)
-      (enum_size_refused e.at (constant_asked 0x0b e).said)
+  pub bare : o.bare
+      ≡ noted (noted None (flag_asked DW_AT_declaration e).refused) (name_asked c e).refused
+  pub unsigned : o.unsigned ≡ noted (noted o.bare (constant_asked DW_AT_byte_size e).refused)
+      (enum_size_refused e.at (constant_asked DW_AT_byte_size e).said)
+  pub signed : o.signed ≡ noted (noted o.bare (constant_asked DW_AT_byte_size e).refused)
+      (enum_size_refused e.at (constant_asked DW_AT_byte_size e).said)
 
 abbrev named : Sections → Given → List ℕ
 named c e = name_in_full (name_asked c e)
@@ -160,12 +171,14 @@ row_by c e bare negative enumerators = if bare then bare_row (named c e) e false
     else enumerated_row (named c e) e c negative enumerators
 
 abbrev bare_of : Sections → Given → List Given → Bool
-bare_of c e kids = not (some_tagged 0x28 kids) && not (is_empty (named c e))
+bare_of c e kids = not (some_tagged DW_TAG_enumerator kids) && not (is_empty (named c e))
 
-row_open : (c : Sections) (e : Given) (kids : List Given) → is_set (flag_asked 0x3c e) ≡ false
+row_open : (c : Sections) (e : Given) (kids : List Given)
+    → is_set (flag_asked DW_AT_declaration e) ≡ false
     → enumeration_row c e kids
-    ≡ with_refused ((flag_asked 0x3c e).refused ++ (name_asked c e).refused)
-    (row_by c e (bare_of c e kids) (some_is is_negative (tagged 0x28 kids)) (tagged 0x28 kids))
+    ≡ with_refused ((flag_asked DW_AT_declaration e).refused ++ (name_asked c e).refused)
+    (row_by c e (bare_of c e kids) (some_is is_negative (tagged DW_TAG_enumerator kids))
+    (tagged DW_TAG_enumerator kids))
 row_open c e kids h = rw h refl
 
 abbrev made_by : Sections → Given → Bool → Bool → List Given → SourceType
@@ -174,9 +187,11 @@ made_by c e bare negative enumerators =
       at = e.at;
       label = if bare
           then enumeration_label false (named c e) false 4 []
-          else enumeration_label (size_in (constant_asked 0x0b e).said == 8) (named c e) negative
-          (size_in (constant_asked 0x0b e).said)
-          (map (enumerator_part c (size_in (constant_asked 0x0b e).said == 8)) enumerators);
+          else enumeration_label (size_in (constant_asked DW_AT_byte_size e).said == 8)
+          (named c e) negative
+          (size_in (constant_asked DW_AT_byte_size e).said)
+          (map (enumerator_part c (size_in (constant_asked DW_AT_byte_size e).said == 8))
+          enumerators);
       targets = [];
     }
 
@@ -201,17 +216,20 @@ by_way true x y fs r q h k = h
 by_way false x y fs r q h k = k
 
 module _ (c : Sections) (e : Given) (o : OpenEnumeration) (h : IsFresh c e o) where
-  bare_way : o.bare ≡ noted None (((flag_asked 0x3c e).refused ++ (name_asked c e).refused)
+  bare_way : o.bare
+      ≡ noted None (((flag_asked DW_AT_declaration e).refused ++ (name_asked c e).refused)
       ++ (bare_row (named c e) e false).refused)
   bare_way =
-      h.bare ∙ sym (noted_append None (flag_asked 0x3c e).refused (name_asked c e).refused)
+      h.bare ∙ sym
+      (noted_append None (flag_asked DW_AT_declaration e).refused (name_asked c e).refused)
       ∙ ap (λ (fs : List TypeFault). noted None fs)
-      (sym (append-nil ((flag_asked 0x3c e).refused ++ (name_asked c e).refused)))
+      (sym (append-nil ((flag_asked DW_AT_declaration e).refused ++ (name_asked c e).refused)))
 
   enumerated_way : (kids : List Given) (negative : Bool)
-      → enumerated c o negative (length (map (enumerator_part c o.wide) (tagged 0x28 kids))) kids
-      ≡ noted None (((flag_asked 0x3c e).refused ++ (name_asked c e).refused)
-      ++ (enumerated_row (named c e) e c negative (tagged 0x28 kids)).refused)
+      → enumerated c o negative
+      (length (map (enumerator_part c o.wide) (tagged DW_TAG_enumerator kids))) kids
+      ≡ noted None (((flag_asked DW_AT_declaration e).refused ++ (name_asked c e).refused)
+      ++ (enumerated_row (named c e) e c negative (tagged DW_TAG_enumerator kids)).refused)
   enumerated_way kids negative =
       rw (
         fresh_own o _ negative h.unsigned h.signed,
@@ -219,47 +237,57 @@ module _ (c : Sections) (e : Given) (o : OpenEnumeration) (h : IsFresh c e o) wh
         h.wide,
         h.at,
         length-map
-            (tagged 0x28 kids) (enumerator_part c (size_in (constant_asked 0x0b e).said == 8)),
+            (tagged DW_TAG_enumerator kids)
+            (enumerator_part c (size_in (constant_asked DW_AT_byte_size e).said == 8)),
       )
-      (several (flag_asked 0x3c e).refused (name_asked c e).refused (constant_asked 0x0b e).refused
-      (enum_size_refused e.at (constant_asked 0x0b e).said)
-      (refused_by (enumerator_refused c (size_in (constant_asked 0x0b e).said == 8) negative)
-      (tagged 0x28 kids)) (too_many e.at (length (tagged 0x28 kids))))
+      (several (flag_asked DW_AT_declaration e).refused (name_asked c e).refused
+      (constant_asked DW_AT_byte_size e).refused
+      (enum_size_refused e.at (constant_asked DW_AT_byte_size e).said)
+      (refused_by
+      (enumerator_refused c (size_in (constant_asked DW_AT_byte_size e).said == 8) negative)
+      (tagged DW_TAG_enumerator kids)) (too_many e.at (length (tagged DW_TAG_enumerator kids))))
 
   fresh_refused : (kids : List Given) → enumeration_refused c o kids
-      ≡ noted None (((flag_asked 0x3c e).refused ++ (name_asked c e).refused) ++ (row_by c e
-      (bare_of c e kids) (some_is is_negative (tagged 0x28 kids)) (tagged 0x28 kids)).refused)
+      ≡ noted None
+      (((flag_asked DW_AT_declaration e).refused ++ (name_asked c e).refused) ++ (row_by c e
+      (bare_of c e kids) (some_is is_negative (tagged DW_TAG_enumerator kids))
+      (tagged DW_TAG_enumerator kids)).refused)
   fresh_refused kids =
-      let negative = some_is is_negative (tagged 0x28 kids) in
+      let negative = some_is is_negative (tagged DW_TAG_enumerator kids) in
       let ways : ends_bare o kids ≡ bare_of c e kids = rw (h.name, h.has_some) refl in
-      let n : all_negative o kids ≡ some_is is_negative (tagged 0x28 kids) =
+      let n : all_negative o kids ≡ some_is is_negative (tagged DW_TAG_enumerator kids) =
       rw h.has_negative refl in
-      let p : all_enumerators c o kids ≡ map (enumerator_part c o.wide) (tagged 0x28 kids) =
+      let p : all_enumerators c o kids
+      ≡ map (enumerator_part c o.wide) (tagged DW_TAG_enumerator kids) =
       rw h.parts refl in
       refused_is c o kids
       ∙ rw (ways, n, p)
-      (by_way (bare_of c e kids) _ _ ((flag_asked 0x3c e).refused ++ (name_asked c e).refused)
+      (by_way (bare_of c e kids) _ _
+      ((flag_asked DW_AT_declaration e).refused ++ (name_asked c e).refused)
       (bare_row (named c e) e false) (enumerated_row (named c e) e c negative
-      (tagged 0x28 kids)) bare_way (enumerated_way kids negative))
+      (tagged DW_TAG_enumerator kids)) bare_way (enumerated_way kids negative))
 
   fresh_made : (kids : List Given) → enumeration_made c o kids
-      ≡ made_by c e (bare_of c e kids) (some_is is_negative (tagged 0x28 kids)) (tagged 0x28 kids)
+      ≡ made_by c e (bare_of c e kids) (some_is is_negative (tagged DW_TAG_enumerator kids))
+      (tagged DW_TAG_enumerator kids)
   fresh_made kids =
       made_is c o kids ∙ rw (h.at, h.name, h.has_some, h.has_negative, h.parts, h.size, h.wide) refl
 
-  came_made : is_set (flag_asked 0x3c e) ≡ false → (kids : List Given)
+  came_made : is_set (flag_asked DW_AT_declaration e) ≡ false → (kids : List Given)
       → enumeration_made c o kids ≡ (enumeration_row c e kids).made
   came_made defined kids = fresh_made kids
-      ∙ made_way c e (bare_of c e kids) (some_is is_negative (tagged 0x28 kids)) (tagged 0x28 kids)
+      ∙ made_way c e (bare_of c e kids) (some_is is_negative (tagged DW_TAG_enumerator kids))
+      (tagged DW_TAG_enumerator kids)
       ∙ ap (λ (r : Row). r.made) (sym (row_open c e kids defined))
 
-  came_refused : is_set (flag_asked 0x3c e) ≡ false → (kids : List Given)
+  came_refused : is_set (flag_asked DW_AT_declaration e) ≡ false → (kids : List Given)
       → enumeration_refused c o kids ≡ noted None (enumeration_row c e kids).refused
   came_refused defined kids =
       fresh_refused kids ∙ ap (λ (r : Row). noted None r.refused) (sym (row_open c e kids defined))
 
 pub enumeration_comes : (s : Scope) (e : Given) (o : OpenEnumeration) → IsFresh s.sections e o
-    → is_set (flag_asked 0x3c e) ≡ false → ComesTo s (Enumeration o) (enumeration_row s.sections e)
+    → is_set (flag_asked DW_AT_declaration e) ≡ false
+    → ComesTo s (Enumeration o) (enumeration_row s.sections e)
 enumeration_comes s e o h defined = record {
   made = came_made s.sections e o h defined;
   refused = came_refused s.sections e o h defined;

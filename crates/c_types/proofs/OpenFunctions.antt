@@ -19,6 +19,8 @@ use Rattle.c_types.specs.Opened.{function_made, too_many, function_refused, Gath
 use Rattle.c_types.specs.Opened.{ComesTo}
 use Rattle.type_attributes.proofs.Noting.{noted_append}
 use Rattle.c_types.proofs.Gathering.{gathers, notes, tests}
+use Rattle.dwarf_abbrev.specs.declared.constants.TheConstants.{DW_TAG_formal_parameter}
+use Rattle.dwarf_abbrev.specs.declared.constants.TheConstants.{DW_TAG_unspecified_parameters}
 
 made_is : (c : Sections) (o : OpenFunction) (kids : List Given) → function_made c o kids
     ≡ function_by o.at (all_variadic o kids) (all_parameters c o kids) (all_results c o kids)
@@ -27,7 +29,7 @@ made_is c o kids = refl
 
 refused_is : (c : Sections) (o : OpenFunction) (kids : List Given)
     → function_refused c o kids
-    ≡ noted o.least (refused_by (parameter_refused c) (tagged 0x05 kids)
+    ≡ noted o.least (refused_by (parameter_refused c) (tagged DW_TAG_formal_parameter kids)
     ++ too_many o.at (length (all_parameters c o kids ++ rest_part (all_variadic o kids))))
 unfolding function_refused
 refused_is c o kids = refl
@@ -56,24 +58,28 @@ refused_closed c o =
 module _ (c : Sections) (e : Given) (o p : OpenFunction) (kids : List Given)
     (g : GathersParameter c e o p) where
   variadic_met : all_variadic p kids ≡ all_variadic o (e ∷ kids)
-  variadic_met = tests (λ (k : Given). k.tag == 0x18) (e ∷ kids) kids e o.variadic p.variadic
+  variadic_met = tests (λ (k : Given). k.tag == DW_TAG_unspecified_parameters)
+      (e ∷ kids) kids e o.variadic p.variadic
       (all_variadic o (e ∷ kids)) refl g.variadic refl
 
   parts_met : all_parameters c p kids ≡ all_parameters c o (e ∷ kids)
-  parts_met = gathers 0x05 (parameter_part c) (e ∷ kids) kids e o.parts.items p.parts.items
+  parts_met = gathers DW_TAG_formal_parameter (parameter_part c)
+      (e ∷ kids) kids e o.parts.items p.parts.items
       (all_parameters c o (e ∷ kids)) refl g.parts refl
 
   targets_met : all_results c p kids ≡ all_results c o (e ∷ kids)
-  targets_met = gathers 0x05 (parameter_target c) (e ∷ kids) kids e o.targets.items p.targets.items
+  targets_met = gathers DW_TAG_formal_parameter (parameter_target c)
+      (e ∷ kids) kids e o.targets.items p.targets.items
       (all_results c o (e ∷ kids)) refl g.targets refl
 
   pub function_met : function_made c p kids ≡ function_made c o (e ∷ kids)
   function_met = made_is c p kids
       ∙ rw (variadic_met, parts_met, targets_met, g.at) (sym (made_is c o (e ∷ kids)))
 
-  noted_met : noted p.least (refused_by (parameter_refused c) (tagged 0x05 kids))
-      ≡ noted o.least (refused_by (parameter_refused c) (tagged 0x05 (e ∷ kids)))
-  noted_met = notes 0x05 (parameter_refused c) (e ∷ kids) kids e o.least p.least _ refl g.least refl
+  noted_met : noted p.least (refused_by (parameter_refused c) (tagged DW_TAG_formal_parameter kids))
+      ≡ noted o.least (refused_by (parameter_refused c) (tagged DW_TAG_formal_parameter (e ∷ kids)))
+  noted_met = notes DW_TAG_formal_parameter (parameter_refused c)
+      (e ∷ kids) kids e o.least p.least _ refl g.least refl
 
   pub function_met_refused : function_refused c p kids ≡ function_refused c o (e ∷ kids)
   function_met_refused =
@@ -81,9 +87,11 @@ module _ (c : Sections) (e : Given) (o p : OpenFunction) (kids : List Given)
       (length (all_parameters c o (e ∷ kids) ++ rest_part (all_variadic o (e ∷ kids)))) in
       refused_is c p kids
       ∙ rw (variadic_met, parts_met, g.at)
-      (noted_append p.least (refused_by (parameter_refused c) (tagged 0x05 kids)) many
+      (noted_append p.least
+      (refused_by (parameter_refused c) (tagged DW_TAG_formal_parameter kids)) many
       ∙ ap (λ (x : Option TypeFault). noted x many) noted_met
-      ∙ sym (noted_append o.least (refused_by (parameter_refused c) (tagged 0x05 (e ∷ kids)))
+      ∙ sym (noted_append o.least
+      (refused_by (parameter_refused c) (tagged DW_TAG_formal_parameter (e ∷ kids)))
       many) ∙ sym (refused_is c o (e ∷ kids)))
 
 -- a subroutine type begins

@@ -15,6 +15,7 @@ use Rattle.type_attributes.specs.Attributes.{name_asked, name_in_full}
 use Rattle.c_types.specs.Pointers.{is_type_tag, link_to, is_tag_entry, tag_asked, tag_in}
 use Rattle.c_types.specs.Opened.{pointer_by, pointer_made}
 use Rattle.c_types.specs.Types.{row_of}
+use Rattle.type_attributes.specs.declared.tags.TheConstants.{DW_TAG_GNU_annotation}
 
 pub made_is : (c : Sections) (o : OpenPointer) (kids : List Given)
     → pointer_made c o kids ≡ pointer_by o (link_to c o.at o.own kids)
@@ -41,19 +42,22 @@ pointer_linked c e o kids tagged =
 
 -- what a type tag is
 pub tag_is : (c : Sections) (e : Given) → is_type_tag c e
-    ≡ (e.tag == 0x6000 && bytes_eq (name_in_full (name_asked c e)) (codes "btf_type_tag"))
+    ≡ (e.tag == DW_TAG_GNU_annotation
+    && bytes_eq (name_in_full (name_asked c e)) (codes "btf_type_tag"))
 unfolding is_type_tag
 tag_is c e = refl
 
-pub tag_by : (c : Sections) (e : Given) (b : Bool) → e.tag ≡ 0x6000
+pub tag_by : (c : Sections) (e : Given) (b : Bool) → e.tag ≡ DW_TAG_GNU_annotation
     → b ≡ bytes_eq (name_in_full (name_asked c e)) (codes "btf_type_tag") → is_type_tag c e ≡ b
 tag_by c e b is named = tag_is c e ∙ rw is (sym named)
 
-other_tag : (c : Sections) (e : Given) → e.tag ≢ 0x6000 → is_type_tag c e ≡ false
-other_tag c e ne = let differs : (e.tag == 0x6000) ≡ false = ne_eqb e.tag 0x6000 ne in
+other_tag : (c : Sections) (e : Given) → e.tag ≢ DW_TAG_GNU_annotation → is_type_tag c e ≡ false
+other_tag c e ne = let differs : (e.tag == DW_TAG_GNU_annotation) ≡ false =
+    ne_eqb e.tag DW_TAG_GNU_annotation ne in
     tag_is c e ∙ rw differs refl
 
-pub no_annotation : (c : Sections) (pointed : Option Target) (e : Given) → e.tag ≢ 0x6000
+pub no_annotation : (c : Sections) (pointed : Option Target) (e : Given)
+    → e.tag ≢ DW_TAG_GNU_annotation
     → tag_in c pointed e ≡ None
 no_annotation c None e ne = refl
 no_annotation c (Some own) e ne = rw (other_tag c e ne) refl
@@ -76,13 +80,14 @@ tag_untold c e n pointed none is =
     none-some n (ap (λ (x : Option Target). tag_in c x e) (sym none) ∙ is)
 
 pub tag_is_annotation : (c : Sections) (pointed : Option Target) (e : Given) (n : List ℕ)
-    → tag_in c pointed e ≡ Some n → e.tag ≡ 0x6000
+    → tag_in c pointed e ≡ Some n → e.tag ≡ DW_TAG_GNU_annotation
 tag_is_annotation c None e n is = absurd (none-some n is)
 tag_is_annotation c (Some own) e n is =
-    let both : (e.tag == 0x6000 && bytes_eq (name_in_full (name_asked c e)) (codes "btf_type_tag"))
+    let both : (e.tag == DW_TAG_GNU_annotation
+    && bytes_eq (name_in_full (name_asked c e)) (codes "btf_type_tag"))
     ≡ true = sym (tag_is c e)
     ∙ (told_by (is_type_tag c e) (name_in_full (tag_asked c e)) n is).0 in
-    eqb-true e.tag 0x6000 (and_parts (e.tag == 0x6000)
+    eqb-true e.tag DW_TAG_GNU_annotation (and_parts (e.tag == DW_TAG_GNU_annotation)
     (bytes_eq (name_in_full (name_asked c e)) (codes "btf_type_tag")) both).0
 
 untold_by : (b : Bool) (m : List ℕ) → None ≡ (if b then Some m else None) → b ≡ false
@@ -94,5 +99,6 @@ pub no_tag_entry : (c : Sections) (pointed : Option Target) (e : Given) → None
 no_tag_entry c pointed e is = untold_by (is_tag_entry c pointed e) (name_in_full (tag_asked c e)) is
 
 -- a tag entry has no row
-pub tag_rowless : (c : Scope) (e : Given) (es : List Given) → e.tag ≡ 0x6000 → row_of c e es ≡ None
+pub tag_rowless : (c : Scope) (e : Given) (es : List Given) → e.tag ≡ DW_TAG_GNU_annotation
+    → row_of c e es ≡ None
 tag_rowless c e es is = rw is refl

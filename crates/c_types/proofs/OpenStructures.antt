@@ -24,6 +24,8 @@ use Rattle.c_types.specs.Opened.{structure_by, structure_made, own, too_many, st
 use Rattle.c_types.specs.Opened.{GathersMember, ComesTo}
 use Rattle.type_attributes.proofs.Noting.{noted_append}
 use Rattle.c_types.proofs.Gathering.{gathers, notes, tag_tests}
+use Rattle.dwarf_abbrev.specs.declared.constants.TheConstants.{DW_AT_bit_size, DW_AT_byte_size}
+use Rattle.dwarf_abbrev.specs.declared.constants.TheConstants.{DW_AT_declaration, DW_TAG_member}
 
 made_is : (c : Scope) (o : OpenStructure) (kids : List Given) → structure_made c o kids
     ≡ structure_by o (all_fields o kids) (all_members c o kids) (all_targets c o kids)
@@ -32,7 +34,8 @@ made_is c o kids = refl
 
 refused_is : (c : Scope) (o : OpenStructure) (kids : List Given)
     → structure_refused c o kids ≡ noted (own o (all_fields o kids)) (refused_by (member_refused c
-    (all_fields o kids)) (tagged 0x0d kids) ++ too_many o.at (length (all_members c o kids)))
+    (all_fields o kids)) (tagged DW_TAG_member kids)
+    ++ too_many o.at (length (all_members c o kids)))
 unfolding structure_refused
 refused_is c o kids = refl
 
@@ -64,22 +67,23 @@ own_plain o e = rw e refl
 
 -- a child is met
 own_gathers : (c : Scope) (e : Given) (o p : OpenStructure) → GathersMember c e o p → (b : Bool)
-    → own p b ≡ noted (own o b) (refused_if 0x0d (member_refused c b) e)
+    → own p b ≡ noted (own o b) (refused_if DW_TAG_member (member_refused c b) e)
 own_gathers c e o p g true = g.packed
 own_gathers c e o p g false = g.plain
 
 module _ (c : Scope) (e : Given) (o p : OpenStructure) (kids : List Given)
     (g : GathersMember c e o p) where
   fields_met : all_fields p kids ≡ all_fields o (e ∷ kids)
-  fields_met = tag_tests 0x0d (has 0x0d) (e ∷ kids) kids e o.fields p.fields
+  fields_met = tag_tests DW_TAG_member (has DW_AT_bit_size) (e ∷ kids) kids e o.fields p.fields
       (all_fields o (e ∷ kids)) refl g.fields refl
 
   members_met : all_members c p kids ≡ all_members c o (e ∷ kids)
-  members_met = gathers 0x0d (kept_of c) (e ∷ kids) kids e o.members.items p.members.items
+  members_met = gathers DW_TAG_member (kept_of c) (e ∷ kids) kids e o.members.items p.members.items
       (all_members c o (e ∷ kids)) refl g.members refl
 
   targets_met : all_targets c p kids ≡ all_targets c o (e ∷ kids)
-  targets_met = gathers 0x0d (member_target c) (e ∷ kids) kids e o.targets.items p.targets.items
+  targets_met =
+      gathers DW_TAG_member (member_target c) (e ∷ kids) kids e o.targets.items p.targets.items
       (all_targets c o (e ∷ kids)) refl g.targets refl
 
   pub structure_met : structure_made c p kids ≡ structure_made c o (e ∷ kids)
@@ -94,9 +98,10 @@ module _ (c : Scope) (e : Given) (o p : OpenStructure) (kids : List Given)
   ) (sym (made_is c o (e ∷ kids)))
 
   noted_met : (fields : Bool)
-      → noted (own p fields) (refused_by (member_refused c fields) (tagged 0x0d kids))
-      ≡ noted (own o fields) (refused_by (member_refused c fields) (tagged 0x0d (e ∷ kids)))
-  noted_met fields = notes 0x0d (member_refused c fields) (e ∷ kids) kids e (own o fields)
+      → noted (own p fields) (refused_by (member_refused c fields) (tagged DW_TAG_member kids))
+      ≡ noted (own o fields)
+      (refused_by (member_refused c fields) (tagged DW_TAG_member (e ∷ kids)))
+  noted_met fields = notes DW_TAG_member (member_refused c fields) (e ∷ kids) kids e (own o fields)
       (own p fields) _ refl (own_gathers c e o p g fields) refl
 
   pub structure_met_refused : structure_refused c p kids ≡ structure_refused c o (e ∷ kids)
@@ -105,10 +110,11 @@ module _ (c : Scope) (e : Given) (o p : OpenStructure) (kids : List Given)
       let many = too_many o.at (length (all_members c o (e ∷ kids))) in
       refused_is c p kids
       ∙ rw (fields_met, members_met, g.at)
-      (noted_append (own p fields) (refused_by (member_refused c fields) (tagged 0x0d kids)) many
+      (noted_append (own p fields)
+      (refused_by (member_refused c fields) (tagged DW_TAG_member kids)) many
       ∙ ap (λ (x : Option TypeFault). noted x many) (noted_met fields)
       ∙ sym (noted_append (own o fields) (refused_by (member_refused c fields)
-      (tagged 0x0d (e ∷ kids))) many) ∙ sym (refused_is c o (e ∷ kids)))
+      (tagged DW_TAG_member (e ∷ kids))) many) ∙ sym (refused_is c o (e ∷ kids)))
 
 -- a structure begins
 near_near : (p : ℕ) (t : Bool) → nat_lt p (2 ^ 32) ≡ t
@@ -136,13 +142,13 @@ pub record IsFresh (c : Scope) (union : Bool) (e : Given) (found : Option TypeFa
   pub at : o.at ≡ e.at
   pub is_union : o.is_union ≡ union
   pub name : o.name ≡ name_in_full (name_asked c.sections e)
-  pub size : o.size ≡ size_in (constant_asked 0x0b e).said
+  pub size : o.size ≡ size_in (constant_asked DW_AT_byte_size e).said
   pub plain : o.plain ≡ found
   pub packed : o.packed ≡ found
 
 fresh_made : (c : Scope) (union : Bool) (e : Given) (found : Option TypeFault) (o : OpenStructure)
     (kids : List Given) → IsFresh c union e found o
-    → structure_made c o kids ≡ (defined_row c union e (tagged 0x0d kids)).made
+    → structure_made c o kids ≡ (defined_row c union e (tagged DW_TAG_member kids)).made
 fresh_made c union e found o kids h =
     made_is c o kids ∙ rw (
       h.members,
@@ -152,7 +158,7 @@ fresh_made c union e found o kids h =
       h.is_union,
       h.name,
       h.size,
-      parts_same c (has_fields (tagged 0x0d kids)) (tagged 0x0d kids),
+      parts_same c (has_fields (tagged DW_TAG_member kids)) (tagged DW_TAG_member kids),
     ) refl
 
 fresh_own : (o : OpenStructure) (found : Option TypeFault) (b : Bool) → o.plain ≡ found
@@ -163,14 +169,15 @@ fresh_own o found false p q = p
 fresh_refused : (c : Scope) (union : Bool) (e : Given) (found : Option TypeFault)
     (o : OpenStructure) (kids : List Given) → IsFresh c union e found o
     → structure_refused c o kids ≡ noted found (refused_by (member_refused c (has_fields
-    (tagged 0x0d kids))) (tagged 0x0d kids) ++ too_many e.at (length (tagged 0x0d kids)))
+    (tagged DW_TAG_member kids))) (tagged DW_TAG_member kids)
+    ++ too_many e.at (length (tagged DW_TAG_member kids)))
 fresh_refused c union e found o kids h =
     refused_is c o kids ∙ rw (
       fresh_own o found (all_fields o kids) h.plain h.packed,
       h.members,
       h.fields,
       h.at,
-      length-map (tagged 0x0d kids) (kept_of c),
+      length-map (tagged DW_TAG_member kids) (kept_of c),
     ) refl
 
 begun : (found : Option TypeFault) (f n s r x : List TypeFault) → found ≡ noted
@@ -178,34 +185,41 @@ begun : (found : Option TypeFault) (f n s r x : List TypeFault) → found ≡ no
 begun found f n s r x e = rw e (simp noted_append)
 
 row_defined : (c : Scope) (union : Bool) (e : Given) (kids : List Given)
-    → is_set (flag_asked 0x3c e) ≡ false
-    → ((structure_row c union e kids).made ≡ (defined_row c union e (tagged 0x0d kids)).made)
+    → is_set (flag_asked DW_AT_declaration e) ≡ false
+    → ((structure_row c union e kids).made
+    ≡ (defined_row c union e (tagged DW_TAG_member kids)).made)
     × ((structure_row c union e kids).refused
-    ≡ (flag_asked 0x3c e).refused ++ (defined_row c union e (tagged 0x0d kids)).refused)
+    ≡ (flag_asked DW_AT_declaration e).refused
+    ++ (defined_row c union e (tagged DW_TAG_member kids)).refused)
 row_defined c union e kids h = (rw h refl, rw h refl)
 
 pub structure_comes : (c : Scope) (union : Bool) (e : Given) (declared found : Option TypeFault)
-    (o : OpenStructure) → is_set (flag_asked 0x3c e) ≡ false
-    → declared ≡ noted None (flag_asked 0x3c e).refused
+    (o : OpenStructure) → is_set (flag_asked DW_AT_declaration e) ≡ false
+    → declared ≡ noted None (flag_asked DW_AT_declaration e).refused
     → found ≡ noted (noted (noted declared (name_asked c.sections e).refused)
-    (constant_asked 0x0b e).refused) (size_refused e.at (constant_asked 0x0b e).said)
+    (constant_asked DW_AT_byte_size e).refused)
+    (size_refused e.at (constant_asked DW_AT_byte_size e).said)
     → IsFresh c union e found o → ComesTo c (Structure o) (structure_row c union e)
 structure_comes c union e declared found o defined d f h =
     record {
       made =
           λ kids. fresh_made c union e found o kids h ∙ sym (row_defined c union e kids defined).0;
       refused = λ kids.
-          let x = refused_by (member_refused c (has_fields (tagged 0x0d kids))) (tagged 0x0d kids)
-          ++ too_many e.at (length (tagged 0x0d kids)) in
-          let s = constant_asked 0x0b e in
-          let all : found ≡ noted (noted (noted (noted None (flag_asked 0x3c e).refused)
-          (name_asked c.sections e).refused) (constant_asked 0x0b e).refused)
-          (size_refused e.at (constant_asked 0x0b e).said) =
+          let x = refused_by (member_refused c (has_fields (tagged DW_TAG_member kids)))
+          (tagged DW_TAG_member kids)
+          ++ too_many e.at (length (tagged DW_TAG_member kids)) in
+          let s = constant_asked DW_AT_byte_size e in
+          let all : found
+          ≡ noted (noted (noted (noted None (flag_asked DW_AT_declaration e).refused)
+          (name_asked c.sections e).refused) (constant_asked DW_AT_byte_size e).refused)
+          (size_refused e.at (constant_asked DW_AT_byte_size e).said) =
           f ∙ ap (λ (y : Option TypeFault). noted
-          (noted (noted y (name_asked c.sections e).refused) (constant_asked 0x0b e).refused)
-          (size_refused e.at (constant_asked 0x0b e).said)) d in
+          (noted (noted y (name_asked c.sections e).refused)
+          (constant_asked DW_AT_byte_size e).refused)
+          (size_refused e.at (constant_asked DW_AT_byte_size e).said)) d in
           fresh_refused c union e found o kids h
-          ∙ begun found (flag_asked 0x3c e).refused (name_asked c.sections e).refused s.refused
+          ∙ begun found (flag_asked DW_AT_declaration e).refused
+          (name_asked c.sections e).refused s.refused
           (size_refused e.at s.said) x all
           ∙ ap
           (λ (fs : List TypeFault). noted None fs) (sym (row_defined c union e kids defined).1);

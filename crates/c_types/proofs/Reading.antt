@@ -22,6 +22,7 @@ use Rattle.c_types.specs.Types.{unit_types, types_in}
 use Rattle.c_types.specs.Walking.{filled, least_of, pointed_at}
 use Rattle.c_types.proofs.Gathering.{tests}
 use Rattle.c_types.proofs.Pointing.{pointed_more}
+use Rattle.dwarf_abbrev.specs.declared.constants.TheConstants.{DW_TAG_array_type}
 
 or_false : (a : Bool) → (a || false) ≡ a
 or_false true = refl
@@ -38,7 +39,8 @@ module _ (c : Scope) (ending : Option WalkFault) (os : List Open) (types : List 
         ≡ types_of c [] c.entries
     pub least_so_far : least_of c os walk.entries current (refusals_of c earlier walk.entries)
         ≡ noted None (refusals_of c [] c.entries)
-    pub arrays_so_far : (has || some_tagged 0x01 walk.entries) ≡ some_tagged 0x01 c.entries
+    pub arrays_so_far : (has || some_tagged DW_TAG_array_type walk.entries)
+        ≡ some_tagged DW_TAG_array_type c.entries
     pub ending_so_far : walk.ending ≡ ending
     pub low : Descends most walk.entries
     pub pointed : (d : ℕ) → d ≤ most → pointed_at os d ≡ pointed_in c.sections earlier d
@@ -48,7 +50,8 @@ module _ (c : Scope) (ending : Option WalkFault) (os : List Open) (types : List 
   at_end h =
       let t : filled c os [] types ≡ types_of c [] c.entries =
       sym (append-nil (filled c os [] types)) ∙ h.types_so_far in
-      let a : has ≡ some_tagged 0x01 c.entries = sym (or_false has) ∙ h.arrays_so_far in
+      let a : has ≡ some_tagged DW_TAG_array_type c.entries =
+      sym (or_false has) ∙ h.arrays_so_far in
       rw (t, a, h.least_so_far, ← h.ending_so_far) refl
 
   pub ended : (walk : Coming) → walk ≡ record { entries = []; ending = None } → IsReading walk
@@ -93,7 +96,7 @@ one_more : (c : Scope) (ending : Option WalkFault) (os : List Open) (types : Lis
     ++ listed (made_of c (pointed_at os e.depth) e behind.entries)
     → ((later : List TypeFault) → least_of c ps behind.entries after later ≡ least_of c os (e
     ∷ behind.entries) current (refused_of c (pointed_at os e.depth) e behind.entries ++ later))
-    → had ≡ (has || e.tag == 0x01) → ((d : ℕ) → d ≤ e.depth + 1 → pointed_at ps d
+    → had ≡ (has || e.tag == DW_TAG_array_type) → ((d : ℕ) → d ≤ e.depth + 1 → pointed_at ps d
     ≡ (if e.depth + 1 == d then own_of_pointer c.sections (Some e) else pointed_at os d))
     → IsReading c ending ps more after had behind
 one_more c ending os types current has ps more after had behind e h t l a p =
@@ -111,8 +114,9 @@ one_more c ending os types current has ps more after had behind e h t l a p =
       least_so_far = l (refusals_of c (e ∷ h.earlier) es) ∙ ap (λ (o : Option Target). least_of c os
           (e ∷ es) current (refused_of c o e es ++ refusals_of c (e ∷ h.earlier) es)) here
           ∙ h.least_so_far;
-      arrays_so_far = tests (λ (g : Given). g.tag == 0x01) (e ∷ behind.entries) behind.entries e has
-          had (some_tagged 0x01 c.entries) refl a h.arrays_so_far;
+      arrays_so_far = tests
+          (λ (g : Given). g.tag == DW_TAG_array_type) (e ∷ behind.entries) behind.entries e has
+          had (some_tagged DW_TAG_array_type c.entries) refl a h.arrays_so_far;
       ending_so_far = h.ending_so_far;
       low = h.low.1;
       pointed = λ (d : ℕ) (le : d ≤ e.depth + 1). p d le
@@ -127,7 +131,7 @@ pub read_more : (c : Scope) (ending : Option WalkFault) (os : List Open) (types 
     ++ listed (made_of c (pointed_at os e.depth) e new.entries)
     → ((later : List TypeFault) → least_of c ps new.entries after later ≡ least_of c os
     (e ∷ new.entries) current (refused_of c (pointed_at os e.depth) e new.entries ++ later))
-    → had ≡ (has || e.tag == 0x01) → ((d : ℕ) → d ≤ e.depth + 1 → pointed_at ps d
+    → had ≡ (has || e.tag == DW_TAG_array_type) → ((d : ℕ) → d ≤ e.depth + 1 → pointed_at ps d
     ≡ (if e.depth + 1 == d then own_of_pointer c.sections (Some e) else pointed_at os d))
     → IsReading c ending ps more after had new
 read_more c ending os types current has old ps more after had new e step h t l a p =

@@ -29,6 +29,17 @@ use Rattle.c_types.specs.Types.{refusals_of, or_least, unit_types, types_in}
 use Rattle.type_attributes.specs.Ordered.{AreInOrder, LieIn}
 use Rattle.c_types.specs.Laws.{TypesRise}
 use Rattle.c_types.proofs.Accepted.{walked, accepted, in_unit}
+use Rattle.dwarf_abbrev.specs.declared.constants.TheConstants.{DW_TAG_array_type}
+use Rattle.dwarf_abbrev.specs.declared.constants.TheConstants.{DW_TAG_atomic_type, DW_TAG_base_type}
+use Rattle.dwarf_abbrev.specs.declared.constants.TheConstants.{DW_TAG_const_type}
+use Rattle.dwarf_abbrev.specs.declared.constants.TheConstants.{DW_TAG_enumeration_type}
+use Rattle.dwarf_abbrev.specs.declared.constants.TheConstants.{DW_TAG_pointer_type}
+use Rattle.dwarf_abbrev.specs.declared.constants.TheConstants.{DW_TAG_restrict_type}
+use Rattle.dwarf_abbrev.specs.declared.constants.TheConstants.{DW_TAG_structure_type}
+use Rattle.dwarf_abbrev.specs.declared.constants.TheConstants.{DW_TAG_subroutine_type}
+use Rattle.dwarf_abbrev.specs.declared.constants.TheConstants.{DW_TAG_typedef, DW_TAG_union_type}
+use Rattle.dwarf_abbrev.specs.declared.constants.TheConstants.{DW_TAG_unspecified_type}
+use Rattle.dwarf_abbrev.specs.declared.constants.TheConstants.{DW_TAG_volatile_type}
 
 -- the type of a row, if there is one, stands at a place
 abbrev StandsAt : ℕ → Option Row → Type 0
@@ -46,24 +57,26 @@ one_of at false r s h k = k
 
 plain_stands : (c : Sections) (e : Given) → StandsAt e.at (plain_row_of c e)
 plain_stands c e =
-    if_tag e.at (e.tag == 0x16) (typedef_row c e) _ refl
-    (if_tag e.at (e.tag == 0x24) (base_row c e) _ refl
-    (if_tag e.at (e.tag == 0x26) (reference_row 10 [] c e) _ refl
-    (if_tag e.at (e.tag == 0x35) (reference_row 9 [] c e) _ refl
-    (if_tag e.at (e.tag == 0x37) (reference_row 11 [] c e) _ refl
-    (if_tag e.at (e.tag == 0x3b) (unspecified_row c e) _ refl
-    (if_tag e.at (e.tag == 0x47) (reference_row 8 atomic_name c e) None refl tt))))))
+    if_tag e.at (e.tag == DW_TAG_typedef) (typedef_row c e) _ refl
+    (if_tag e.at (e.tag == DW_TAG_base_type) (base_row c e) _ refl
+    (if_tag e.at (e.tag == DW_TAG_const_type) (reference_row 10 [] c e) _ refl
+    (if_tag e.at (e.tag == DW_TAG_volatile_type) (reference_row 9 [] c e) _ refl
+    (if_tag e.at (e.tag == DW_TAG_restrict_type) (reference_row 11 [] c e) _ refl
+    (if_tag e.at (e.tag == DW_TAG_unspecified_type) (unspecified_row c e) _ refl
+    (if_tag e.at (e.tag == DW_TAG_atomic_type) (reference_row 8 atomic_name c e) None refl tt))))))
 
 row_stands : (c : Scope) (e : Given) (after : List Given) → StandsAt e.at (row_of c e after)
 row_stands c e after =
     let children = children_of e.depth after in
-    if_tag e.at (e.tag == 0x01) (array_row c.sections e children) _ refl
-    (if_tag e.at (e.tag == 0x04) (enumeration_row c.sections e children) _
+    if_tag e.at (e.tag == DW_TAG_array_type) (array_row c.sections e children) _ refl
+    (if_tag e.at (e.tag == DW_TAG_enumeration_type) (enumeration_row c.sections e children) _
     (one_of e.at _ _ _ refl refl)
-    (if_tag e.at (e.tag == 0x0f) (pointer_row c.sections e children) _ refl
-    (if_tag e.at (e.tag == 0x13) (structure_row c false e children) _ (one_of e.at _ _ _ refl refl)
-    (if_tag e.at (e.tag == 0x15) (function_row c.sections e children) _ refl
-    (if_tag e.at (e.tag == 0x17) (structure_row c true e children) (plain_row_of c.sections e)
+    (if_tag e.at (e.tag == DW_TAG_pointer_type) (pointer_row c.sections e children) _ refl
+    (if_tag e.at (e.tag == DW_TAG_structure_type) (structure_row c false e children) _
+    (one_of e.at _ _ _ refl refl)
+    (if_tag e.at (e.tag == DW_TAG_subroutine_type) (function_row c.sections e children) _ refl
+    (if_tag e.at (e.tag == DW_TAG_union_type) (structure_row c true e children)
+    (plain_row_of c.sections e)
     (one_of e.at _ _ _ refl refl) (plain_stands c.sections e))))))
 
 -- the type that an entry is, if it is one, stands at the entry
@@ -126,7 +139,8 @@ walk_rises : (c : Scope) (ending : Option WalkFault) (from end : ℕ) (t : UnitT
     → Rises c.entries → StandIn from end c.entries → types_in c ending ≡ Ok t
     → AreInOrder t.types × LieIn from end t.types
 walk_rises c ending from end t rise stand e =
-    let u : UnitTypes = unit_types (some_tagged 0x01 c.entries) (types_of c [] c.entries) in
+    let u : UnitTypes =
+    unit_types (some_tagged DW_TAG_array_type c.entries) (types_of c [] c.entries) in
     let a = accepted u t (least (refusals_of c [] c.entries))
     (walked ending (or_least u (least (refusals_of c [] c.entries))) t e) in
     subst (λ (v : UnitTypes). AreInOrder v.types × LieIn from end v.types) a.1 (

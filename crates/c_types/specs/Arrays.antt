@@ -19,6 +19,9 @@ use Rattle.type_attributes.specs.Numbers.{number_from}
 use Rattle.type_attributes.specs.Attributes.{has, target_asked, target_of_type}
 use Rattle.type_attributes.specs.Children.{tagged}
 use Rattle.type_attributes.specs.Labels.{Row, type_of}
+use Rattle.dwarf_abbrev.specs.declared.constants.TheConstants.{DW_AT_count, DW_AT_type}
+use Rattle.dwarf_abbrev.specs.declared.constants.TheConstants.{DW_AT_upper_bound}
+use Rattle.dwarf_abbrev.specs.declared.constants.TheConstants.{DW_TAG_subrange_type}
 
 -- a bound that is a constant
 abbrev pub bound_by : Result ℤ FormFault → Option Number
@@ -46,8 +49,9 @@ length_of_bound (Some (Negative n)) = if n == 0 then Some 0 else None
 
 -- a subrange has the length of its count (0x37), if it has one, or of its upper bound (0x2f)
 abbrev pub subrange_length : Given → Option ℕ
-subrange_length e = if has 0x37 e then length_of_count (bound_in 0x37 (value_with 0x37 e.values))
-    else length_of_bound (bound_in 0x2f (value_with 0x2f e.values))
+subrange_length e = if has DW_AT_count e
+    then length_of_count (bound_in DW_AT_count (value_with DW_AT_count e.values))
+    else length_of_bound (bound_in DW_AT_upper_bound (value_with DW_AT_upper_bound e.values))
 
 -- a length is negative or passes 32 bits
 abbrev pub is_long : Option ℕ → Bool
@@ -72,7 +76,7 @@ elements_of [] = 0
 elements_of (o ∷ os) = product_of (o ∷ os)
 
 abbrev pub lengths_of : List Given → List (Option ℕ)
-lengths_of children = map subrange_length (tagged 0x21 children)
+lengths_of children = map subrange_length (tagged DW_TAG_subrange_type children)
 
 abbrev pub is_refused : List (Option ℕ) → Bool
 is_refused lengths = some_long lengths || not (nat_lt (elements_of lengths) (2 ^ 32))
@@ -100,6 +104,6 @@ array_row c e children =
     record {
       made =
           type_of e (array_label (elements_in lengths)) (target_of_type e.at target ∷ Index ∷ []);
-      refused = target.refused ++ (refuse_if (not (has 0x49 e)) (MissingType e.at)
+      refused = target.refused ++ (refuse_if (not (has DW_AT_type e)) (MissingType e.at)
           ++ refuse_if (is_refused lengths) (ArrayLength e.at));
     }

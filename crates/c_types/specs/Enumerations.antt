@@ -21,6 +21,8 @@ use Rattle.type_attributes.specs.Children.{tagged}
 use Rattle.type_attributes.specs.Labels.{Row, type_of, is_empty, size_in}
 use Rattle.type_attributes.specs.Parts.{part_of, refused_by, some_is, some_tagged, most}
 use Rattle.c_types.specs.Structures.{with_refused}
+use Rattle.dwarf_abbrev.specs.declared.constants.TheConstants.{DW_AT_byte_size, DW_AT_const_value}
+use Rattle.dwarf_abbrev.specs.declared.constants.TheConstants.{DW_AT_declaration, DW_TAG_enumerator}
 
 -- an enumerator's value (0x1c) is negative
 abbrev pub negative : Option Number → Bool
@@ -28,7 +30,7 @@ negative (Some (Negative n)) = true
 negative other = false
 
 abbrev pub is_negative : Given → Bool
-is_negative e = negative (number_said (constant_asked 0x1c e))
+is_negative e = negative (number_said (constant_asked DW_AT_const_value e))
 
 -- the numbers below which values are, and their opposites at or above which: an eighth byte makes
 -- 64 bits of them
@@ -58,14 +60,15 @@ residue_in wide (Some n) = residue wide n
 
 abbrev pub enumerator_part : Sections → Bool → Given → Part
 enumerator_part c wide e =
-    part_of (name_in_full (name_asked c e)) (residue_in wide (number_said (constant_asked 0x1c e)))
+    part_of (name_in_full (name_asked c e))
+    (residue_in wide (number_said (constant_asked DW_AT_const_value e)))
 
 abbrev pub enumerator_refused : Sections → Bool → Bool → Given → List TypeFault
 enumerator_refused c wide signed e =
     (name_asked c e).refused
     ++ (refuse_if (is_empty (name_in_full (name_asked c e))) (MissingName e.at)
-    ++ ((constant_asked 0x1c e).refused
-    ++ value_refused e.at wide signed (number_said (constant_asked 0x1c e))))
+    ++ ((constant_asked DW_AT_const_value e).refused
+    ++ value_refused e.at wide signed (number_said (constant_asked DW_AT_const_value e))))
 
 -- its size is 1, 2, 4 or 8
 abbrev pub is_size : ℕ → Bool
@@ -92,7 +95,7 @@ enumeration_label wide name signed size parts = record {
 -- the size that is given, and one of 8 bytes makes an ENUM64
 abbrev pub enumerated_row : List ℕ → Given → Sections → Bool → List Given → Row
 enumerated_row name e c signed enumerators =
-    let size = constant_asked 0x0b e in
+    let size = constant_asked DW_AT_byte_size e in
     let wide = size_in size.said == 8 in
     record {
       made = type_of e (enumeration_label wide name signed (size_in size.said)
@@ -115,15 +118,16 @@ bare_row name e declared =
 -- it is declared, or has a name and no enumerators
 abbrev pub is_bare : Bool → List ℕ → List Given → Bool
 is_bare declared name children =
-    declared || (not (some_tagged 0x28 children) && not (is_empty name))
+    declared || (not (some_tagged DW_TAG_enumerator children) && not (is_empty name))
 
 -- where a value is negative, the enumeration is signed
 abbrev pub enumeration_row : Sections → Given → List Given → Row
 enumeration_row c e children =
-    let declared = flag_asked 0x3c e in
+    let declared = flag_asked DW_AT_declaration e in
     let name = name_asked c e in
     with_refused (declared.refused ++ name.refused)
     (if is_bare (is_set declared) (name_in_full name) children
     then bare_row (name_in_full name) e (is_set declared)
-    else enumerated_row (name_in_full name) e c (some_is is_negative (tagged 0x28 children))
-    (tagged 0x28 children))
+    else enumerated_row (name_in_full name) e c
+    (some_is is_negative (tagged DW_TAG_enumerator children))
+    (tagged DW_TAG_enumerator children))

@@ -16,6 +16,8 @@ use Rattle.type_attributes.specs.Attributes.{target_of_type}
 use Rattle.type_attributes.specs.Children.{tagged}
 use Rattle.type_attributes.specs.Labels.{Row, type_of}
 use Rattle.type_attributes.specs.Parts.{part_of, refused_by, some_tagged, most}
+use Rattle.dwarf_abbrev.specs.declared.constants.TheConstants.{DW_AT_type, DW_TAG_formal_parameter}
+use Rattle.dwarf_abbrev.specs.declared.constants.TheConstants.{DW_TAG_unspecified_parameters}
 
 abbrev pub parameter_part : Sections → Given → Part
 parameter_part c p = part_of (name_in_full (name_asked c p)) 0
@@ -26,7 +28,7 @@ parameter_target c p = target_of_type p.at (target_asked c p)
 -- a parameter has a type
 abbrev pub parameter_refused : Sections → Given → List TypeFault
 parameter_refused c p = (name_asked c p).refused
-    ++ ((target_asked c p).refused ++ refuse_if (not (has 0x49 p)) (MissingType p.at))
+    ++ ((target_asked c p).refused ++ refuse_if (not (has DW_AT_type p)) (MissingType p.at))
 
 -- an unspecified_parameters entry (0x18) makes one last parameter without name and of void
 abbrev pub rest_part : Bool → List Part
@@ -48,11 +50,13 @@ function_label parts =
 
 abbrev pub function_parts : Sections → List Given → List Part
 function_parts c children =
-    map (parameter_part c) (tagged 0x05 children) ++ rest_part (some_tagged 0x18 children)
+    map (parameter_part c) (tagged DW_TAG_formal_parameter children)
+    ++ rest_part (some_tagged DW_TAG_unspecified_parameters children)
 
 abbrev pub function_targets : Sections → List Given → List Target
 function_targets c children =
-    map (parameter_target c) (tagged 0x05 children) ++ rest_target (some_tagged 0x18 children)
+    map (parameter_target c) (tagged DW_TAG_formal_parameter children)
+    ++ rest_target (some_tagged DW_TAG_unspecified_parameters children)
 
 abbrev pub function_row : Sections → Given → List Given → Row
 function_row c e children =
@@ -61,6 +65,7 @@ function_row c e children =
     record {
       made = type_of e (function_label parts)
           (target_of_type e.at result ∷ function_targets c children);
-      refused = result.refused ++ (refused_by (parameter_refused c) (tagged 0x05 children)
+      refused = result.refused
+          ++ (refused_by (parameter_refused c) (tagged DW_TAG_formal_parameter children)
           ++ refuse_if (nat_lt most (length parts)) (TooMany e.at (length parts)));
     }

@@ -36,6 +36,10 @@ use Rattle.c_types.specs.Arrays.{lengths_of, array_label}
 use Rattle.c_types.specs.Lengths.{extended, is_too_long, elements_from}
 use Rattle.c_types.specs.Pointers.{link_to}
 use Rattle.c_types.specs.Taking.{made_if, refused_if}
+use Rattle.dwarf_abbrev.specs.declared.constants.TheConstants.{DW_AT_bit_size, DW_TAG_enumerator}
+use Rattle.dwarf_abbrev.specs.declared.constants.TheConstants.{DW_TAG_formal_parameter}
+use Rattle.dwarf_abbrev.specs.declared.constants.TheConstants.{DW_TAG_member}
+use Rattle.dwarf_abbrev.specs.declared.constants.TheConstants.{DW_TAG_unspecified_parameters}
 
 abbrev pub too_many : ℕ → ℕ → List TypeFault
 too_many at count = refuse_if (nat_lt most count) (TooMany at count)
@@ -45,7 +49,7 @@ abbrev pub kept_of : Scope → Given → Member
 kept_of s m = record {
   name = name_in_full (name_asked s.sections m);
   bits = bits_in
-      (constant_asked 0x0d m).said;
+      (constant_asked DW_AT_bit_size m).said;
   near = near false (or_zero (position_of s m).said);
 }
 
@@ -54,13 +58,13 @@ part_from fields k = part_of k.name (if fields then k.bits * 2 ^ 24 + near true 
 
 -- of an open structure: all members, their types, and whether one is a bit field
 abbrev pub all_members : Scope → OpenStructure → List Given → List Member
-all_members s o kids = o.members.items ++ map (kept_of s) (tagged 0x0d kids)
+all_members s o kids = o.members.items ++ map (kept_of s) (tagged DW_TAG_member kids)
 
 abbrev pub all_targets : Scope → OpenStructure → List Given → List Target
-all_targets s o kids = o.targets.items ++ map (member_target s) (tagged 0x0d kids)
+all_targets s o kids = o.targets.items ++ map (member_target s) (tagged DW_TAG_member kids)
 
 abbrev pub all_fields : OpenStructure → List Given → Bool
-all_fields o kids = o.fields || has_fields (tagged 0x0d kids)
+all_fields o kids = o.fields || has_fields (tagged DW_TAG_member kids)
 
 -- the type that it comes to
 abbrev pub structure_by : OpenStructure → Bool → List Member → List Target → SourceType
@@ -82,18 +86,20 @@ own o fields = if fields then o.packed else o.plain
 unfoldable pub structure_refused : Scope → OpenStructure → List Given → Option TypeFault
 structure_refused s o kids =
     noted (own o (all_fields o kids)) (refused_by (member_refused s (all_fields o kids))
-    (tagged 0x0d kids) ++ too_many o.at (length (all_members s o kids)))
+    (tagged DW_TAG_member kids) ++ too_many o.at (length (all_members s o kids)))
 
 -- of an open subroutine type: the parameters, their types behind that of the result, and whether
 -- more may follow
 abbrev pub all_parameters : Sections → OpenFunction → List Given → List Part
-all_parameters c o kids = o.parts.items ++ map (parameter_part c) (tagged 0x05 kids)
+all_parameters c o kids =
+    o.parts.items ++ map (parameter_part c) (tagged DW_TAG_formal_parameter kids)
 
 abbrev pub all_results : Sections → OpenFunction → List Given → List Target
-all_results c o kids = o.targets.items ++ map (parameter_target c) (tagged 0x05 kids)
+all_results c o kids =
+    o.targets.items ++ map (parameter_target c) (tagged DW_TAG_formal_parameter kids)
 
 abbrev pub all_variadic : OpenFunction → List Given → Bool
-all_variadic o kids = o.variadic || some_tagged 0x18 kids
+all_variadic o kids = o.variadic || some_tagged DW_TAG_unspecified_parameters kids
 
 abbrev pub function_by : ℕ → Bool → List Part → List Target → SourceType
 function_by at variadic parts targets = record {
@@ -109,18 +115,19 @@ function_made c o kids =
 
 unfoldable pub function_refused : Sections → OpenFunction → List Given → Option TypeFault
 function_refused c o kids =
-    noted o.least (refused_by (parameter_refused c) (tagged 0x05 kids)
+    noted o.least (refused_by (parameter_refused c) (tagged DW_TAG_formal_parameter kids)
     ++ too_many o.at (length (all_parameters c o kids ++ rest_part (all_variadic o kids))))
 
 -- of an open enumeration: whether there is an enumerator, whether one is negative, and all of them
 abbrev pub all_some : OpenEnumeration → List Given → Bool
-all_some o kids = o.has_some || some_tagged 0x28 kids
+all_some o kids = o.has_some || some_tagged DW_TAG_enumerator kids
 
 abbrev pub all_negative : OpenEnumeration → List Given → Bool
-all_negative o kids = o.has_negative || some_is is_negative (tagged 0x28 kids)
+all_negative o kids = o.has_negative || some_is is_negative (tagged DW_TAG_enumerator kids)
 
 abbrev pub all_enumerators : Sections → OpenEnumeration → List Given → List Part
-all_enumerators c o kids = o.parts.items ++ map (enumerator_part c o.wide) (tagged 0x28 kids)
+all_enumerators c o kids =
+    o.parts.items ++ map (enumerator_part c o.wide) (tagged DW_TAG_enumerator kids)
 
 -- it has a name and no enumerator
 abbrev pub ends_bare : OpenEnumeration → List Given → Bool
@@ -144,7 +151,8 @@ own_sign o negative = if negative then o.signed else o.unsigned
 
 abbrev pub enumerated : Sections → OpenEnumeration → Bool → ℕ → List Given → Option TypeFault
 enumerated c o negative count kids = noted (own_sign o negative)
-    (refused_by (enumerator_refused c o.wide negative) (tagged 0x28 kids) ++ too_many o.at count)
+    (refused_by (enumerator_refused c o.wide negative) (tagged DW_TAG_enumerator kids)
+    ++ too_many o.at count)
 
 unfoldable pub enumeration_refused : Sections → OpenEnumeration → List Given → Option TypeFault
 enumeration_refused c o kids = if ends_bare o kids then o.bare
@@ -199,31 +207,36 @@ pub record ComesTo (s : Scope) (k : Kept) (row : List Given → Row) : Type 0 wh
 
 -- before and after a child was met
 pub record GathersMember (s : Scope) (e : Given) (old new : OpenStructure) : Type 0 where
-  pub members : new.members.items ≡ old.members.items ++ made_if 0x0d (kept_of s) e
-  pub targets : new.targets.items ≡ old.targets.items ++ made_if 0x0d (member_target s) e
-  pub fields : new.fields ≡ (old.fields || (e.tag == 0x0d && has 0x0d e))
-  pub plain : new.plain ≡ noted old.plain (refused_if 0x0d (member_refused s false) e)
-  pub packed : new.packed ≡ noted old.packed (refused_if 0x0d (member_refused s true) e)
+  pub members : new.members.items ≡ old.members.items ++ made_if DW_TAG_member (kept_of s) e
+  pub targets : new.targets.items ≡ old.targets.items ++ made_if DW_TAG_member (member_target s) e
+  pub fields : new.fields ≡ (old.fields || (e.tag == DW_TAG_member && has DW_AT_bit_size e))
+  pub plain : new.plain ≡ noted old.plain (refused_if DW_TAG_member (member_refused s false) e)
+  pub packed : new.packed ≡ noted old.packed (refused_if DW_TAG_member (member_refused s true) e)
   pub at : new.at ≡ old.at
   pub is_union : new.is_union ≡ old.is_union
   pub name : new.name ≡ old.name
   pub size : new.size ≡ old.size
 
 pub record GathersParameter (c : Sections) (e : Given) (old new : OpenFunction) : Type 0 where
-  pub parts : new.parts.items ≡ old.parts.items ++ made_if 0x05 (parameter_part c) e
-  pub targets : new.targets.items ≡ old.targets.items ++ made_if 0x05 (parameter_target c) e
-  pub variadic : new.variadic ≡ (old.variadic || e.tag == 0x18)
-  pub least : new.least ≡ noted old.least (refused_if 0x05 (parameter_refused c) e)
+  pub parts : new.parts.items
+      ≡ old.parts.items ++ made_if DW_TAG_formal_parameter (parameter_part c) e
+  pub targets : new.targets.items
+      ≡ old.targets.items ++ made_if DW_TAG_formal_parameter (parameter_target c) e
+  pub variadic : new.variadic ≡ (old.variadic || e.tag == DW_TAG_unspecified_parameters)
+  pub least : new.least
+      ≡ noted old.least (refused_if DW_TAG_formal_parameter (parameter_refused c) e)
   pub at : new.at ≡ old.at
 
 pub record GathersEnumerator (c : Sections) (e : Given) (old new : OpenEnumeration) : Type 0 where
-  pub has_some : new.has_some ≡ (old.has_some || e.tag == 0x28)
-  pub has_negative : new.has_negative ≡ (old.has_negative || (e.tag == 0x28 && is_negative e))
-  pub parts : new.parts.items ≡ old.parts.items ++ made_if 0x28 (enumerator_part c old.wide) e
+  pub has_some : new.has_some ≡ (old.has_some || e.tag == DW_TAG_enumerator)
+  pub has_negative : new.has_negative
+      ≡ (old.has_negative || (e.tag == DW_TAG_enumerator && is_negative e))
+  pub parts : new.parts.items
+      ≡ old.parts.items ++ made_if DW_TAG_enumerator (enumerator_part c old.wide) e
   pub unsigned : new.unsigned
-      ≡ noted old.unsigned (refused_if 0x28 (enumerator_refused c old.wide false) e)
+      ≡ noted old.unsigned (refused_if DW_TAG_enumerator (enumerator_refused c old.wide false) e)
   pub signed : new.signed
-      ≡ noted old.signed (refused_if 0x28 (enumerator_refused c old.wide true) e)
+      ≡ noted old.signed (refused_if DW_TAG_enumerator (enumerator_refused c old.wide true) e)
   pub bare : new.bare ≡ old.bare
   pub at : new.at ≡ old.at
   pub name : new.name ≡ old.name

@@ -20,10 +20,14 @@ use Rattle.type_attributes.specs.Attributes.{target_asked, target_of_type}
 use Rattle.type_attributes.specs.Children.{children_of}
 use Rattle.type_attributes.specs.Labels.{Row, type_of, plain_label, is_empty}
 use Rattle.c_types.specs.Parents.{parent_in}
+use Rattle.dwarf_abbrev.specs.declared.constants.TheConstants.{DW_AT_const_value}
+use Rattle.dwarf_abbrev.specs.declared.constants.TheConstants.{DW_TAG_pointer_type}
+use Rattle.type_attributes.specs.declared.tags.TheConstants.{DW_TAG_GNU_annotation}
 
 -- an annotation with the name of type tags
 unfoldable pub is_type_tag : Sections → Given → Bool
-is_type_tag c e = e.tag == 0x6000 && bytes_eq (name_in_full (name_asked c e)) (codes "btf_type_tag")
+is_type_tag c e = e.tag == DW_TAG_GNU_annotation
+    && bytes_eq (name_in_full (name_asked c e)) (codes "btf_type_tag")
 
 -- the type that a pointer has of its own
 abbrev pub own_target : Sections → Given → Target
@@ -47,7 +51,7 @@ pointer_row c p children =
 -- pointer
 abbrev pub own_of_pointer : Sections → Option Given → Option Target
 own_of_pointer c None = None
-own_of_pointer c (Some p) = if p.tag == 0x0f then Some (own_target c p) else None
+own_of_pointer c (Some p) = if p.tag == DW_TAG_pointer_type then Some (own_target c p) else None
 
 abbrev pub pointed_in : Sections → List Given → ℕ → Option Target
 pointed_in c earlier depth = own_of_pointer c (parent_in earlier depth)
@@ -58,7 +62,7 @@ is_tag_entry c pointed e = is_some pointed && is_type_tag c e
 
 -- the tag is the const_value (0x1c), read as a name
 abbrev pub tag_asked : Sections → Given → Asked (List ℕ)
-tag_asked c e = text_asked 0x1c c e
+tag_asked c e = text_asked DW_AT_const_value c e
 
 abbrev pub tag_in : Sections → Option Target → Given → Option (List ℕ)
 tag_in c pointed e = if is_tag_entry c pointed e then Some (name_in_full (tag_asked c e)) else None
@@ -81,6 +85,6 @@ tag_refused c e = (tag_asked c e).refused
 -- the name of every annotation of a pointer is read, and the tag of a tag entry
 abbrev pub annotation_refused : Sections → Option Target → Given → List TypeFault
 annotation_refused c pointed e =
-    if is_some pointed && e.tag == 0x6000
+    if is_some pointed && e.tag == DW_TAG_GNU_annotation
     then (name_asked c e).refused ++ (if is_type_tag c e then tag_refused c e else [])
     else []

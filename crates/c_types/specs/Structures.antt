@@ -21,6 +21,9 @@ use Rattle.type_attributes.specs.Attributes.{flag_asked, is_set, target_asked, t
 use Rattle.type_attributes.specs.Children.{tagged}
 use Rattle.type_attributes.specs.Labels.{Row, type_of, is_empty, size_in, size_refused}
 use Rattle.type_attributes.specs.Parts.{part_of, refused_by, some_is, most}
+use Rattle.dwarf_abbrev.specs.declared.constants.TheConstants.{DW_AT_bit_size, DW_AT_byte_size}
+use Rattle.dwarf_abbrev.specs.declared.constants.TheConstants.{DW_AT_declaration, DW_AT_type}
+use Rattle.dwarf_abbrev.specs.declared.constants.TheConstants.{DW_TAG_member}
 
 abbrev pub or_zero : Option ℕ → ℕ
 or_zero None = 0
@@ -57,7 +60,7 @@ word_of fields position bits =
 
 abbrev pub member_word : Scope → Bool → Given → ℕ
 member_word s fields m =
-    word_of fields (or_zero (position_of s m).said) (bits_in (constant_asked 0x0d m).said)
+    word_of fields (or_zero (position_of s m).said) (bits_in (constant_asked DW_AT_bit_size m).said)
 
 abbrev pub member_part : Scope → Bool → Given → Part
 member_part s fields m = part_of (name_in_full (name_asked s.sections m)) (member_word s fields m)
@@ -74,19 +77,19 @@ far_refused at fields position =
 abbrev pub place_refused : Scope → Bool → Given → List TypeFault
 place_refused s fields m =
     (position_of s m).refused
-    ++ ((constant_asked 0x0d m).refused
-    ++ (bits_refused m.at (constant_asked 0x0d m).said
+    ++ ((constant_asked DW_AT_bit_size m).refused
+    ++ (bits_refused m.at (constant_asked DW_AT_bit_size m).said
     ++ far_refused m.at fields (or_zero (position_of s m).said)))
 
 -- and a type
 abbrev pub member_refused : Scope → Bool → Given → List TypeFault
 member_refused s fields m =
     (name_asked s.sections m).refused ++ ((target_asked s.sections m).refused
-    ++ (refuse_if (not (has 0x49 m)) (MissingType m.at) ++ place_refused s fields m))
+    ++ (refuse_if (not (has DW_AT_type m)) (MissingType m.at) ++ place_refused s fields m))
 
 -- some member is a bit field
 abbrev pub has_fields : List Given → Bool
-has_fields members = some_is (has 0x0d) members
+has_fields members = some_is (has DW_AT_bit_size) members
 
 abbrev pub forward_label : Bool → List ℕ → Label
 forward_label union name =
@@ -114,7 +117,7 @@ forward_row s union e =
 abbrev pub defined_row : Scope → Bool → Given → List Given → Row
 defined_row s union e members =
     let name = name_asked s.sections e in
-    let size = constant_asked 0x0b e in
+    let size = constant_asked DW_AT_byte_size e in
     let fields = has_fields members in
     record {
       made = type_of e (structure_label union (name_in_full name) (size_in size.said) fields
@@ -130,5 +133,6 @@ with_refused refused r = record { made = r.made; refused = refused ++ r.refused 
 
 abbrev pub structure_row : Scope → Bool → Given → List Given → Row
 structure_row s union e children =
-    with_refused (flag_asked 0x3c e).refused (if is_set (flag_asked 0x3c e)
-    then forward_row s union e else defined_row s union e (tagged 0x0d children))
+    with_refused (flag_asked DW_AT_declaration e).refused
+    (if is_set (flag_asked DW_AT_declaration e)
+    then forward_row s union e else defined_row s union e (tagged DW_TAG_member children))

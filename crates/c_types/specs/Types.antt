@@ -37,29 +37,50 @@ use Rattle.c_types.specs.Arrays.{array_row}
 use Rattle.c_types.specs.Functions.{function_row}
 use Rattle.c_types.specs.Structures.{structure_row}
 use Rattle.c_types.specs.Enumerations.{enumeration_row}
+use Rattle.dwarf_abbrev.specs.declared.constants.TheConstants.{DW_LANG_C_plus_plus}
+use Rattle.dwarf_abbrev.specs.declared.constants.TheConstants.{DW_LANG_C_plus_plus_03}
+use Rattle.dwarf_abbrev.specs.declared.constants.TheConstants.{DW_LANG_C_plus_plus_11}
+use Rattle.dwarf_abbrev.specs.declared.constants.TheConstants.{DW_LANG_C_plus_plus_14, DW_LANG_Go}
+use Rattle.dwarf_abbrev.specs.declared.constants.TheConstants.{DW_LANG_Mips_Assembler, DW_LANG_Rust}
+use Rattle.dwarf_abbrev.specs.declared.constants.TheConstants.{DW_TAG_array_type}
+use Rattle.dwarf_abbrev.specs.declared.constants.TheConstants.{DW_TAG_atomic_type, DW_TAG_base_type}
+use Rattle.dwarf_abbrev.specs.declared.constants.TheConstants.{DW_TAG_const_type}
+use Rattle.dwarf_abbrev.specs.declared.constants.TheConstants.{DW_TAG_enumeration_type}
+use Rattle.dwarf_abbrev.specs.declared.constants.TheConstants.{DW_TAG_pointer_type}
+use Rattle.dwarf_abbrev.specs.declared.constants.TheConstants.{DW_TAG_restrict_type}
+use Rattle.dwarf_abbrev.specs.declared.constants.TheConstants.{DW_TAG_structure_type}
+use Rattle.dwarf_abbrev.specs.declared.constants.TheConstants.{DW_TAG_subroutine_type}
+use Rattle.dwarf_abbrev.specs.declared.constants.TheConstants.{DW_TAG_typedef, DW_TAG_union_type}
+use Rattle.dwarf_abbrev.specs.declared.constants.TheConstants.{DW_TAG_unspecified_type}
+use Rattle.dwarf_abbrev.specs.declared.constants.TheConstants.{DW_TAG_volatile_type}
 
 -- the tags whose rows need no children: typedef, base, const, volatile, restrict and unspecified
 -- types, and atomic ones
 abbrev pub plain_row_of : Sections → Given → Option Row
 plain_row_of c e =
-    if e.tag == 0x16 then Some (typedef_row c e)
-    else if e.tag == 0x24 then Some (base_row c e)
-    else if e.tag == 0x26 then Some (reference_row BTF_KIND_CONST [] c e)
-    else if e.tag == 0x35 then Some (reference_row BTF_KIND_VOLATILE [] c e)
-    else if e.tag == 0x37 then Some (reference_row BTF_KIND_RESTRICT [] c e)
-    else if e.tag == 0x3b then Some (unspecified_row c e)
-    else if e.tag == 0x47 then Some (reference_row BTF_KIND_TYPEDEF atomic_name c e)
+    if e.tag == DW_TAG_typedef then Some (typedef_row c e)
+    else if e.tag == DW_TAG_base_type then Some (base_row c e)
+    else if e.tag == DW_TAG_const_type then Some (reference_row BTF_KIND_CONST [] c e)
+    else if e.tag == DW_TAG_volatile_type then Some (reference_row BTF_KIND_VOLATILE [] c e)
+    else if e.tag == DW_TAG_restrict_type then Some (reference_row BTF_KIND_RESTRICT [] c e)
+    else if e.tag == DW_TAG_unspecified_type then Some (unspecified_row c e)
+    else if e.tag == DW_TAG_atomic_type then Some (reference_row BTF_KIND_TYPEDEF atomic_name c e)
     else None
 
 -- and those whose rows do: arrays, enumerations, pointers, structures, subroutine types and unions
 abbrev pub row_of : Scope → Given → List Given → Option Row
 row_of s e after =
-    if e.tag == 0x01 then Some (array_row s.sections e (children_of e.depth after))
-    else if e.tag == 0x04 then Some (enumeration_row s.sections e (children_of e.depth after))
-    else if e.tag == 0x0f then Some (pointer_row s.sections e (children_of e.depth after))
-    else if e.tag == 0x13 then Some (structure_row s false e (children_of e.depth after))
-    else if e.tag == 0x15 then Some (function_row s.sections e (children_of e.depth after))
-    else if e.tag == 0x17 then Some (structure_row s true e (children_of e.depth after))
+    if e.tag == DW_TAG_array_type then Some (array_row s.sections e (children_of e.depth after))
+    else if e.tag == DW_TAG_enumeration_type
+    then Some (enumeration_row s.sections e (children_of e.depth after))
+    else if e.tag == DW_TAG_pointer_type
+    then Some (pointer_row s.sections e (children_of e.depth after))
+    else if e.tag == DW_TAG_structure_type
+    then Some (structure_row s false e (children_of e.depth after))
+    else if e.tag == DW_TAG_subroutine_type
+    then Some (function_row s.sections e (children_of e.depth after))
+    else if e.tag == DW_TAG_union_type
+    then Some (structure_row s true e (children_of e.depth after))
     else plain_row_of s.sections e
 
 -- the type and the refusals of a row, where there is one
@@ -110,14 +131,16 @@ unit_types has_array types = record { read = true; has_array = has_array; types 
 
 -- of a walk over all entries: its own fault comes before all refusals of types
 abbrev pub types_in : Scope → Option WalkFault → Result UnitTypes TypeFault
-types_in s ending = or_walk ending (or_least (unit_types (some_tagged 0x01 s.entries)
+types_in s ending = or_walk ending (or_least (unit_types (some_tagged DW_TAG_array_type s.entries)
     (types_of s [] s.entries)) (least (refusals_of s [] s.entries)))
 
 -- the languages (section 7.12) whose units are passed over: C++, Go, C++03, C++11, Rust, C++14 and
 -- the assembler of MIPS
 abbrev pub is_other_language : ℕ → Bool
 is_other_language n =
-    n == 0x04 || n == 0x16 || n == 0x19 || n == 0x1a || n == 0x1c || n == 0x21 || n == 0x8001
+    n == DW_LANG_C_plus_plus || n == DW_LANG_Go || n == DW_LANG_C_plus_plus_03 || n
+    == DW_LANG_C_plus_plus_11 || n == DW_LANG_Rust || n == DW_LANG_C_plus_plus_14 || n
+    == DW_LANG_Mips_Assembler
 
 abbrev pub is_passed_over : Option ℤ → Bool
 is_passed_over None = false

@@ -25,6 +25,8 @@ use Rattle.c_types.proofs.Formed.Kinds.{limit, bare_formed, enumeration_formed}
 use Rattle.c_types.proofs.Formed.Plain.{IsFormedRow, size_fits}
 use Rattle.c_types.proofs.Formed.Functions.{named_part, parts_fit, few_parts}
 use Rattle.c_types.proofs.Formed.Structures.{more_refused}
+use Rattle.dwarf_abbrev.specs.declared.constants.TheConstants.{DW_AT_byte_size, DW_AT_const_value}
+use Rattle.dwarf_abbrev.specs.declared.constants.TheConstants.{DW_AT_declaration, DW_TAG_enumerator}
 
 residue_small : (wide : Bool) (n : Number) → residue wide n < limit wide
 residue_small true (Natural n) = omega arith
@@ -61,7 +63,7 @@ enumerated_row_formed : (name : List ℕ) (c : Sections) (e : Given) (signed : B
     → HasNoNul name → All IsNamedCleanly es → ((nat_lt 0 (length name) && (length es == 0)) ≡ false)
     → IsFormedRow (enumerated_row name e c signed es)
 enumerated_row_formed name c e signed es clean all named none =
-    let size = constant_asked 0x0b e in
+    let size = constant_asked DW_AT_byte_size e in
     let wide = size_in size.said == 8 in
     let row : PartRow = record { named = true; refers = false; value = limit wide } in
     let count : length (map (enumerator_part c wide) es) ≡ length es =
@@ -73,29 +75,37 @@ enumerated_row_formed name c e signed es clean all named none =
     (size_fits size.said) (omega arith)
     (parts_fit row (enumerator_part c wide) es
     (λ (m : Given) (h : IsNamedCleanly m). named_part false (limit wide)
-    (name_in_full (name_asked c m)) (residue_in wide (number_said (constant_asked 0x1c m)))
-    (name_clean c m h) (in_small wide (number_said (constant_asked 0x1c m)))) all)
+    (name_in_full (name_asked c m))
+    (residue_in wide (number_said (constant_asked DW_AT_const_value m)))
+    (name_clean c m h) (in_small wide (number_said (constant_asked DW_AT_const_value m)))) all)
     (ap (λ (n : ℕ). nat_lt 0 (length name) && (n == 0)) count ∙ named)
 
 pub enumeration_row_formed : (c : Sections) (e : Given) (children : List Given) → IsNamedCleanly e
     → All IsNamedCleanly children → IsFormedRow (enumeration_row c e children)
 enumeration_row_formed c e children clean all =
-    more_refused ((flag_asked 0x3c e).refused ++ (name_asked c e).refused)
-    (if is_bare (is_set (flag_asked 0x3c e)) (name_in_full (name_asked c e)) children
-    then bare_row (name_in_full (name_asked c e)) e (is_set (flag_asked 0x3c e))
+    more_refused ((flag_asked DW_AT_declaration e).refused ++ (name_asked c e).refused)
+    (if is_bare (is_set (flag_asked DW_AT_declaration e)) (name_in_full (name_asked c e)) children
+    then bare_row (name_in_full (name_asked c e)) e (is_set (flag_asked DW_AT_declaration e))
     else enumerated_row (name_in_full (name_asked c e)) e c
-    (some_is is_negative (tagged 0x28 children)) (tagged 0x28 children))
-    (by (is_bare (is_set (flag_asked 0x3c e)) (name_in_full (name_asked c e)) children) refl)
+    (some_is is_negative (tagged DW_TAG_enumerator children)) (tagged DW_TAG_enumerator children))
+    (by (is_bare (is_set (flag_asked DW_AT_declaration e))
+    (name_in_full (name_asked c e)) children) refl)
   where
     by : (t : Bool)
-        → is_bare (is_set (flag_asked 0x3c e)) (name_in_full (name_asked c e)) children ≡ t
+        → is_bare (is_set (flag_asked DW_AT_declaration e))
+        (name_in_full (name_asked c e)) children ≡ t
         → IsFormedRow (if t then bare_row (name_in_full (name_asked c e)) e
-        (is_set (flag_asked 0x3c e)) else enumerated_row (name_in_full (name_asked c e)) e c
-        (some_is is_negative (tagged 0x28 children)) (tagged 0x28 children))
-    by true t = bare_row_formed c e (is_set (flag_asked 0x3c e)) clean
+        (is_set (flag_asked DW_AT_declaration e))
+        else enumerated_row (name_in_full (name_asked c e)) e c
+        (some_is is_negative (tagged DW_TAG_enumerator children))
+        (tagged DW_TAG_enumerator children))
+    by true t = bare_row_formed c e (is_set (flag_asked DW_AT_declaration e)) clean
     by false t =
         enumerated_row_formed (name_in_full (name_asked c e)) c e
-        (some_is is_negative (tagged 0x28 children)) (tagged 0x28 children)
-        (name_clean c e clean) (tagged_all IsNamedCleanly 0x28 children all)
-        (not_bare (is_set (flag_asked 0x3c e)) (some_tagged 0x28 children) (name_in_full
-        (name_asked c e)) (length (tagged 0x28 children)) (some_counted 0x28 children) t)
+        (some_is is_negative (tagged DW_TAG_enumerator children))
+        (tagged DW_TAG_enumerator children)
+        (name_clean c e clean) (tagged_all IsNamedCleanly DW_TAG_enumerator children all)
+        (not_bare (is_set (flag_asked DW_AT_declaration e)) (some_tagged DW_TAG_enumerator children)
+        (name_in_full
+        (name_asked c e)) (length (tagged DW_TAG_enumerator children))
+        (some_counted DW_TAG_enumerator children) t)

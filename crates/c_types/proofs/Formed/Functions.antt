@@ -21,6 +21,8 @@ use Rattle.c_types.proofs.Formed.Names.{IsNamedCleanly, name_clean}
 use Rattle.c_types.proofs.Formed.Children.{tagged_all}
 use Rattle.c_types.proofs.Formed.Kinds.{no_name, function_formed}
 use Rattle.c_types.proofs.Formed.Plain.{IsFormedRow}
+use Rattle.dwarf_abbrev.specs.declared.constants.TheConstants.{DW_TAG_formal_parameter}
+use Rattle.dwarf_abbrev.specs.declared.constants.TheConstants.{DW_TAG_unspecified_parameters}
 
 -- a part with a name and a value below a limit
 pub named_part : (refers : Bool) (limit : ℕ) (name : List ℕ) (value : ℕ) → HasNoNul name
@@ -56,8 +58,8 @@ rest_count false = refl
 target_count : (c : Sections) (children : List Given)
     → length (function_targets c children) ≡ length (function_parts c children)
 target_count c children =
-    let ps = tagged 0x05 children in
-    let v = some_tagged 0x18 children in
+    let ps = tagged DW_TAG_formal_parameter children in
+    let v = some_tagged DW_TAG_unspecified_parameters children in
     omega (
       arith,
       length-append (map (parameter_target c) ps) (rest_target v),
@@ -70,15 +72,16 @@ target_count c children =
 pub function_row_formed : (c : Sections) (e : Given) (children : List Given)
     → All IsNamedCleanly children → IsFormedRow (function_row c e children)
 function_row_formed c e children clean none =
-    let ps = tagged 0x05 children in
+    let ps = tagged DW_TAG_formal_parameter children in
     let parts = function_parts c children in
     let row : PartRow = record { named = true; refers = true; value = 1 } in
     function_formed parts (suc (length (function_targets c children)))
     (omega (arith, target_count c children))
     (few_parts e.at (length parts) (second_empty (refused_by (parameter_refused c) ps) _
     (second_empty (target_asked c e).refused _ none)))
-    (All-append (FitsPart row) (map (parameter_part c) ps) (rest_part (some_tagged 0x18 children))
+    (All-append (FitsPart row) (map (parameter_part c) ps)
+    (rest_part (some_tagged DW_TAG_unspecified_parameters children))
     (parts_fit row (parameter_part c) ps (λ (p : Given) (h : IsNamedCleanly p).
     named_part true 1 (name_in_full (name_asked c p)) 0 (name_clean c p h) (omega arith))
-    (tagged_all IsNamedCleanly 0x05 children clean))
-    (rest_fits (some_tagged 0x18 children)))
+    (tagged_all IsNamedCleanly DW_TAG_formal_parameter children clean))
+    (rest_fits (some_tagged DW_TAG_unspecified_parameters children)))

@@ -17,6 +17,7 @@ use Rattle.dwarf_forms.specs.Meanings.{plain_name, name_in}
 use Rattle.entry_tree.specs.Items.{Given}
 use Rattle.entry_tree.specs.Reads.{value_with}
 use Rattle.type_attributes.specs.Attributes.{asked, text_asked, name_asked, name_in_full}
+use Rattle.dwarf_abbrev.specs.declared.constants.TheConstants.{DW_AT_name}
 
 -- a text that is an entry's own value has no NUL
 abbrev pub IsNamedCleanly : Given → Type 0
@@ -91,7 +92,7 @@ text_clean_of attribute c e clean =
 
 pub name_clean : (c : Sections) (e : Given) → IsNamedCleanly e
     → HasNoNul (name_in_full (name_asked c e))
-name_clean c e clean = text_clean_of 0x03 c e clean
+name_clean c e clean = text_clean_of DW_AT_name c e clean
 
 -- a name that is spelled out
 abbrev pub some_zero : List ℕ → Bool

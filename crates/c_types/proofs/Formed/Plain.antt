@@ -25,6 +25,13 @@ use Rattle.c_types.specs.Formed.{IsFormed}
 use Rattle.c_types.proofs.Formed.Names.{IsNamedCleanly, text_clean_of, name_clean, spelled_clean}
 use Rattle.c_types.proofs.Formed.Kinds.{no_name, int_formed, float_formed, opaque_formed}
 use Rattle.c_types.proofs.Formed.Kinds.{linked_formed, array_formed}
+use Rattle.dwarf_abbrev.specs.declared.constants.TheConstants.{DW_AT_bit_size, DW_AT_byte_size}
+use Rattle.dwarf_abbrev.specs.declared.constants.TheConstants.{DW_AT_const_value, DW_AT_encoding}
+use Rattle.dwarf_abbrev.specs.declared.constants.TheConstants.{DW_TAG_atomic_type, DW_TAG_base_type}
+use Rattle.dwarf_abbrev.specs.declared.constants.TheConstants.{DW_TAG_const_type}
+use Rattle.dwarf_abbrev.specs.declared.constants.TheConstants.{DW_TAG_restrict_type, DW_TAG_typedef}
+use Rattle.dwarf_abbrev.specs.declared.constants.TheConstants.{DW_TAG_unspecified_type}
+use Rattle.dwarf_abbrev.specs.declared.constants.TheConstants.{DW_TAG_volatile_type}
 
 -- the type of a row is formed
 abbrev pub HasFormed : Row → Type 0
@@ -83,11 +90,12 @@ label_formed name size Opaque clean s x = opaque_formed name size clean s
 
 base_formed : (c : Sections) (e : Given) → IsNamedCleanly e → HasFormed (base_row c e)
 base_formed c e clean =
-    let size = size_in (constant_asked 0x0b e).said in
+    let size = size_in (constant_asked DW_AT_byte_size e).said in
     label_formed (name_in_full (name_asked c e)) size
-    (base_with size (number_said (constant_asked 0x3e e)) (number_said (constant_asked 0x0d e)))
-    (name_clean c e clean) (size_fits (constant_asked 0x0b e).said) (with_small size
-    (number_said (constant_asked 0x3e e)) (number_said (constant_asked 0x0d e)))
+    (base_with size (number_said (constant_asked DW_AT_encoding e))
+    (number_said (constant_asked DW_AT_bit_size e)))
+    (name_clean c e clean) (size_fits (constant_asked DW_AT_byte_size e).said) (with_small size
+    (number_said (constant_asked DW_AT_encoding e)) (number_said (constant_asked DW_AT_bit_size e)))
 
 unspecified_formed : (c : Sections) (e : Given) → IsNamedCleanly e → HasFormed (unspecified_row c e)
 unspecified_formed c e clean =
@@ -121,16 +129,20 @@ either_row false r o h k = k
 
 pub plain_formed : (c : Sections) (e : Given) → IsNamedCleanly e → IsFormedIn (plain_row_of c e)
 plain_formed c e clean =
-    either_row (e.tag == 0x16) (typedef_row c e) _ (λ n. typedef_formed c e clean)
-    (either_row (e.tag == 0x24) (base_row c e) _ (λ n. base_formed c e clean)
-    (either_row (e.tag == 0x26) (reference_row 10 [] c e) _ (λ n. reference_formed 10 [] c e refl (λ
+    either_row (e.tag == DW_TAG_typedef) (typedef_row c e) _ (λ n. typedef_formed c e clean)
+    (either_row (e.tag == DW_TAG_base_type) (base_row c e) _ (λ n. base_formed c e clean)
+    (either_row (e.tag == DW_TAG_const_type) (reference_row 10 [] c e) _
+    (λ n. reference_formed 10 [] c e refl (λ
     (tag : Tag) (h : declared_tag (plain_label 10 [] 0) ≡ Some tag). none-some tag h) no_name)
-    (either_row (e.tag == 0x35) (reference_row 9 [] c e) _ (λ n. reference_formed 9 [] c e refl
+    (either_row (e.tag == DW_TAG_volatile_type) (reference_row 9 [] c e) _
+    (λ n. reference_formed 9 [] c e refl
     (λ (tag : Tag) (h : declared_tag (plain_label 9 [] 0) ≡ Some tag). none-some tag h) no_name)
-    (either_row (e.tag == 0x37) (reference_row 11 [] c e) _ (λ n. reference_formed 11 [] c e refl (λ
+    (either_row (e.tag == DW_TAG_restrict_type) (reference_row 11 [] c e) _
+    (λ n. reference_formed 11 [] c e refl (λ
     (tag : Tag) (h : declared_tag (plain_label 11 [] 0) ≡ Some tag). none-some tag h) no_name)
-    (either_row (e.tag == 0x3b) (unspecified_row c e) _ (λ n. unspecified_formed c e clean)
-    (either_row (e.tag == 0x47) (reference_row 8 atomic_name c e) None
+    (either_row (e.tag == DW_TAG_unspecified_type) (unspecified_row c e) _
+    (λ n. unspecified_formed c e clean)
+    (either_row (e.tag == DW_TAG_atomic_type) (reference_row 8 atomic_name c e) None
     (λ n. reference_formed 8 atomic_name c e refl
     (λ (tag : Tag) (h : declared_tag (plain_label 8 atomic_name 0) ≡ Some tag). none-some tag h)
     atomic_clean) tt))))))
@@ -146,7 +158,7 @@ pub tag_formed : (c : Sections) (e : Given) → IsNamedCleanly e
 tag_formed c e clean =
     linked_formed 18 (name_in_full (tag_asked c e)) true refl (λ (tag : Tag)
     (h : declared_tag (plain_label 18 (name_in_full (tag_asked c e)) 0) ≡ Some tag).
-    none-some tag h) (text_clean_of 0x1c c e clean)
+    none-some tag h) (text_clean_of DW_AT_const_value c e clean)
 
 -- arrays
 few_elements : (os : List (Option ℕ)) (s t : Bool) → nat_lt (elements_of os) (2 ^ 32) ≡ t

@@ -26,6 +26,8 @@ use Rattle.c_types.proofs.Formed.Children.{tagged_all}
 use Rattle.c_types.proofs.Formed.Kinds.{forward_formed, structure_formed}
 use Rattle.c_types.proofs.Formed.Plain.{IsFormedRow, size_fits}
 use Rattle.c_types.proofs.Formed.Functions.{named_part, parts_fit, few_parts}
+use Rattle.dwarf_abbrev.specs.declared.constants.TheConstants.{DW_AT_bit_size, DW_AT_byte_size}
+use Rattle.dwarf_abbrev.specs.declared.constants.TheConstants.{DW_AT_declaration, DW_TAG_member}
 
 bits_if : (n : ℕ) (t : Bool) → nat_le n 255 ≡ t → (if t then n else 0) ≤ 255
 bits_if n true t = leb-true n 255 t
@@ -52,7 +54,8 @@ word_small false position bits le =
 
 member_small : (c : Scope) (fields : Bool) (m : Given) → member_word c fields m < 2 ^ 32
 member_small c fields m = word_small fields (or_zero (position_of c m).said)
-    (bits_in (constant_asked 0x0d m).said) (few_bits (constant_asked 0x0d m).said)
+    (bits_in (constant_asked DW_AT_bit_size m).said)
+    (few_bits (constant_asked DW_AT_bit_size m).said)
 
 forward_row_formed : (c : Scope) (union : Bool) (e : Given) → IsNamedCleanly e
     → IsFormedRow (forward_row c union e)
@@ -63,7 +66,7 @@ defined_row_formed : (c : Scope) (union : Bool) (e : Given) (members : List Give
     → IsNamedCleanly e → All IsNamedCleanly members → IsFormedRow (defined_row c union e members)
 defined_row_formed c union e members clean all none =
     let fields = has_fields members in
-    let size = constant_asked 0x0b e in
+    let size = constant_asked DW_AT_byte_size e in
     let row : PartRow = record { named = true; refers = true; value = 2 ^ 32 } in
     let few : length members ≤ 65535 = few_parts e.at (length members) (second_empty
     (refused_by (member_refused c fields) members) _ (second_empty (size_refused e.at size.said)
@@ -90,9 +93,10 @@ pub structure_row_formed : (c : Scope) (union : Bool) (e : Given) (children : Li
     → IsNamedCleanly e → All IsNamedCleanly children
     → IsFormedRow (structure_row c union e children)
 structure_row_formed c union e children clean all =
-    more_refused (flag_asked 0x3c e).refused (if is_set (flag_asked 0x3c e)
-    then forward_row c union e else defined_row c union e (tagged 0x0d children))
-    (if_row (is_set (flag_asked 0x3c e)) (forward_row c union e)
-    (defined_row c union e (tagged 0x0d children)) (forward_row_formed c union e clean)
-    (defined_row_formed c union e (tagged 0x0d children) clean
-    (tagged_all IsNamedCleanly 0x0d children all)))
+    more_refused (flag_asked DW_AT_declaration e).refused
+    (if is_set (flag_asked DW_AT_declaration e)
+    then forward_row c union e else defined_row c union e (tagged DW_TAG_member children))
+    (if_row (is_set (flag_asked DW_AT_declaration e)) (forward_row c union e)
+    (defined_row c union e (tagged DW_TAG_member children)) (forward_row_formed c union e clean)
+    (defined_row_formed c union e (tagged DW_TAG_member children) clean
+    (tagged_all IsNamedCleanly DW_TAG_member children all)))

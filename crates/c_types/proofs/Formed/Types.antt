@@ -32,23 +32,30 @@ use Rattle.c_types.proofs.Formed.Plain.{tag_formed, array_row_formed}
 use Rattle.c_types.proofs.Formed.Functions.{function_row_formed}
 use Rattle.c_types.proofs.Formed.Structures.{structure_row_formed}
 use Rattle.c_types.proofs.Formed.Enumerations.{enumeration_row_formed}
+use Rattle.dwarf_abbrev.specs.declared.constants.TheConstants.{DW_TAG_array_type}
+use Rattle.dwarf_abbrev.specs.declared.constants.TheConstants.{DW_TAG_enumeration_type}
+use Rattle.dwarf_abbrev.specs.declared.constants.TheConstants.{DW_TAG_pointer_type}
+use Rattle.dwarf_abbrev.specs.declared.constants.TheConstants.{DW_TAG_structure_type}
+use Rattle.dwarf_abbrev.specs.declared.constants.TheConstants.{DW_TAG_subroutine_type}
+use Rattle.dwarf_abbrev.specs.declared.constants.TheConstants.{DW_TAG_union_type}
 
 row_formed : (c : Scope) (e : Given) (after : List Given) → IsNamedCleanly e
     → All IsNamedCleanly after → IsFormedIn (row_of c e after)
 row_formed c e after clean all =
     let children = children_of e.depth after in
     let within = children_all IsNamedCleanly e.depth after all in
-    either_row (e.tag == 0x01) (array_row c.sections e children) _
+    either_row (e.tag == DW_TAG_array_type) (array_row c.sections e children) _
     (array_row_formed c.sections e children)
-    (either_row (e.tag == 0x04) (enumeration_row c.sections e children) _
+    (either_row (e.tag == DW_TAG_enumeration_type) (enumeration_row c.sections e children) _
     (enumeration_row_formed c.sections e children clean within)
-    (either_row (e.tag == 0x0f) (pointer_row c.sections e children) _
+    (either_row (e.tag == DW_TAG_pointer_type) (pointer_row c.sections e children) _
     (pointer_row_formed c.sections e children)
-    (either_row (e.tag == 0x13) (structure_row c false e children) _
+    (either_row (e.tag == DW_TAG_structure_type) (structure_row c false e children) _
     (structure_row_formed c false e children clean within)
-    (either_row (e.tag == 0x15) (function_row c.sections e children) _
+    (either_row (e.tag == DW_TAG_subroutine_type) (function_row c.sections e children) _
     (function_row_formed c.sections e children within)
-    (either_row (e.tag == 0x17) (structure_row c true e children) (plain_row_of c.sections e)
+    (either_row (e.tag == DW_TAG_union_type) (structure_row c true e children)
+    (plain_row_of c.sections e)
     (structure_row_formed c true e children clean within) (plain_formed c.sections e clean))))))
 
 -- the types of a list are formed
@@ -90,7 +97,8 @@ list_formed c earlier (e ∷ es) clean none =
 pub types_in_formed : (c : Scope) (ending : Option WalkFault) (t : UnitTypes)
     → All IsNamedCleanly c.entries → types_in c ending ≡ Ok t → AreFormed t.types
 types_in_formed c ending t clean e =
-    let u : UnitTypes = unit_types (some_tagged 0x01 c.entries) (types_of c [] c.entries) in
+    let u : UnitTypes =
+    unit_types (some_tagged DW_TAG_array_type c.entries) (types_of c [] c.entries) in
     let a = accepted u t (least (refusals_of c [] c.entries))
     (walked ending (or_least u (least (refusals_of c [] c.entries))) t e) in
     subst (λ (v : UnitTypes). AreFormed v.types) a.1

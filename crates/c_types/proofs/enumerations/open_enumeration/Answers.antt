@@ -5,11 +5,12 @@ use Rattle.type_attributes.specs.Labels.{size_in}
 use Rattle.type_attributes.specs.Attributes.{constant_asked}
 use Rattle.c_types.proofs.OpenEnumerations.{enumeration_comes}
 use Rattle.c_types.proofs.enumerations.open_enumeration.Goals as goal
+use Rattle.dwarf_abbrev.specs.declared.constants.TheConstants.{DW_AT_byte_size}
 
 pub returns : goal.returns
 returns c =
     let size : c.given_size-size.result
-    ≡ size_in (constant_asked 0x0b (given_entry c.args.entry.now)).said =
+    ≡ size_in (constant_asked DW_AT_byte_size (given_entry c.args.entry.now)).said =
     c.given_size-size.ensures ∙ ap (λ (o : Option ℤ). size_in o) c.constant-size.ensures.said in
     enumeration_comes (scope c.args.ctx.now) (given_entry c.args.entry.now) _
     (record {

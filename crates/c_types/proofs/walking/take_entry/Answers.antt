@@ -16,6 +16,7 @@ use Rattle.c_types.specs.Walking.{filled, least_of, pointed_at}
 use Rattle.c_types.proofs.Stack.{taken_least}
 use Rattle.c_types.proofs.OpenPointers.{tag_is_annotation, tag_rowless, no_tag_entry}
 use Rattle.c_types.proofs.walking.take_entry.Goals as goal
+use Rattle.type_attributes.specs.declared.tags.TheConstants.{DW_TAG_GNU_annotation}
 
 pub returns-in_ok-take_tag-in-Some-clause-least : goal.returns-in_ok-take_tag-in-Some-clause-least
 returns-in_ok-take_tag-in-Some-clause-least c = λ es later.
@@ -51,7 +52,8 @@ returns-in_ok-take_tag-in-Some-clause-pointed c = λ d.
     ap (λ (os : List Open). tag_in (sections c.args.ctx.now.form)
     (pointed_at os c.args.entry.now.depth) (given_entry c.args.entry.now))
     (sym c.as_slice.ensures.value) ∙ sym c.in-Some.ensures.tag in
-    let is : c.args.entry.now.tag ≡ 0x6000 = tag_is_annotation s.sections own e c.in-Some.tag tag in
+    let is : c.args.entry.now.tag ≡ DW_TAG_GNU_annotation =
+    tag_is_annotation s.sections own e c.in-Some.tag tag in
     let other : (c.args.entry.now.tag == 15) ≡ false =
     ne_eqb c.args.entry.now.tag 15 (λ (p : c.args.entry.now.tag ≡ 15). omega (arith, p, is)) in
     c.in_ok-take_tag-in-Some.ensures.pointed s d tag

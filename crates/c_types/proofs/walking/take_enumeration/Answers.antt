@@ -11,6 +11,7 @@ use Rattle.c_types.specs.Enumerations.{bare_row, enumeration_row}
 use Rattle.c_types.proofs.Stack.{row_declared, taken_filled, taken_least, joined_two}
 use Rattle.c_types.proofs.Pointing.{pointed_unopened}
 use Rattle.c_types.proofs.walking.take_enumeration.Goals as goal
+use Rattle.dwarf_abbrev.specs.declared.constants.TheConstants.{DW_AT_declaration}
 
 pub returns-then-not-is_declared-clause-types : goal.returns-then-not-is_declared-clause-types
 returns-then-not-is_declared-clause-types c =
@@ -27,7 +28,7 @@ returns-clause-types c = λ es.
     let s = scope c.args.ctx.now in
     let e = given_entry c.args.entry.now in
     let kids = children_of c.args.entry.now.depth es in
-    let set : is_set (flag_asked 0x3c (given_entry c.args.entry.now)) ≡ true =
+    let set : is_set (flag_asked DW_AT_declaration (given_entry c.args.entry.now)) ≡ true =
     sym c.flag-is_declared.ensures.said ∙ c.if-not-is_declared.false in
     taken_filled s c.args.reading.now.opens.items es c.args.reading.now.types.items
     c.push.new.self.items ((enumeration_row s.sections e kids).made ∷ []) c.requires.placed
@@ -40,17 +41,18 @@ returns-clause-least c = λ es later.
     let e = given_entry c.args.entry.now in
     let kids = children_of c.args.entry.now.depth es in
     let bare = (bare_row (name_in_full (name_asked s.sections e)) e true).refused in
-    let set : is_set (flag_asked 0x3c (given_entry c.args.entry.now)) ≡ true =
+    let set : is_set (flag_asked DW_AT_declaration (given_entry c.args.entry.now)) ≡ true =
     sym c.flag-is_declared.ensures.said ∙ c.if-not-is_declared.false in
     taken_least s c.args.reading.now.opens.items es c.args.reading.now.current c.join-reading.result
     (enumeration_row s.sections e kids).refused later
     (joined_two c.args.reading.now.current c.declared_enumeration-made.new.least
-    c.join-reading.result (flag_asked 0x3c e).refused
+    c.join-reading.result (flag_asked DW_AT_declaration e).refused
     ((name_asked s.sections e).refused ++ bare)
     (c.declared_enumeration-made.ensures.noted ∙ ap (λ (o : Option TypeFault). noted o ((name_asked
     s.sections e).refused ++ bare)) c.flag-is_declared.ensures.noted) c.join-reading.ensures
     ∙ ap (λ (fs : List TypeFault). noted c.args.reading.now.current fs)
-    (sym (append_assoc (flag_asked 0x3c e).refused (name_asked s.sections e).refused bare)
+    (sym (append_assoc (flag_asked DW_AT_declaration e).refused
+    (name_asked s.sections e).refused bare)
     ∙ sym (row_declared s.sections e kids set).1))
 
 pub returns-clause-pointed : goal.returns-clause-pointed

@@ -15,5 +15,6 @@ returns-then-sum-length c =
     ends_fixed (within c.args.ctx.now) (take c.args.count c.args.specs.now) c.args.at
     c.bytes_in-sum.result
     (c.requires.sizes c.args.count c.in_ok-size_at.field-0
-    (c.size_at.ensures c.in_ok-size_at.field-0 c.in_ok-size_at.was) c.args.ctx.now.offset_bytes c.args.ctx.now.address_bytes
+    (c.size_at.ensures c.in_ok-size_at.field-0 c.in_ok-size_at.was) c.args.ctx.now.offset_bytes
+    c.args.ctx.now.address_bytes
     ∙ ap (λ (n : ℕ). Some n) (sym c.bytes_in-sum.ensures)) inside
