@@ -99,7 +99,8 @@ def check_promises():
 
 def check_refusals():
     """The page on refusals has the numbers of the program, each with its fault's name."""
-    layers = read("crates/pahole_run/specs/Layers.antt")
+    # a definition that goes on in indented lines is one line here
+    layers = re.sub(r"\n +", " ", read("crates/pahole_run/specs/Layers.antt"))
     names = {new: old for old, new in re.findall(r"(\w+) as (\w+)", layers)}
     known = set()
     for left, right in re.findall(r"^((?:of_\w+|mixed) .*?) = (.*)$", layers, re.M):
