@@ -3,10 +3,12 @@ use Rattle.std.proofs.Common.{◌≡◌, ℕ, zero, suc, ◌+◌, ◌-◌, ◌*�
 use Rattle.std.proofs.Common.{false, List, [], ◌∷◌, ◌++◌, length, take, drop, get_or, Some, None}
 use Rattle.std.proofs.Common.{if◌then◌else◌, nat_lt, nat_le, ℤ, pos, ◌-ℤ◌, Result, Ok, Err, refl}
 use Rattle.std.proofs.Common.{sym, ap, ◌∙◌, arith, below_more}
+use Rattle.std.proofs.Math.Nat.{mod-eq_of_lt}
+use Rattle.std.proofs.lemmas.List.{drop_more}
 use Rattle.std.proofs.lemmas.List.{take_more, get_or-drop, get_or-take, length-drop, length-take-le}
 use Rattle.std.proofs.lemmas.Bool.{lt-ltb, le-ltb}
 use Rattle.dw_base.specs.Leb128.{leb_bytes, sum_from, unsigned_of, is_negative, fits_i64, uleb_of}
-use Rattle.dw_base.specs.Leb128.{sleb_of}
+use Rattle.dw_base.specs.Leb128.{sleb_of, unsigned_at}
 use Rattle.dw_base.specs.declared.leb128.LebFault.{LebFault}
 use Rattle.dw_base.specs.declared.leb128.LebFault.TheVariants.{TooWide}
 use Rattle.dw_base.specs.Sums.{Sums, IsEven}
@@ -184,3 +186,28 @@ signed_end bytes at i b old new negative result le lt is small r adds sign gives
     let g = gives (i + 1 - at) (sum_from 0 (take (i + 1 - at) (drop at bytes)))
     (adds_one bytes at i b old new le lt is r adds) in
     rw (found, e, s, w) g
+
+-- a number of one digit
+leb_one : (b : ℕ) (rest : List ℕ) → b < 128 → leb_bytes (b ∷ rest) ≡ Some (b ∷ [])
+unfolding leb_bytes
+leb_one b rest low = let t : nat_lt b 128 ≡ true = lt-ltb b 128 low in rw t refl
+
+sum_one : (b : ℕ) → b < 128 → sum_from 0 (b ∷ []) ≡ b
+unfolding sum_from
+sum_one b low = let m : b % 128 ≡ b = mod-eq_of_lt low in rw m (omega arith)
+
+one_at : (at b : ℕ) → b < 128 → ◌≡◌ {A = Result (ℕ × ℕ) LebFault} (Ok (b, at + 1))
+    (unsigned_at at (Some (b ∷ [])))
+one_at at b low =
+    let s : unsigned_of (b ∷ []) ≡ b = sum_one b low in
+    let t : nat_lt b (2 ^ 64) ≡ true = lt-ltb b (2 ^ 64) (omega (arith, low)) in
+    rw (s, t) refl
+
+pub one_digit : (bytes : List ℕ) (at b : ℕ) → at < length bytes → b ≡ get_or bytes at 0 → b < 128
+    → Ok (b, at + 1) ≡ uleb_of bytes at
+unfolding uleb_of
+one_digit bytes at b lt is low =
+    let d : drop at bytes ≡ b ∷ drop (at + 1) bytes =
+    drop_more bytes at 0 lt ∙ ap (λ (x : ℕ). x ∷ drop (at + 1) bytes) (sym is) in
+    one_at at b low
+    ∙ ap (unsigned_at at) (sym (ap leb_bytes d ∙ leb_one b (drop (at + 1) bytes) low))

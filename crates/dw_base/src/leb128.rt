@@ -93,6 +93,20 @@ fn added(sum: Sum, digit: u64) -> Sum
 pub fn uleb(bytes: &[u8], at: u64) -> Result<(u64, u64), LebFault>
     ensures { result ≡ uleb_of bytes.now at }
 {
+    // most numbers have one byte
+    if at < bytes.len() as u64 {
+        let first = bytes[at as usize];
+        if first < 128 {
+            return Ok((u64::from(first), at + 1));
+        }
+    }
+    long_uleb(bytes, at)
+}
+
+/// The same, digit by digit.
+fn long_uleb(bytes: &[u8], at: u64) -> Result<(u64, u64), LebFault>
+    ensures { result ≡ uleb_of bytes.now at }
+{
     let mut sum = NOTHING;
     for i in at as usize..bytes.len() {
         let byte = bytes[i];

@@ -25,6 +25,9 @@ pub fn number(bytes: &[u8], at: u64, width: u32, order: Order) -> Option<u64>
     if at > len || len - at < u64::from(width) {
         return None;
     }
+    if width == 1 {
+        return Some(u64::from(bytes[at as usize]));
+    }
     let piece = &bytes[at as usize..at as usize + width as usize];
     match order {
         Order::Little => Some(read::<LittleEndian>(piece, width)),

@@ -1,27 +1,8 @@
-use Rattle.std.proofs.Common.{refl, arith}
-use Rattle.dw_base.specs.Leb128.{uleb_of}
-use Rattle.dw_base.proofs.Digits.{starts, reads_on, is_cut, unsigned_end}
+use Rattle.std.proofs.Common.{arith}
+use Rattle.dw_base.proofs.Digits.{one_digit}
 use Rattle.dw_base.proofs.leb128.uleb.Goals as goal
 
-pub loop-i-init : goal.loop-i-init
-loop-i-init c = starts c.args.bytes.now c.args.at _ refl
-
-pub returns-then-byte-lt128 : goal.returns-then-byte-lt128
-unfolding uleb_of
-returns-then-byte-lt128 c =
-    unsigned_end c.args.bytes.now c.args.at c.loop-i.i c.from.result c.loop-i.sum c.added-sum.result
-    c.unsigned.result c.loop-i.auto.i c.loop-i-test.true c.from.ensures
-    (omega (arith, c.from.ensures, c.if-byte-lt128.true)) c.loop-i.invariant (λ n total h.
-    c.added-sum.ensures.sums n total h) (λ n total h. c.unsigned.ensures n total h)
-
-pub loop-i-preserved : goal.loop-i-preserved
-loop-i-preserved c =
-    reads_on c.args.bytes.now c.args.at c.loop-i.i c.from.result c.loop-i.sum c.added-sum.result
-    c.loop-i.auto.i c.loop-i-test.true c.from.ensures
-    (omega (arith, c.from.ensures, c.if-byte-lt128.false)) c.loop-i.invariant
-    c.added-sum.ensures.even (λ n total h. c.added-sum.ensures.sums n total h)
-
-pub returns : goal.returns
-unfolding uleb_of
-returns c = rw (is_cut c.args.bytes.now c.args.at c.loop-i.i c.loop-i.sum c.loop-i-test.false
-    c.loop-i.invariant) refl
+pub returns-then-first-lt128 : goal.returns-then-first-lt128
+returns-then-first-lt128 c =
+    one_digit c.args.bytes.now c.args.at c.from.result (omega arith) (omega (arith, c.from.ensures))
+    (omega arith)

@@ -1,6 +1,7 @@
 use Rattle.std.proofs.Common.{◌≡◌, ◌+◌, ◌-◌, ℕ, List, take, drop, reverse, sym, ap, ◌∙◌, arith}
 use Rattle.dw_base.specs.Numbers.{sum_of}
-use Rattle.dw_base.proofs.Numbering.{is_out, is_in, little_sum, big_sum, piece_length, piece_taken}
+use Rattle.dw_base.proofs.Numbering.{is_out, is_in, byte_in, little_sum, big_sum, piece_length}
+use Rattle.dw_base.proofs.Numbering.{piece_taken}
 use Rattle.dw_base.specs.declared.numbers.Order.TheVariants.{Little, Big}
 use Rattle.dw_base.proofs.numbers.number.Goals as goal
 use Rattle.dw_base.proofs.numbers.number.Goals.{then-at-len-via-then-at-len}
@@ -38,3 +39,10 @@ returns-in-Big c =
     (piece_length c.args.bytes.now c.args.at c.args.width (omega (arith, c.from.ensures)))
     ∙ ap (λ (xs : List ℕ). sum_of (reverse xs))
     (piece_taken c.args.bytes.now c.args.at c.args.width (omega (arith, c.from.ensures)))))
+
+pub returns-then-width-eq1 : goal.returns-then-width-eq1
+returns-then-width-eq1 c =
+    rw c.if-width-eq1.true
+    (byte_in c.args.bytes.now c.args.at c.from-then-width-eq1.result c.args.order
+    (omega (arith, c.from.ensures, c.if-width-eq1.true))
+    (omega (arith, c.from-then-width-eq1.ensures)))
