@@ -4,6 +4,13 @@ use Rattle.std.specs.Prelude.{◌++◌, Option, Some, None, codes, decimal, leng
 use Rattle.std.specs.Prelude.{if◌then◌else◌}
 use Rattle.std.specs.Option.{option_map_or}
 use Rattle.std.specs.List.{flat_map, range_with_len}
+use Rattle.c_model.specs.declared.kinds.TheConstants.{BTF_KIND_INT, BTF_KIND_PTR, BTF_KIND_ARRAY}
+use Rattle.c_model.specs.declared.kinds.TheConstants.{BTF_KIND_STRUCT, BTF_KIND_UNION}
+use Rattle.c_model.specs.declared.kinds.TheConstants.{BTF_KIND_ENUM, BTF_KIND_FWD, BTF_KIND_TYPEDEF}
+use Rattle.c_model.specs.declared.kinds.TheConstants.{BTF_KIND_VOLATILE, BTF_KIND_CONST}
+use Rattle.c_model.specs.declared.kinds.TheConstants.{BTF_KIND_RESTRICT, BTF_KIND_FUNC_PROTO}
+use Rattle.c_model.specs.declared.kinds.TheConstants.{BTF_KIND_FLOAT, BTF_KIND_TYPE_TAG}
+use Rattle.c_model.specs.declared.kinds.TheConstants.{BTF_KIND_ENUM64}
 use Rattle.c_model.specs.declared.label.Label.{Label}
 use Rattle.c_model.specs.declared.label.Part.{Part}
 use Rattle.c_model.specs.declared.graph.CType.{CType}
@@ -24,29 +31,29 @@ pub record Written : Type 0 where
 -- how a type of a kind is written
 abbrev pub shape_of : ℕ → Shape
 shape_of k =
-    if k == 1 then Named  -- INT
-    else if k == 2 then Pointer  -- PTR
-    else if k == 3 then Array  -- ARRAY
-    else if k == 4 then Tagged  -- STRUCT
-    else if k == 5 then Tagged  -- UNION
-    else if k == 6 then Tagged  -- ENUM
-    else if k == 7 then Tagged  -- FWD
-    else if k == 8 then Named  -- TYPEDEF
-    else if k == 9 then Qualifier  -- VOLATILE
-    else if k == 10 then Qualifier  -- CONST
-    else if k == 11 then Qualifier  -- RESTRICT
-    else if k == 13 then Function  -- FUNC_PROTO
-    else if k == 16 then Named  -- FLOAT
-    else if k == 18 then Annotation  -- TYPE_TAG
-    else if k == 19 then Tagged  -- ENUM64
+    if k == BTF_KIND_INT then Named
+    else if k == BTF_KIND_PTR then Pointer
+    else if k == BTF_KIND_ARRAY then Array
+    else if k == BTF_KIND_STRUCT then Tagged
+    else if k == BTF_KIND_UNION then Tagged
+    else if k == BTF_KIND_ENUM then Tagged
+    else if k == BTF_KIND_FWD then Tagged
+    else if k == BTF_KIND_TYPEDEF then Named
+    else if k == BTF_KIND_VOLATILE then Qualifier
+    else if k == BTF_KIND_CONST then Qualifier
+    else if k == BTF_KIND_RESTRICT then Qualifier
+    else if k == BTF_KIND_FUNC_PROTO then Function
+    else if k == BTF_KIND_FLOAT then Named
+    else if k == BTF_KIND_TYPE_TAG then Annotation
+    else if k == BTF_KIND_ENUM64 then Tagged
     else Other
 
 -- the keyword of a tag
 abbrev pub tag_word : Label → List ℕ
 tag_word l =
-    if l.kind == 4 then codes "struct"
-    else if l.kind == 5 then codes "union"
-    else if l.kind == 7 then (if l.flag then codes "union" else codes "struct")
+    if l.kind == BTF_KIND_STRUCT then codes "struct"
+    else if l.kind == BTF_KIND_UNION then codes "union"
+    else if l.kind == BTF_KIND_FWD then (if l.flag then codes "union" else codes "struct")
     else codes "enum"
 
 -- the name of a tag, `{...}` where it has none
@@ -56,7 +63,9 @@ tag_name (x ∷ xs) = x ∷ xs
 
 abbrev pub qualifier_word : ℕ → List ℕ
 qualifier_word k =
-    if k == 9 then codes "volatile" else if k == 10 then codes "const" else codes "restrict"
+    if k == BTF_KIND_VOLATILE then codes "volatile"
+    else if k == BTF_KIND_CONST then codes "const"
+    else codes "restrict"
 
 -- a space before it, where there is something
 abbrev pub spaced : List ℕ → List ℕ
@@ -88,7 +97,9 @@ part_count types r = option_map_or (λ (t : CType). length t.label.parts) (type_
 
 -- whether it is a qualifier or a tag
 abbrev pub is_passed : ℕ → Bool
-is_passed k = (k == 9) || (k == 10) || (k == 11) || (k == 18)
+is_passed k =
+    (k == BTF_KIND_VOLATILE) || (k == BTF_KIND_CONST) || (k == BTF_KIND_RESTRICT)
+    || (k == BTF_KIND_TYPE_TAG)
 
 -- what stands behind at most so many qualifiers and tags
 unfoldable pub past : ℕ → List CType → Ref → Ref
@@ -99,10 +110,11 @@ past (suc n) types r =
 -- whether an array or a function stands behind qualifiers and tags, and whether a pointer does
 abbrev pub leads_to_list : List CType → Ref → Bool
 leads_to_list types r =
-    (kind_of types (past 64 types r) == 3) || (kind_of types (past 64 types r) == 13)
+    (kind_of types (past 64 types r) == BTF_KIND_ARRAY)
+    || (kind_of types (past 64 types r) == BTF_KIND_FUNC_PROTO)
 
 abbrev pub leads_to_pointer : List CType → Ref → Bool
-leads_to_pointer types r = kind_of types (past 64 types r) == 2
+leads_to_pointer types r = kind_of types (past 64 types r) == BTF_KIND_PTR
 
 -- with something before the type part
 abbrev pub before : List ℕ → Written → Written
@@ -187,7 +199,7 @@ parameters types r =
 
 -- only functions have parameters
 abbrev pub list_at : List CType → Ref → List ℕ
-list_at types r = if kind_of types r == 13 then parameters types r else []
+list_at types r = if kind_of types r == BTF_KIND_FUNC_PROTO then parameters types r else []
 
 -- the declaration of a name of a type: 64 types are followed, and what is behind them is written
 -- `...`

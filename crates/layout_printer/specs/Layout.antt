@@ -5,6 +5,7 @@ use Rattle.std.specs.Prelude.{Bool, Option, Some, None, take, length, slice_get,
 use Rattle.std.specs.Prelude.{if◌then◌else◌}
 use Rattle.std.specs.Option.{option_map}
 use Rattle.std.specs.List.{list_all, range_with_len}
+use Rattle.c_model.specs.declared.kinds.TheConstants.{BTF_KIND_STRUCT, BTF_KIND_UNION}
 use Rattle.c_model.specs.declared.label.Part.{Part}
 use Rattle.c_model.specs.declared.graph.CType.{CType}
 use Rattle.c_model.specs.declared.graph.Ref.{Ref}
@@ -93,7 +94,7 @@ pub record IsFirstLacking (types : List CType) (pointer : ℕ) (t : CType) (n : 
 pub record IsStructure (types : List CType) (id : ℕ) : Type 0 where
   pub t : CType
   pub found : type_of types (ref_of id) ≡ Some t
-  pub kind : (t.label.kind ≡ 4) ⊎ (t.label.kind ≡ 5)
+  pub kind : (t.label.kind ≡ BTF_KIND_STRUCT) ⊎ (t.label.kind ≡ BTF_KIND_UNION)
 
 -- each member starts at or after the end of each earlier one, and ends within the size
 pub record IsInOrder (shown : TypeLayout) : Type 0 where

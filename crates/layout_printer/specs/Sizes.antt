@@ -5,6 +5,13 @@ use Rattle.std.specs.Prelude.{if◌then◌else◌}
 use Rattle.std.specs.Option.{option_and_then, option_map, option_map_or}
 use Rattle.std.specs.List.{list_any}
 use Rattle.std.specs.Str.{bytes_eq}
+use Rattle.c_model.specs.declared.kinds.TheConstants.{BTF_KIND_INT, BTF_KIND_PTR, BTF_KIND_ARRAY}
+use Rattle.c_model.specs.declared.kinds.TheConstants.{BTF_KIND_STRUCT, BTF_KIND_UNION}
+use Rattle.c_model.specs.declared.kinds.TheConstants.{BTF_KIND_ENUM, BTF_KIND_TYPEDEF}
+use Rattle.c_model.specs.declared.kinds.TheConstants.{BTF_KIND_VOLATILE, BTF_KIND_CONST}
+use Rattle.c_model.specs.declared.kinds.TheConstants.{BTF_KIND_RESTRICT, BTF_KIND_VAR}
+use Rattle.c_model.specs.declared.kinds.TheConstants.{BTF_KIND_DATASEC, BTF_KIND_FLOAT}
+use Rattle.c_model.specs.declared.kinds.TheConstants.{BTF_KIND_TYPE_TAG, BTF_KIND_ENUM64}
 use Rattle.c_model.specs.declared.graph.CType.{CType}
 use Rattle.c_model.specs.declared.graph.Ref.{Ref}
 use Rattle.c_model.specs.declared.graph.Ref.TheVariants.{Void, Node}
@@ -27,21 +34,21 @@ type_of types (Node x) = slice_get types x
 -- what gives a type of a kind its size
 abbrev pub size_rule : ℕ → SizeRule
 size_rule k =
-    if k == 1 then Stated  -- INT
-    else if k == 2 then Pointer  -- PTR
-    else if k == 3 then Elements  -- ARRAY
-    else if k == 4 then Stated  -- STRUCT
-    else if k == 5 then Stated  -- UNION
-    else if k == 6 then Stated  -- ENUM
-    else if k == 8 then Target  -- TYPEDEF
-    else if k == 9 then Target  -- VOLATILE
-    else if k == 10 then Target  -- CONST
-    else if k == 11 then Target  -- RESTRICT
-    else if k == 14 then Target  -- VAR
-    else if k == 15 then Stated  -- DATASEC
-    else if k == 16 then Stated  -- FLOAT
-    else if k == 18 then Target  -- TYPE_TAG
-    else if k == 19 then Stated  -- ENUM64
+    if k == BTF_KIND_INT then Stated
+    else if k == BTF_KIND_PTR then Pointer
+    else if k == BTF_KIND_ARRAY then Elements
+    else if k == BTF_KIND_STRUCT then Stated
+    else if k == BTF_KIND_UNION then Stated
+    else if k == BTF_KIND_ENUM then Stated
+    else if k == BTF_KIND_TYPEDEF then Target
+    else if k == BTF_KIND_VOLATILE then Target
+    else if k == BTF_KIND_CONST then Target
+    else if k == BTF_KIND_RESTRICT then Target
+    else if k == BTF_KIND_VAR then Target
+    else if k == BTF_KIND_DATASEC then Stated
+    else if k == BTF_KIND_FLOAT then Stated
+    else if k == BTF_KIND_TYPE_TAG then Target
+    else if k == BTF_KIND_ENUM64 then Stated
     else Unsized
 
 -- the size of a type by its rule, given the sizes of the types that it refers to
@@ -82,7 +89,7 @@ pub record AreSizes (types : List CType) (sizes : Sizes) : Type 0 where
 -- an INT of 4 or 8 bytes by one of C's names for `long`
 abbrev pub is_long : CType → Bool
 is_long t =
-    (t.label.kind == 1)
+    (t.label.kind == BTF_KIND_INT)
     && ((t.label.size == 4) || (t.label.size == 8))
     && list_any (bytes_eq t.label.name)
     (codes "long" ∷ codes "long int" ∷ codes "unsigned long" ∷ codes "long unsigned int" ∷ [])

@@ -5,6 +5,7 @@ use Rattle.std.specs.Prelude.{◌∷◌, ◌++◌, codes, decimal, length, take,
 use Rattle.std.specs.Prelude.{if◌then◌else◌}
 use Rattle.std.specs.Option.{option_map_or}
 use Rattle.std.specs.List.{flat_map, list_all, range_with_len}
+use Rattle.c_model.specs.declared.kinds.TheConstants.{BTF_KIND_UNION, BTF_KIND_TYPEDEF}
 use Rattle.c_model.specs.declared.graph.CType.{CType}
 use Rattle.c_model.specs.declared.graph.Ref.{Ref}
 use Rattle.layout_printer.specs.Sizes.{ref_of, type_of}
@@ -33,10 +34,11 @@ sizes_line types id shown =
 
 -- whether an id is a typedef, and the keyword of the structure or union that is shown
 abbrev pub is_typedef : List CType → ℕ → Bool
-is_typedef types id = kind_of types (ref_of id) == 8
+is_typedef types id = kind_of types (ref_of id) == BTF_KIND_TYPEDEF
 
 abbrev pub structure_word : List CType → ℕ → List ℕ
-structure_word types id = if kind_of types (ref_of id) == 5 then codes "union" else codes "struct"
+structure_word types id =
+    if kind_of types (ref_of id) == BTF_KIND_UNION then codes "union" else codes "struct"
 
 -- the first line, and the last
 abbrev pub head_text : List CType → ℕ → ℕ → List ℕ

@@ -15,6 +15,7 @@ use crate::shapes::{
     Shape, is_void, kind_of, leads_to_list, leads_to_pointer, member_name, member_type, part_count,
     qualifier_word, shape_of, tag_name, tag_word,
 };
+use c_model::kinds::BTF_KIND_FUNC_PROTO;
 use c_model::{CType, Ref};
 use std::alloc::{AllocError, Global};
 
@@ -314,7 +315,7 @@ fn put_bound(out: &mut Vec<u8>, count: u32) -> Result<(), AllocError>
 fn list_at(alloc: Global, types: &[CType<'_>], r: Ref) -> Result<Vec<u8>, AllocError>
     ensures { IfOk result (λ v. v.items ≡ list_at types.now r) }
 {
-    if kind_of(types, r) == 13 {
+    if kind_of(types, r) == BTF_KIND_FUNC_PROTO {
         parameters(alloc, types, r)
     } else {
         Ok(Vec::new(alloc))

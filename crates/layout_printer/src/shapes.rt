@@ -6,6 +6,11 @@ ghost use Rattle.layout_printer.specs.Declarations.{part_count, past, qualifier_
 ghost use Rattle.layout_printer.specs.Declarations.{tag_name, tag_word};
 
 use crate::lookups::{target_at, type_of};
+use c_model::kinds::{
+    BTF_KIND_ARRAY, BTF_KIND_CONST, BTF_KIND_ENUM, BTF_KIND_ENUM64, BTF_KIND_FLOAT,
+    BTF_KIND_FUNC_PROTO, BTF_KIND_FWD, BTF_KIND_INT, BTF_KIND_PTR, BTF_KIND_RESTRICT,
+    BTF_KIND_STRUCT, BTF_KIND_TYPE_TAG, BTF_KIND_TYPEDEF, BTF_KIND_UNION, BTF_KIND_VOLATILE,
+};
 use c_model::{CType, Label, Ref};
 
 /// How a type is written in a declaration.
@@ -30,13 +35,14 @@ pub fn shape_of(kind: u8) -> Shape
     ensures { result ≡ shape_of kind }
 {
     match kind {
-        1 | 8 | 16 => Shape::Named,
-        2 => Shape::Pointer,
-        3 => Shape::Array,
-        4 | 5 | 6 | 7 | 19 => Shape::Tagged,
-        9 | 10 | 11 => Shape::Qualifier,
-        13 => Shape::Function,
-        18 => Shape::Annotation,
+        BTF_KIND_INT | BTF_KIND_TYPEDEF | BTF_KIND_FLOAT => Shape::Named,
+        BTF_KIND_PTR => Shape::Pointer,
+        BTF_KIND_ARRAY => Shape::Array,
+        BTF_KIND_STRUCT | BTF_KIND_UNION | BTF_KIND_ENUM | BTF_KIND_FWD | BTF_KIND_ENUM64 =>
+            Shape::Tagged,
+        BTF_KIND_VOLATILE | BTF_KIND_CONST | BTF_KIND_RESTRICT => Shape::Qualifier,
+        BTF_KIND_FUNC_PROTO => Shape::Function,
+        BTF_KIND_TYPE_TAG => Shape::Annotation,
         _ => Shape::Other,
     }
 }
@@ -46,10 +52,10 @@ pub fn tag_word(label: &Label<'_>) -> &'static [u8]
     ensures { result.now ≡ tag_word label.now }
 {
     match label.kind {
-        4 => b"struct",
-        5 => b"union",
-        7 if label.flag => b"union",
-        7 => b"struct",
+        BTF_KIND_STRUCT => b"struct",
+        BTF_KIND_UNION => b"union",
+        BTF_KIND_FWD if label.flag => b"union",
+        BTF_KIND_FWD => b"struct",
         _ => b"enum",
     }
 }
@@ -66,8 +72,8 @@ pub fn qualifier_word(kind: u8) -> &'static [u8]
     ensures { result.now ≡ qualifier_word kind }
 {
     match kind {
-        9 => b"volatile",
-        10 => b"const",
+        BTF_KIND_VOLATILE => b"volatile",
+        BTF_KIND_CONST => b"const",
         _ => b"restrict",
     }
 }
@@ -130,14 +136,14 @@ pub fn leads_to_list(types: &[CType<'_>], r: Ref) -> bool
     ensures { result ≡ leads_to_list types.now r }
 {
     let kind = kind_of(types, past(types, r));
-    kind == 3 || kind == 13
+    kind == BTF_KIND_ARRAY || kind == BTF_KIND_FUNC_PROTO
 }
 
 /// Whether a pointer stands behind qualifiers and tags.
 pub fn leads_to_pointer(types: &[CType<'_>], r: Ref) -> bool
     ensures { result ≡ leads_to_pointer types.now r }
 {
-    kind_of(types, past(types, r)) == 2
+    kind_of(types, past(types, r)) == BTF_KIND_PTR
 }
 
 /// What stands behind at most 64 qualifiers and tags.
@@ -157,5 +163,8 @@ fn past(types: &[CType<'_>], r: Ref) -> Ref
 fn is_passed(kind: u8) -> bool
     ensures { result ≡ is_passed kind }
 {
-    kind == 9 || kind == 10 || kind == 11 || kind == 18
+    kind == BTF_KIND_VOLATILE
+        || kind == BTF_KIND_CONST
+        || kind == BTF_KIND_RESTRICT
+        || kind == BTF_KIND_TYPE_TAG
 }

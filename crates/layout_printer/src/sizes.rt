@@ -8,6 +8,11 @@ ghost use Rattle.layout_printer.specs.Sizes.{size_rule};
 
 use crate::finding::find;
 use btf_codec::Table;
+use c_model::kinds::{
+    BTF_KIND_ARRAY, BTF_KIND_CONST, BTF_KIND_DATASEC, BTF_KIND_ENUM, BTF_KIND_ENUM64,
+    BTF_KIND_FLOAT, BTF_KIND_INT, BTF_KIND_PTR, BTF_KIND_RESTRICT, BTF_KIND_STRUCT,
+    BTF_KIND_TYPE_TAG, BTF_KIND_TYPEDEF, BTF_KIND_UNION, BTF_KIND_VAR, BTF_KIND_VOLATILE,
+};
 use c_model::{CType, Ref};
 use std::alloc::{AllocError, Global};
 
@@ -81,7 +86,7 @@ fn is_long(t: &CType<'_>) -> bool
     ensures { result ≡ is_long t.now }
 {
     let name = t.label.name.bytes();
-    t.label.kind == 1
+    t.label.kind == BTF_KIND_INT
         && (t.label.size == 4 || t.label.size == 8)
         && (name == b"long".as_slice()
             || name == b"long int".as_slice()
@@ -94,10 +99,21 @@ pub fn size_rule(kind: u8) -> SizeRule
     ensures { result ≡ size_rule kind }
 {
     match kind {
-        1 | 4 | 5 | 6 | 15 | 16 | 19 => SizeRule::Stated,
-        2 => SizeRule::Pointer,
-        3 => SizeRule::Elements,
-        8 | 9 | 10 | 11 | 14 | 18 => SizeRule::Target,
+        BTF_KIND_INT
+        | BTF_KIND_STRUCT
+        | BTF_KIND_UNION
+        | BTF_KIND_ENUM
+        | BTF_KIND_DATASEC
+        | BTF_KIND_FLOAT
+        | BTF_KIND_ENUM64 => SizeRule::Stated,
+        BTF_KIND_PTR => SizeRule::Pointer,
+        BTF_KIND_ARRAY => SizeRule::Elements,
+        BTF_KIND_TYPEDEF
+        | BTF_KIND_VOLATILE
+        | BTF_KIND_CONST
+        | BTF_KIND_RESTRICT
+        | BTF_KIND_VAR
+        | BTF_KIND_TYPE_TAG => SizeRule::Target,
         _ => SizeRule::Unsized,
     }
 }

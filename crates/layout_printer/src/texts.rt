@@ -12,6 +12,7 @@ use crate::shapes::kind_of;
 use crate::slots::TypeLayout;
 use crate::summary::put_summary;
 use btf_codec::Table;
+use c_model::kinds::{BTF_KIND_TYPEDEF, BTF_KIND_UNION};
 use c_model::{CType, Ref};
 use dw_base::Bytes;
 use std::alloc::{AllocError, Global};
@@ -85,7 +86,7 @@ fn structure_word(types: &[CType<'_>], id: u32) -> &'static [u8]
     ensures { result.now ≡ structure_word types.now id }
 {
     match kind_of(types, ref_of(id)) {
-        5 => b"union",
+        BTF_KIND_UNION => b"union",
         _ => b"struct",
     }
 }
@@ -101,7 +102,7 @@ fn put_head(
 {
     let r = ref_of(id);
     let word = structure_word(types, structure);
-    if kind_of(types, r) == 8 {
+    if kind_of(types, r) == BTF_KIND_TYPEDEF {
         put(
             out,
             &[
@@ -128,7 +129,7 @@ fn put_foot(out: &mut Vec<u8>, types: &[CType<'_>], id: u32) -> Result<(), Alloc
     ensures { OnOk result (out.new.items ≡ out.old.items ++ foot_text types.now id) }
 {
     let r = ref_of(id);
-    if kind_of(types, r) == 8 {
+    if kind_of(types, r) == BTF_KIND_TYPEDEF {
         put(
             out,
             &[

@@ -6,6 +6,8 @@ use Rattle.std.specs.Option.{option_and_then, option_map, option_map_or}
 use Rattle.std.proofs.lemmas.Bool.{eqb-true}
 use Rattle.std.proofs.lemmas.Option.{slice_get_within, slice_get-get_or}
 use Rattle.btf_codec.specs.Fields.{id_of, target_at}
+use Rattle.c_model.specs.declared.kinds.TheConstants.{BTF_KIND_STRUCT, BTF_KIND_UNION}
+use Rattle.c_model.specs.declared.kinds.TheConstants.{BTF_KIND_TYPEDEF}
 use Rattle.c_model.specs.declared.label.Part.{Part}
 use Rattle.c_model.specs.declared.graph.CType.{CType}
 use Rattle.c_model.specs.declared.graph.Ref.{Ref}
@@ -65,14 +67,15 @@ near_found :
     → Found types s
 near_found types x s None at h = absurd (cc)
 near_found types x s (Some t) at h =
-    by_found types x s t (is_structure t) (is_named t) (eqb t.label.kind 8) at refl h
+    by_found types x s t (is_structure t) (is_named t) (eqb t.label.kind BTF_KIND_TYPEDEF) at refl h
 
 structure_found : (types : List CType) (x s : ℕ) → structure_at types x ≡ Some s → Found types s
 structure_found types x s h = near_found types x s (slice_get types x) refl h
 
-either : (k : ℕ) (b c : Bool) → (eqb k 4 ≡ b) → (eqb k 5 ≡ c) → (b || c) ≡ true → (k ≡ 4) ⊎ (k ≡ 5)
-either k true c e f h = inl (eqb-true k 4 e)
-either k false true e f h = inr (eqb-true k 5 f)
+either : (k : ℕ) (b c : Bool) → (eqb k BTF_KIND_STRUCT ≡ b) → (eqb k BTF_KIND_UNION ≡ c)
+    → (b || c) ≡ true → (k ≡ BTF_KIND_STRUCT) ⊎ (k ≡ BTF_KIND_UNION)
+either k true c e f h = inl (eqb-true k BTF_KIND_STRUCT e)
+either k false true e f h = inr (eqb-true k BTF_KIND_UNION f)
 either k false false e f h = absurd (cc)
 
 pub structure_there : (types : List CType) (x s : ℕ) → structure_at types x ≡ Some s
@@ -82,8 +85,8 @@ structure_there types x s h =
     record {
       t = found.0;
       found = found.1;
-      kind = either found.0.label.kind (eqb found.0.label.kind 4)
-          (eqb found.0.label.kind 5) refl refl found.2;
+      kind = either found.0.label.kind (eqb found.0.label.kind BTF_KIND_STRUCT)
+          (eqb found.0.label.kind BTF_KIND_UNION) refl refl found.2;
     }
 
 -- a member that has its part

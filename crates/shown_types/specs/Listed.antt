@@ -5,13 +5,15 @@ use Rattle.std.specs.List.{filter, flat_map, range_with_len}
 use Rattle.std.specs.Option.{option_and_then, option_map_or}
 use Rattle.std.specs.Str.{bytes_eq}
 use Rattle.btf_codec.specs.Fields.{target_at}
+use Rattle.c_model.specs.declared.kinds.TheConstants.{BTF_KIND_STRUCT, BTF_KIND_UNION}
+use Rattle.c_model.specs.declared.kinds.TheConstants.{BTF_KIND_TYPEDEF}
 use Rattle.c_model.specs.declared.graph.CType.{CType}
 use Rattle.c_model.specs.declared.graph.Ref.{Ref}
 use Rattle.c_model.specs.declared.graph.Ref.TheVariants.{Void, Node}
 
 -- STRUCT and UNION
 abbrev pub is_structure : CType → Bool
-is_structure t = t.label.kind == 4 || t.label.kind == 5
+is_structure t = t.label.kind == BTF_KIND_STRUCT || t.label.kind == BTF_KIND_UNION
 
 abbrev pub is_named : CType → Bool
 is_named t = not (length t.label.name == 0)
@@ -30,7 +32,8 @@ nameless_at types (Node y) = option_and_then (nameless_by y) (slice_get types y)
 abbrev pub structure_by : List CType → ℕ → CType → Option ℕ
 structure_by types x t =
     if is_structure t then (if is_named t then Some x else None)
-    else if t.label.kind == 8 then nameless_at types (target_at t.targets 0) else None
+    else if t.label.kind == BTF_KIND_TYPEDEF then nameless_at types (target_at t.targets 0)
+    else None
 
 abbrev pub structure_at : List CType → ℕ → Option ℕ
 structure_at types x = option_and_then (structure_by types x) (slice_get types x)

@@ -5,19 +5,14 @@ ghost use Rattle.btf_codec.specs.Fields.{target_at};
 ghost use Rattle.shown_types.specs.Listed.{is_structure, is_named, nameless_at, structure_by};
 ghost use Rattle.shown_types.specs.Listed.{structure_at, is_listed, listed};
 
+use c_model::kinds::{BTF_KIND_STRUCT, BTF_KIND_TYPEDEF, BTF_KIND_UNION};
 use c_model::{CType, Ref};
 use std::alloc::{AllocError, Global};
-
-const STRUCT: u8 = 4;
-
-const UNION: u8 = 5;
-
-const TYPEDEF: u8 = 8;
 
 fn is_structure(t: &CType<'_>) -> bool
     ensures { result ≡ is_structure t.now }
 {
-    t.label.kind == STRUCT || t.label.kind == UNION
+    t.label.kind == BTF_KIND_STRUCT || t.label.kind == BTF_KIND_UNION
 }
 
 fn is_named(t: &CType<'_>) -> bool
@@ -60,7 +55,7 @@ fn structure_by(types: &[CType<'_>], x: u32, t: &CType<'_>) -> Option<u32>
     if is_structure(t) {
         return if is_named(t) { Some(x) } else { None };
     }
-    if t.label.kind == TYPEDEF {
+    if t.label.kind == BTF_KIND_TYPEDEF {
         return nameless_at(types, first_target(t));
     }
     None

@@ -2,6 +2,7 @@
 -- behind them the type of the indices of its arrays.
 use Rattle.std.specs.Prelude.{ℕ, ◌+◌, ◌<◌, ◌^◌, Bool, false, List, [], ◌∷◌, ◌++◌, length, map}
 use Rattle.std.specs.Prelude.{Option, None, Some, Result, Ok, Err, if◌then◌else◌}
+use Rattle.c_model.specs.declared.kinds.TheConstants.{BTF_KIND_INT}
 use Rattle.c_model.specs.declared.label.Label.{Label}
 use Rattle.type_attributes.specs.declared.source.SourceType.{SourceType}
 use Rattle.type_attributes.specs.declared.source.Target.{Target}
@@ -34,7 +35,14 @@ index_name = 95 ∷ 95 ∷ 65 ∷ 82 ∷ 82 ∷ 65 ∷ 89 ∷ 95 ∷ 83 ∷ 73 �
 
 -- the type of the indices: an INT of 4 bytes without encoding, which has 32 bits
 abbrev pub index_label : Label
-index_label = record { kind = 1; name = index_name; flag = false; size = 4; extra = 32; parts = [] }
+index_label = record {
+  kind = BTF_KIND_INT;
+  name = index_name;
+  flag = false;
+  size = 4;
+  extra = 32;
+  parts = [];
+}
 
 abbrev pub source_of : ℕ → ℕ → SourceType → Source
 source_of file index t =
