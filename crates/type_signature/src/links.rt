@@ -1,11 +1,11 @@
 //! The references of a graph as words, side by side.
 ghost use Rattle.std.specs.Prelude.{◌≡◌, ◌<◌, ◌-◌, ◌++◌, ◌^◌, map, length, IfOk};
-ghost use Rattle.c_model.specs.Graph.{IsBelow};
 ghost use Rattle.c_model.specs.Partition.{targets_at};
 ghost use Rattle.packed_graph.specs.Packed.{word_of};
 ghost use Rattle.type_signature.specs.Links.{AreLinks};
 
-use c_model::{Ref, TypeGraph};
+use c_model::TypeGraph;
+use packed_graph::nodes::word;
 use std::alloc::{AllocError, Global};
 
 /// The references of each node as words: those of a node stand from the end of the node before to
@@ -14,18 +14,6 @@ use std::alloc::{AllocError, Global};
 pub struct Links {
     pub ends: Vec<u32>,
     pub words: Vec<u32>,
-}
-
-/// A reference as a word: 0 for void, else 1 more than the node.
-#[inline(always)]
-fn word(target: Ref) -> u32
-    requires { IsBelow (2 ^ 32 - 1) target }
-    ensures { result ≡ word_of target }
-{
-    match target {
-        Ref::Void => 0,
-        Ref::Node(y) => y + 1,
-    }
 }
 
 /// Appends the words of a node's references.
