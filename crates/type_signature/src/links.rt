@@ -1,5 +1,5 @@
 //! The references of a graph as words, side by side.
-ghost use Rattle.std.specs.Prelude.{◌≡◌, ◌<◌, ◌-◌, ◌++◌, ◌^◌, map, length, IfOk};
+ghost use Rattle.std.specs.Prelude.{◌≡◌, ◌<◌, ◌++◌, ◌^◌, map, length, IfOk};
 ghost use Rattle.c_model.specs.Partition.{targets_at};
 ghost use Rattle.packed_graph.specs.Packed.{word_of};
 ghost use Rattle.type_signature.specs.Links.{AreLinks};
