@@ -15,6 +15,7 @@ ghost use Rattle.unit_encoder.specs.Held.{Stands, Finds, Holds};
 ghost use Rattle.type_attributes.specs.declared.source.SourceType.{SourceType};
 
 use crate::starts::Starts;
+use c_model::kinds::BTF_KIND_INT;
 use c_model::{Label, Parts, Ref};
 use c_types::{SourceType, Target, Targets, UnitTypes};
 use dw_base::Name;
@@ -150,7 +151,7 @@ fn index_type<'a>(alloc: Global) -> Label<'a>
     ensures { result ≡ index_label }
 {
     Label {
-        kind: 1,
+        kind: BTF_KIND_INT,
         name: Name::new(b"__ARRAY_SIZE_TYPE__"),
         flag: false,
         size: 4,
