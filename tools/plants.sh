@@ -11,11 +11,12 @@ scratch=$(mktemp -d) || exit 2
 trap 'rm -rf "$scratch"' EXIT
 page=$root/docs/AUDIT.md
 
-# the crates with clauses, in the order of crates.txt; programs have none that a body can be planted under
+# the crates with clauses, in the order of crates.txt; programs and crates of tests have none that a body can be planted under
 listed() {
   local crate
-  while IFS=: read -r crate _; do
-    if [ -f "$root/crates/$crate/src/lib.rt" ]; then echo "$crate"; fi
+  while read -r crate _; do
+    crate=${crate%:}
+    if grep -qs '^pub ' "$root/crates/$crate/src/lib.rt"; then echo "$crate"; fi
   done <"$root/crates.txt"
 }
 
