@@ -4,6 +4,7 @@ program and for its objects, each alone; then the names of the types that differ
 the programs. What differs without a known cause, and what one of the two refuses, is told on standard error."""
 import collections
 import glob
+import multiprocessing
 import os
 import re
 import subprocess
@@ -72,26 +73,35 @@ def cells_of_functions(path, ours, theirs):
     return f"{same:,} | {len(here):,} | {len(symbols(path) & set(here))} | {len(there)} | {len(other)}"
 
 
+def compared(program, one, folder):
+    """What the two tools write of a program of a folder and of its objects: its row on types, its row on functions or
+    nothing, and the names of the types that differ, by each cause."""
+    names = collections.defaultdict(set)
+    linked, start = f"{folder}/{one}", f"| {one} | {way(folder)} |"
+    objects = sorted(glob.glob(f"{linked}.o.d/*.o"))
+    whole, single = Tally(names), Tally(names)
+    with tempfile.TemporaryDirectory() as scratch:
+        found = os.path.exists(linked) and whole.add(program, linked, scratch, ["--funcs"])
+        for path in objects:
+            single.add(program, path, scratch)
+    cells = whole.cells() if os.path.exists(linked) else "not built | "
+    functions = f"{start} {cells_of_functions(linked, *found)} |" if found else None
+    return f"{start} {cells} | {len(objects)} | {single.cells()} |", functions, dict(names)
+
+
 def main():
     program, *folders = (os.path.abspath(word) for word in sys.argv[1:])
-    names, types, functions = collections.defaultdict(set), [], []
-    built = [(one, folder) for one in PROGRAMS for folder in folders]
-    with tempfile.TemporaryDirectory() as scratch:
-        for one, folder in built:
-            linked, start = f"{folder}/{one}", f"| {one} | {way(folder)} |"
-            objects = sorted(glob.glob(f"{linked}.o.d/*.o"))
-            whole, single = Tally(names), Tally(names)
-            found = os.path.exists(linked) and whole.add(program, linked, scratch, ["--funcs"])
-            for path in objects:
-                single.add(program, path, scratch)
-            cells = whole.cells() if os.path.exists(linked) else "not built | "
-            types.append(f"{start} {cells} | {len(objects)} | {single.cells()} |")
-            if found:
-                functions.append(f"{start} {cells_of_functions(linked, *found)} |")
-    print_table(TYPES, types)
-    rows = [f"| {why} | {', '.join(f'`{name}`' for name in sorted(found))} |" for why, found in sorted(names.items())]
+    built = [(program, one, folder) for one in PROGRAMS for folder in folders]
+    with multiprocessing.Pool() as pool:
+        found = pool.starmap(compared, built, chunksize=1)
+    print_table(TYPES, [types for types, _, _ in found])
+    names = collections.defaultdict(set)
+    for _, _, differing_names in found:
+        for why, some in differing_names.items():
+            names[why] |= some
+    rows = [f"| {why} | {', '.join(f'`{name}`' for name in sorted(some))} |" for why, some in sorted(names.items())]
     print_table("\n" + CAUSES, rows)
-    print_table("\n" + FUNCTIONS, functions)
+    print_table("\n" + FUNCTIONS, [functions for _, functions, _ in found if functions])
 
 
 if __name__ == "__main__":
