@@ -1,6 +1,7 @@
 pub mod Faults
 pub mod Faulty
 pub mod Grow
+pub mod Mapping
 pub mod Placing
 pub mod Refusing
 pub mod Sizing

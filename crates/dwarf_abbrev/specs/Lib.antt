@@ -4,4 +4,5 @@ pub mod Refusals
 pub mod Rows
 pub mod Standard
 pub mod Table
+pub mod ValueMaps
 pub mod Sizes

@@ -1,7 +1,6 @@
 -- How many bytes the value of a form has, where that does not depend on the value (DWARF 5, section
 -- 7.5.6, table 7.6, and the two forms of GNU).
-use Rattle.std.specs.Prelude.{ℕ, ◌≡◌, ◌+◌, ◌*◌, ◌==◌, List, [], ◌∷◌, Option, None, Some, take}
-use Rattle.std.specs.Prelude.{slice_get}
+use Rattle.std.specs.Prelude.{ℕ, ◌≡◌, ◌+◌, ◌*◌, ◌==◌, List, [], ◌∷◌, Option, None, Some}
 use Rattle.std.specs.Map.{lookup}
 use Rattle.std.specs.Option.{option_map}
 use Rattle.dwarf_abbrev.specs.declared.constants.TheConstants.{DW_FORM_addr, DW_FORM_block2}
@@ -115,7 +114,3 @@ total o a z = z.bytes + z.offsets * o + z.addresses * a
 -- the values of some pairs have just this size, whatever the widths of offsets and addresses are
 abbrev pub IsSize : List Spec → Size → Type 0
 IsSize specs z = (o a : ℕ) → sizes_of o a specs ≡ Some (total o a z)
-
--- the values before the pair of each place have just the size of that place
-abbrev pub AreSizes : List Spec → List Size → Type 0
-AreSizes specs sizes = (i : ℕ) (z : Size) → slice_get sizes i ≡ Some z → IsSize (take i specs) z

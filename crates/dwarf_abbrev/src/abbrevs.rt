@@ -10,7 +10,7 @@ ghost use Rattle.dwarf_abbrev.specs.Table.{Gives, declaration_at, table_at};
 use crate::fault::AbbrevFault;
 use crate::pieces::{read_flag, read_number, read_specs};
 use crate::row::{Abbrev, Row};
-use crate::size::{fixed_sizes, size_at};
+use crate::value_map::value_map;
 use std::alloc::{AllocError, Global};
 use std::collections::BTreeMap;
 use std::marker::Model;
@@ -94,14 +94,14 @@ fn read_row(
     let (tag, after) = read_number(bytes, at, after)?;
     let (children, after) = read_flag(bytes, at, after)?;
     let (specs, after) = read_specs(alloc, bytes, at, after)?;
-    let sizes = fixed_sizes(alloc, specs.as_slice())?;
+    let map = value_map(alloc, specs.as_slice())?;
     Ok((
         Some(Row {
             code,
             tag,
             specs,
             children,
-            sizes,
+            map,
         }),
         after,
     ))
@@ -175,8 +175,7 @@ impl Abbrevs {
             tag: row.tag,
             children: row.children,
             specs: row.specs.as_slice(),
-            sizes: row.sizes.as_slice(),
-            size: size_at(row.sizes.as_slice(), row.specs.len()),
+            map: &row.map,
         })
     }
 }

@@ -14,9 +14,11 @@ pub mod size;
 pub mod spec;
 #[cfg(test)]
 mod tests;
+pub mod value_map;
 
 pub use abbrevs::Abbrevs;
 pub use fault::AbbrevFault;
 pub use row::Abbrev;
-pub use size::{Size, Width, size_at};
+pub use size::{Size, Width};
 pub use spec::Spec;
+pub use value_map::{Run, ValueMap};

@@ -1,9 +1,8 @@
 //! Abbreviations, as a table owns them and as it hands them out.
-ghost use Rattle.std.specs.Option.{ForSome};
-ghost use Rattle.dwarf_abbrev.specs.Sizes.{IsSize, AreSizes};
+ghost use Rattle.dwarf_abbrev.specs.ValueMaps.{IsMapOf};
 
-use crate::size::Size;
 use crate::spec::Spec;
+use crate::value_map::ValueMap;
 
 /// An abbreviation as the table owns it.
 #[derive(Debug, Drop)]
@@ -12,9 +11,8 @@ pub(crate) struct Row {
     pub(crate) tag: u64,
     pub(crate) specs: Vec<Spec>,
     pub(crate) children: bool,
-    /// How many bytes the values before each attribute have, and all, as far as that is known.
-    pub(crate) sizes: Vec<Size>,
-    ghost sized: { AreSizes specs.items sizes.items },
+    pub(crate) map: ValueMap,
+    ghost mapped: { IsMapOf specs.items map },
 }
 
 /// An abbreviation of a table (DWARF 5, section 7.5.3).
@@ -28,11 +26,7 @@ pub struct Abbrev<'t> {
     pub children: bool,
     /// Its attributes, in the order in which an entry holds their values.
     pub specs: &'t [Spec],
-    /// How many bytes the values before each attribute have, and at the end all values, as far as
-    /// that is known without them: up to the first one whose form has no fixed width.
-    pub sizes: &'t [Size],
-    /// How many bytes all values have, where that is known without them.
-    pub size: Option<Size>,
-    ghost stepped: { AreSizes specs.now sizes.now },
-    ghost sized: { ForSome size (IsSize specs.now) },
+    /// Where the values of its entries stand, as far as that is known without them.
+    pub map: &'t ValueMap,
+    ghost mapped: { IsMapOf specs.now map.now },
 }

@@ -1,7 +1,6 @@
 //! How many bytes the values of an abbreviation have, where that is known without the values.
-ghost use Rattle.std.specs.Prelude.{◌≡◌, ◌+◌, ℕ, Some, IfSome, IfOk, slice_get};
-ghost use Rattle.std.specs.Option.{ForSome};
-ghost use Rattle.dwarf_abbrev.specs.Sizes.{width_of, bytes_of, width_in, plus, total, AreSizes};
+ghost use Rattle.std.specs.Prelude.{◌≡◌, ◌+◌, ℕ, Some, IfSome};
+ghost use Rattle.dwarf_abbrev.specs.Sizes.{width_of, bytes_of, width_in, plus, total};
 
 use crate::constants::{
     DW_FORM_GNU_ref_alt, DW_FORM_GNU_strp_alt, DW_FORM_addr, DW_FORM_addrx1, DW_FORM_addrx2,
@@ -11,8 +10,6 @@ use crate::constants::{
     DW_FORM_ref2, DW_FORM_ref4, DW_FORM_ref8, DW_FORM_sec_offset, DW_FORM_strp, DW_FORM_strp_sup,
     DW_FORM_strx1, DW_FORM_strx2, DW_FORM_strx3, DW_FORM_strx4,
 };
-use crate::spec::Spec;
-use std::alloc::{AllocError, Global};
 
 /// How many bytes the value of a form has.
 #[derive(Clone, Copy, Debug, PartialEq, Eq)]
@@ -24,6 +21,13 @@ pub enum Width {
     /// The bytes of an address of the unit.
     Address,
 }
+
+/// No bytes.
+pub(crate) const NO_BYTES: Size = Size {
+    bytes: 0,
+    offsets: 0,
+    addresses: 0,
+};
 
 /// So many bytes, offsets and addresses.
 #[derive(Clone, Copy, Debug, PartialEq, Eq)]
@@ -112,41 +116,10 @@ fn with_width(size: Size, width: Width) -> Option<Size>
 
 /// So many bytes and those of one form more. `None` where the form has no fixed width, and where a
 /// sum passes 32 bits.
-fn with_form(size: Size, form: u64) -> Option<Size>
+pub(crate) fn with_form(size: Size, form: u64) -> Option<Size>
     ensures { (o a : ℕ) → IfSome result
         (λ z. plus (Some (total o a size)) (bytes_of o a form) ≡ Some (total o a z)) }
 {
     let width = form_width(form)?;
     with_width(size, width)
-}
-
-/// The bytes of the values before each pair, and of all at the end, as far as they are known
-/// without the values: up to the first form that has no fixed width, or to a sum that passes 32
-/// bits.
-pub(crate) fn fixed_sizes(alloc: Global, specs: &[Spec]) -> Result<Vec<Size>, AllocError>
-    ensures { IfOk result (λ sizes. AreSizes specs.now sizes.items) }
-{
-    let mut sizes = Vec::new(alloc);
-    let mut size = Size {
-        bytes: 0,
-        offsets: 0,
-        addresses: 0,
-    };
-    for spec in specs {
-        sizes.push(size)?;
-        match with_form(size, spec.form) {
-            Some(next) => size = next,
-            None => return Ok(sizes),
-        }
-    }
-    sizes.push(size)?;
-    Ok(sizes)
-}
-
-/// The size at a place of a list; `None` where the list has no such place.
-#[inline(always)]
-pub fn size_at(sizes: &[Size], index: usize) -> Option<Size>
-    ensures { ForSome result (λ z. slice_get sizes.now index ≡ Some z) }
-{
-    sizes.get(index).copied()
 }

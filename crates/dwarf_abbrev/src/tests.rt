@@ -1,5 +1,6 @@
 //! Tables in bytes, and what reading them answers.
 use crate::abbrevs::Abbrevs;
+use crate::constants::DW_AT_name;
 use crate::fault::AbbrevFault;
 use crate::size::Size;
 use crate::spec::Spec;
@@ -98,8 +99,34 @@ fn size(bytes: u32, offsets: u32, addresses: u32) -> Option<Size> {
     })
 }
 
+/// The size of all values of an abbreviation's entries, where all have a fixed width.
 fn size_of(table: &Abbrevs, code: u64) -> Option<Size> {
-    table.get(code)?.size
+    let map = table.get(code)?.map;
+    let run = map.runs.last()?;
+    if run.from == 0 { Some(run.size) } else { None }
+}
+
+#[test]
+fn an_abbreviation_tells_its_runs(rt: HostRuntime) -> Result<(), AbbrevFault> {
+    let table = Abbrevs::read(rt.alloc(), SIZED, 0)?;
+    let cases = [
+        (1, 5, 0, 0, Some(0)),
+        (3, 2, 2, 1, None),
+        (4, 2, 2, 1, None),
+        (5, 2, 2, 1, None),
+        (6, 2, 0, 0, None),
+    ];
+    for (code, last, from, loose, name) in cases {
+        let Some(abbrev) = table.get(code) else {
+            assert!(rt; false);
+            return Ok(());
+        };
+        assert_eq!(rt; abbrev.map.runs.len(), last + 1);
+        assert_eq!(rt; abbrev.map.runs[last].from, from);
+        assert_eq!(rt; abbrev.map.loose.len(), loose);
+        assert_eq!(rt; abbrev.map.first_of(abbrev.specs, DW_AT_name), name);
+    }
+    Ok(())
 }
 
 /// Abbreviations with: strp, data2, addr, strp, flag; implicit_const and flag_present; an indirect

@@ -5,10 +5,6 @@ use Rattle.dwarf_abbrev.specs.declared.row.Row.{Row}
 use Rattle.dwarf_abbrev.specs.declared.spec.Spec.{Spec}
 use Rattle.dwarf_abbrev.proofs.Placing.{declaration_there, no_declaration, declarations_length}
 use Rattle.dwarf_abbrev.proofs.Placing.{declaration_of_row}
-use Rattle.dwarf_abbrev.specs.Sizes.{AreSizes}
-use Rattle.dwarf_abbrev.specs.declared.size.Size.{Size}
-use Rattle.dwarf_abbrev.proofs.Sizing.{whole}
-use Rattle.std.specs.Prelude.{slice_get}
 use Rattle.dwarf_abbrev.proofs.abbrevs.Abbrevs.get.Goals as goal
 
 pub returns-in_err-index : goal.returns-in_err-index
@@ -55,14 +51,6 @@ returns c =
     c.as_slice-2.ensures.value ∙ sym q ∙ ap (declaration_with c.args.code) c.self.view_is
 
 pub invariant_of-result : goal.invariant_of-result
-invariant_of-result c =
-    let stepped : AreSizes c.as_slice-2.result.now c.as_slice-3.result.now =
-    rw (c.as_slice-2.ensures.value, c.as_slice-3.ensures.value) c.index-row.result.now.sized in
-    record {
-      stepped = stepped;
-      sized = λ x e. rw c.as_slice-2.ensures.value (whole c.index-row.result.now.specs.items
-          c.index-row.result.now.sizes.items c.len.result x c.index-row.result.now.sized
-          (c.len.ensures ∙ c.index-row.result.now.specs.ok.0)
-          (ap (λ (zs : List Size). slice_get zs c.len.result) (sym c.as_slice-4.ensures.value)
-          ∙ c.size_at.ensures x e));
-    }
+invariant_of-result c = record {
+  mapped = rw c.as_slice-2.ensures.value c.index-row.result.now.mapped;
+}
