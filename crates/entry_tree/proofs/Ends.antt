@@ -4,7 +4,7 @@ use Rattle.std.proofs.Common.{◌||◌, ◌++◌}
 use Rattle.std.proofs.Common.{take, zero, suc}
 use Rattle.std.proofs.Common.{true, false, ◌==◌, Some, None, if◌then◌else◌, Result, Ok, Err, is_ok}
 use Rattle.std.proofs.Common.{refl, sym, ap, ◌∙◌, arith}
-use Rattle.std.proofs.lemmas.List.{drop_more, drop_all}
+use Rattle.std.proofs.lemmas.List.{drop_more, drop_all, take_more}
 use Rattle.dwarf_abbrev.specs.declared.spec.Spec.{Spec}
 use Rattle.dwarf_forms.specs.declared.fault.FormFault.{FormFault}
 use Rattle.dwarf_forms.specs.Values.{Shown, Within, value_of, end_of}
@@ -13,7 +13,7 @@ use Rattle.std.proofs.lemmas.Bool.{eq-eqb, ne_eqb}
 use Rattle.entry_tree.specs.Reads.{and_then, values_at, end_of_values, ends_at, found_in}
 use Rattle.entry_tree.specs.Reads.{value_with}
 use Rattle.entry_tree.specs.Items.{listed}
-use Rattle.entry_tree.specs.Firsts.{has_spec}
+use Rattle.dwarf_abbrev.specs.ValueMaps.{has_spec}
 
 rest : (s : Spec) (x : Shown) (q : Result (List (ℕ × Shown) × ℕ) FormFault)
     → end_of_values (and_then q (λ (vs : List (ℕ × Shown) × ℕ). Ok ((s.attribute, x) ∷ vs.0, vs.1)))
@@ -175,16 +175,38 @@ found_behind c (s ∷ ss) (suc i) at name h =
     ∙ sym (ap (λ (r : Result ℕ FormFault). and_then r (λ (m : ℕ). found_in c (drop i ss) m name))
     (ends_more c s (take i ss) at)))
 
--- no pair of the first has a name, one pair more
-one_without : (b : Bool) → b ≡ false → (b || false) ≡ false
-one_without b h = rw h refl
+-- the values of some pairs and of more behind them
+ends_after : (c : Within) (s : Spec) (xs ys : List Spec) (r : Result (Shown × ℕ) FormFault)
+    → ((e : ℕ) → ends_at c (xs ++ ys) e ≡ and_then (ends_at c xs e) (λ (m : ℕ). ends_at c ys m))
+    → and_then (end_of r) (λ (e : ℕ). ends_at c (xs ++ ys) e)
+    ≡ and_then (and_then (end_of r) (λ (e : ℕ). ends_at c xs e)) (λ (m : ℕ). ends_at c ys m)
+ends_after c s xs ys (Ok v) h = h v.1
+ends_after c s xs ys (Err f) h = refl
 
-pub has_spec_push : (ss : List Spec) (s : Spec) (name : ℕ) → has_spec name ss ≡ false
-    → (s.attribute ≡ name → ⊥) → has_spec name (ss ++ s ∷ []) ≡ false
-has_spec_push [] s name h ne = one_without (s.attribute == name) (ne_eqb s.attribute name ne)
-has_spec_push (t ∷ ss) s name h ne =
-    let n = or_false (t.attribute == name) (has_spec name ss) h in
-    rw n.0 (has_spec_push ss s name n.1 ne)
+pub ends_append : (c : Within) (xs ys : List Spec) (at : ℕ)
+    → ends_at c (xs ++ ys) at ≡ and_then (ends_at c xs at) (λ (m : ℕ). ends_at c ys m)
+ends_append c [] ys at =
+    sym (ap (λ (r : Result ℕ FormFault). and_then r (λ (m : ℕ). ends_at c ys m)) (ends_none c at))
+ends_append c (s ∷ xs) ys at =
+    ends_more c s (xs ++ ys) at
+    ∙ ends_after c s xs ys (value_of c s at) (λ (e : ℕ). ends_append c xs ys e)
+    ∙ sym (ap (λ (r : Result ℕ FormFault). and_then r (λ (m : ℕ). ends_at c ys m))
+    (ends_more c s xs at))
+
+pub ends_one : (c : Within) (s : Spec) (at : ℕ) → ends_at c (s ∷ []) at ≡ end_of (value_of c s at)
+ends_one c s at = ends_more c s [] at ∙ one_end (end_of (value_of c s at)) where
+  one_end : (r : Result ℕ FormFault) → and_then r (λ (e : ℕ). ends_at c [] e) ≡ r
+  one_end (Ok e) = ends_none c e
+  one_end (Err f) = refl
+
+pub ends_one_more : (c : Within) (specs : List Spec) (i from at end : ℕ) (d : Spec)
+    → i < length specs → end_of (value_of c (get_or specs i d) at) ≡ Ok end
+    → ends_at c (take i specs) from ≡ Ok at → ends_at c (take (i + 1) specs) from ≡ Ok end
+ends_one_more c specs i from at end d lt value before =
+    ap (λ (ss : List Spec). ends_at c ss from) (take_more specs i d lt)
+    ∙ ends_append c (take i specs) (get_or specs i d ∷ []) from
+    ∙ ap (λ (r : Result ℕ FormFault). and_then r (λ (m : ℕ). ends_at c (get_or specs i d ∷ []) m))
+    before ∙ ends_one c (get_or specs i d) at ∙ value
 
 pub found_at : (c : Within) (specs : List Spec) (i from at name : ℕ) (d : Spec) → i < length specs
     → has_spec name (take i specs) ≡ false → (get_or specs i d).attribute ≡ name

@@ -1,6 +1,7 @@
 -- Values of fixed sizes: by one addition.
-use Rattle.std.proofs.Common.{◌≡◌, ℕ, ◌+◌, ◌*◌, ◌^◌, ◌<◌, ◌≤◌, List, [], ◌∷◌, length, Option, None}
-use Rattle.std.proofs.Common.{Some, Result, Ok, refl, ap, ◌∙◌, arith}
+use Rattle.std.proofs.Common.{◌≡◌, ℕ, ◌+◌, ◌*◌, ◌^◌, ◌<◌, ◌≤◌, List, [], ◌∷◌, ◌++◌, length, take, drop}
+use Rattle.std.proofs.Common.{zero, suc, Option, None, Some, Result, Ok, refl, sym, ap, ◌∙◌, arith}
+use Rattle.std.proofs.lemmas.List.{take-append-drop}
 use Rattle.std.proofs.Math.Nat.{mul-le-mul_left}
 use Rattle.dwarf_abbrev.specs.declared.spec.Spec.{Spec}
 use Rattle.dwarf_abbrev.specs.Sizes.{bytes_of, plus, sizes_of}
@@ -8,7 +9,14 @@ use Rattle.dwarf_forms.specs.declared.fault.FormFault.{FormFault}
 use Rattle.dwarf_forms.specs.Values.{Shown, Within, end_of}
 use Rattle.dwarf_forms.proofs.Fixed.{same_size, value_fixed}
 use Rattle.entry_tree.specs.Reads.{and_then, ends_at}
-use Rattle.entry_tree.proofs.Ends.{ends_more, ends_none}
+use Rattle.entry_tree.proofs.Ends.{ends_more, ends_none, ends_append}
+
+take_shorter : (m n : ℕ) (xs : List Spec) → m ≤ n → take m (take n xs) ≡ take m xs
+take_shorter zero n xs le = refl
+take_shorter (suc m) zero xs le = absurd (omega (arith, le))
+take_shorter (suc m) (suc n) [] le = refl
+take_shorter (suc m) (suc n) (x ∷ xs) le =
+    ap (λ (ys : List Spec). x ∷ ys) (take_shorter m n xs (omega (arith, le)))
 
 -- all of some pairs
 both_sizes : (p q : Option ℕ) (w : ℕ) → plus p q ≡ Some w
@@ -29,6 +37,22 @@ ends_fixed c (s ∷ ss) at w size le =
     let sum : (at + b.0) + b.1 ≡ at + w = omega (arith, b.4) in
     ends_more c s ss at ∙ ap (λ (r : Result (Shown × ℕ) FormFault).
     and_then (end_of r) (λ (e : ℕ). ends_at c ss e)) first.1 ∙ rest ∙ ap (λ (n : ℕ). Ok n) sum
+
+-- the values of fixed sizes between two places
+pub ends_behind_run : (c : Within) (specs : List Spec) (reached count from at w : ℕ)
+    → reached ≤ count → sizes_of c.offset_bytes c.address_bytes (drop reached (take count specs))
+    ≡ Some w → at + w ≤ length c.unit → ends_at c (take reached specs) from ≡ Ok at
+    → ends_at c (take count specs) from ≡ Ok (at + w)
+ends_behind_run c specs reached count from at w le size inside before =
+    let split : take count specs ≡ take reached specs ++ drop reached (take count specs) =
+    sym (take-append-drop reached (take count specs))
+    ∙ ap (λ (ss : List Spec). ss ++ drop reached (take count specs))
+    (take_shorter reached count specs le) in
+    ap (λ (ss : List Spec). ends_at c ss from) split
+    ∙ ends_append c (take reached specs) (drop reached (take count specs)) from
+    ∙ ap (λ (r : Result ℕ FormFault). and_then r
+    (λ (m : ℕ). ends_at c (drop reached (take count specs)) m)) before
+    ∙ ends_fixed c (drop reached (take count specs)) at w size inside
 
 pub small_product : (n w : ℕ) → n < 2 ^ 32 → w ≤ 8 → n * w < 2 ^ 36
 small_product n w h le = let p : n * w ≤ n * 8 = mul-le-mul_left n le in omega (arith, p, h)

@@ -1,14 +1,17 @@
 -- One value more, and all of them.
 use Rattle.std.proofs.Common.{◌≡◌, ℕ, ◌+◌, ◌<◌, ◌≤◌, ◌==◌, ◌||◌, Bool, true, false, is_ok, is_some}
 use Rattle.std.proofs.Common.{List, [], ◌∷◌, length, drop, get_or, Option, None, Some, Result, Ok}
-use Rattle.std.proofs.Common.{Err, if◌then◌else◌, refl, sym, ap, ◌∙◌}
+use Rattle.std.proofs.Common.{Err, if◌then◌else◌, refl, sym, ap, ◌∙◌, zero, suc, arith}
+use Rattle.std.specs.Option.{IfSome, IsNone}
+use Rattle.std.proofs.lemmas.Bool.{eq-eqb}
 use Rattle.std.proofs.lemmas.List.{drop_more, drop_all}
+use Rattle.dwarf_abbrev.specs.ValueMaps.{has_spec, IsFirst}
 use Rattle.dwarf_abbrev.specs.declared.spec.Spec.{Spec}
 use Rattle.dwarf_forms.specs.declared.fault.FormFault.{FormFault}
 use Rattle.dwarf_forms.specs.Values.{Shown, Within, value_of}
 use Rattle.entry_tree.specs.Reads.{and_then, values_at, value_with}
 use Rattle.entry_tree.specs.Items.{listed}
-use Rattle.entry_tree.specs.Firsts.{or_first, kept, answers, has_spec, HasByAbbreviation}
+use Rattle.entry_tree.specs.Firsts.{or_first, kept, answers, HasByAbbreviation}
 
 pub values_more : (c : Within) (s : Spec) (ss : List Spec) (at : ℕ)
     → values_at c (s ∷ ss) at ≡ and_then (value_of c s at) (λ (v : Shown × ℕ). and_then
@@ -140,3 +143,21 @@ pub has_none : (c : Within) (specs : List Spec) (from name : ℕ) → is_ok (val
     ≡ true → has_spec name specs ≡ false → value_with name (listed (values_at c specs from)) ≡ None
 has_none c specs from name h e = gone (value_with name (listed (values_at c specs from)))
     (has_spec name specs) (has_is c specs from name h) e
+
+-- an abbreviation has an attribute exactly where one of the name is the first
+has_there : (specs : List Spec) (name i : ℕ) (d : Spec) → i < length specs
+    → (get_or specs i d).attribute ≡ name → has_spec name specs ≡ true
+has_there [] name i d lt is = absurd (omega (arith, lt))
+has_there (s ∷ ss) name zero d lt is = rw (eq-eqb s.attribute name is) refl
+has_there (s ∷ ss) name (suc i) d lt is = or_later (s.attribute == name) (has_spec name ss)
+    (has_there ss name i d (omega (arith, lt)) is) where
+      or_later : (a b : Bool) → b ≡ true → (a || b) ≡ true
+      or_later true b h = refl
+      or_later false b h = h
+
+pub tells_by_first : (specs : List Spec) (name : ℕ) (d : Spec) (o : Option ℕ)
+    → IfSome o (IsFirst name specs) → (IsNone o → has_spec name specs ≡ false)
+    → is_some o ≡ has_spec name specs
+tells_by_first specs name d (Some i) first none =
+    sym (has_there specs name i d first.inside (first.there d))
+tells_by_first specs name d None first none = sym (none refl)

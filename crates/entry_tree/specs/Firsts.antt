@@ -11,6 +11,7 @@ use Rattle.dwarf_abbrev.specs.declared.constants.TheConstants.{DW_AT_data_member
 use Rattle.dwarf_abbrev.specs.declared.constants.TheConstants.{DW_AT_declaration, DW_AT_encoding}
 use Rattle.dwarf_abbrev.specs.declared.constants.TheConstants.{DW_AT_type, DW_AT_data_bit_offset}
 use Rattle.dwarf_abbrev.specs.declared.spec.Spec.{Spec}
+use Rattle.dwarf_abbrev.specs.ValueMaps.{has_spec}
 use Rattle.dwarf_forms.specs.declared.fault.FormFault.{FormFault}
 use Rattle.dwarf_forms.specs.Values.{Shown, Within, given}
 use Rattle.entry_tree.specs.Reads.{and_then, values_at, value_with}
@@ -73,17 +74,6 @@ pub record AreFirst (w : Wanted) (values : List (ℕ × Shown)) : Type 0 where
 abbrev pub Gets : Result Wanted FormFault → Result (List (ℕ × Shown) × ℕ) FormFault → Type 0
 Gets (Ok w) all = AreFirst w (listed all)
 Gets (Err f) all = all ≡ Err f
-
--- an abbreviation has an attribute
-abbrev pub has_spec : ℕ → List Spec → Bool
-has_spec name [] = false
-has_spec name (s ∷ ss) = s.attribute == name || has_spec name ss
-
--- the first attribute of a name stands in this place
-pub record IsFirst (name : ℕ) (specs : List Spec) (i : ℕ) : Type 0 where
-  pub inside : i < length specs
-  pub before : has_spec name (take i specs) ≡ false
-  pub there : (d : Spec) → (get_or specs i d).attribute ≡ name
 
 -- an entry whose values can be read has a value of an attribute exactly where its abbreviation has
 -- the attribute

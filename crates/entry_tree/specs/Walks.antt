@@ -15,7 +15,7 @@ given_entry e = record {
   at = e.at;
   depth = e.depth;
   tag = e.tag;
-  values = listed (values_at (within e.ctx) e.specs.now e.from);
+  values = listed (values_at (within e.form.now) e.specs.now e.from);
 }
 
 -- what was found, and what comes after it

@@ -1,5 +1,5 @@
 //! What the values of a unit are read in.
-ghost use Rattle.std.specs.Prelude.{◌≡◌};
+ghost use Rattle.std.specs.Prelude.{◌≡◌, ◌≤◌};
 ghost use Rattle.dwarf_forms.specs.Values.{IsContext, within};
 ghost use Rattle.dwarf_forms.specs.Meanings.{sections};
 ghost use Rattle.elf_sections.specs.Images.{file_of};
@@ -18,6 +18,7 @@ pub fn context<'a>(image: &Image<'a>, unit: &Unit, str_base: u64) -> FormCtx<'a>
     ensures within { within result ≡ within_of (file_of image.now) unit.now }
     ensures sections { sections result ≡ sections_of (file_of image.now) unit.now str_base }
     ensures end { result.end ≡ unit.now.end }
+    ensures begins { unit.now.at ≤ unit.now.first }
 {
     FormCtx {
         info: bytes_of(image, Kind::Info),

@@ -1,10 +1,9 @@
-//! The attributes that types want, by one pass over an entry's values; and which attributes an
-//! abbreviation has.
+//! The attributes that types want, by one pass over an entry's values.
 ghost use Rattle.std.specs.Prelude.{◌≡◌, ◌==◌, Some};
 ghost use Rattle.std.specs.Option.{option_map};
 ghost use Rattle.dwarf_forms.specs.Values.{IsContext, within, given, seen};
 ghost use Rattle.entry_tree.specs.Reads.{values_at, ends_at};
-ghost use Rattle.entry_tree.specs.Firsts.{or_first, kept, has_spec, Gets};
+ghost use Rattle.entry_tree.specs.Firsts.{or_first, kept, Gets};
 
 use dwarf_abbrev::Spec;
 use dwarf_abbrev::constants::{
@@ -129,16 +128,4 @@ pub(crate) fn first_values<'a>(
         at = end;
     }
     Ok((wanted, at))
-}
-
-/// Whether an abbreviation has an attribute.
-pub(crate) fn has_attribute(specs: &[Spec], name: u64) -> bool
-    ensures { result ≡ has_spec name specs.now }
-{
-    for spec in specs {
-        if spec.attribute == name {
-            return true;
-        }
-    }
-    false
 }

@@ -8,7 +8,7 @@ use crate::walk::Walk;
 
 fn crosses<T: Send + Sync>() {}
 
-fn all_cross<'w, 'a>() {
+fn all_cross<'w, 'a: 'w>() {
     crosses::<Unit>();
     crosses::<UnitList>();
     crosses::<UnitFault>();

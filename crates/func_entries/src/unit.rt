@@ -39,10 +39,11 @@ fn read_unit<'a>(
             has_array: false,
         });
     }
+    let form = context(image, unit, root.str_base);
     let ctx = UnitCtx {
-        form: context(image, unit, root.str_base),
+        form,
         version: 5,
-        start: Walk::new(image, unit, abbrevs, &root),
+        start: Walk::new(unit, abbrevs, &form),
         extents: None,
     };
     read_functions(alloc, &ctx)

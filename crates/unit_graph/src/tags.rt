@@ -12,7 +12,7 @@ use crate::sources::UnitAt;
 use c_types::{TypeFault, types_of_unit};
 use dwarf_abbrev::{AbbrevFault, Abbrevs};
 use elf_sections::{Image, Kind};
-use entry_tree::{RootInfo, Walk};
+use entry_tree::{Walk, context};
 use std::alloc::{AllocError, Global};
 
 /// The tag of the entry at an offset, among the entries of a walk.
@@ -49,12 +49,8 @@ fn tag_in_unit(alloc: Global, at: &UnitAt<'_>, to: u128) -> Result<Option<u64>, 
 {
     match Abbrevs::read(alloc, abbreviation_bytes(&at.image), at.unit.abbrev_at) {
         Ok(abbrevs) => {
-            let root = RootInfo {
-                tag: 0,
-                language: None,
-                str_base: 0,
-            };
-            Ok(tag_in_walk(Walk::new(&at.image, &at.unit, &abbrevs, &root), to))
+            let form = context(&at.image, &at.unit, 0);
+            Ok(tag_in_walk(Walk::new(&at.unit, &abbrevs, &form), to))
         }
         Err(fault) => no_entries(fault),
     }

@@ -7,14 +7,14 @@ use Rattle.entry_tree.proofs.walk.first_entry.Goals as goal
 
 pub invariant_of-result : goal.invariant_of-result
 invariant_of-result c =
-    let h : Ok (shown_item c.in_ok-abbrev.field-0) ≡ item_at (within c.args.ctx.now)
+    let h : Ok (shown_item c.in_ok-abbrev.field-0) ≡ item_at (within c.args.form.now)
     c.args.abbrevs.now c.args.first c.args.first 0 = c.in_ok-abbrev.ensures in
-    let p = entry_after (within c.args.ctx.now) c.args.abbrevs.now c.args.first c.args.first 0
+    let p = entry_after (within c.args.form.now) c.args.abbrevs.now c.args.first c.args.first 0
     (shown c.in-Found.abbrev) c.in-Found.from c.in-Found.field-2 (rw c.in-Found.is at h) in
     record {
       context = c.requires;
-      sized = c.in-Found.abbrev.stepped;
+      mapped = c.in-Found.abbrev.mapped;
       read = values_read
-          (within c.args.ctx.now) c.in-Found.abbrev.specs.now c.in-Found.from
+          (within c.args.form.now) c.in-Found.abbrev.specs.now c.in-Found.from
           c.in-Found.field-2 p.2;
     }

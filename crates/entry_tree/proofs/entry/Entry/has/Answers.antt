@@ -1,8 +1,13 @@
-use Rattle.std.proofs.Common.{sym, ◌∙◌}
+use Rattle.std.proofs.Common.{pos, sym, ◌∙◌}
 use Rattle.dwarf_forms.specs.Values.{within}
-use Rattle.entry_tree.proofs.Passing.{has_is}
+use Rattle.entry_tree.proofs.Passing.{has_is, tells_by_first}
 use Rattle.entry_tree.proofs.entry.Entry.has.Goals as goal
 
 pub returns : goal.returns
-returns c = c.has_attribute.ensures ∙ sym (has_is (within c.args.self.now.ctx)
-    c.args.self.now.specs.now c.args.self.now.from c.args.name c.args.self.now.read)
+returns c =
+    c.is_some.ensures
+    ∙ tells_by_first c.args.self.now.specs.now c.args.name
+    (record { attribute = 0; form = 0; implicit = pos 0 }) c.first_of.result
+    c.first_of.ensures.first c.first_of.ensures.none
+    ∙ sym (has_is (within c.args.self.now.form.now) c.args.self.now.specs.now
+    c.args.self.now.from c.args.name c.args.self.now.read)
