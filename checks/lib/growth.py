@@ -192,7 +192,7 @@ def btf(words, texts):
     return struct.pack("<HBBIIIII", 0xEB9F, 1, 0, 24, 0, len(data), len(data), len(texts)) + data + texts
 
 
-INT_KIND, ARRAY_KIND, STRUCT_KIND, TYPEDEF_KIND = 1 << 24, 3 << 24, 4 << 24, 8 << 24
+INT_KIND, POINTER_KIND, ARRAY_KIND, STRUCT_KIND, TYPEDEF_KIND = 1 << 24, 2 << 24, 3 << 24, 4 << 24, 8 << 24
 BTF_INT = [0, INT_KIND, 4, 32]
 
 
@@ -204,12 +204,19 @@ def typedefs_of_btf(n):
     return btf(BTF_INT + chain + shown, texts)
 
 
+def pointers_of_btf(n):
+    """A chain: each pointer is to the one before it, and the first one to void."""
+    return btf([word for i in range(n) for word in (0, POINTER_KIND, i)], b"\0")
+
+
 def arrays_of_btf(n):
     """Arrays of one item in each other, and a structure with a member of the outermost."""
     arrays = [word for i in range(n) for word in (0, ARRAY_KIND, 0, i + 1, 1, 1)]
     return btf(BTF_INT + arrays + [3, STRUCT_KIND | 1, 4, 5, n + 1, 0], b"\0t\0s\0m\0")
 
 
+# an ELF file of one type, beside the file that grows
+SMALL = "small"
 # kinds whose work is known to grow with the square; docs/SPEED.md says why
 SQUARES = ("names that are ends of one text", "relocations of the same bytes")
 DIGITS = "0123456789abcdefghijklmnopqrstuvwxyz"
@@ -233,6 +240,10 @@ def encoding_functions(n):
     return ["--btf_encode_detached=o", "--funcs", "a"]
 
 
+def encoding_over_it(n):
+    return ["--btf_encode_detached=o", "--btf_base=a", SMALL]
+
+
 def showing(n):
     return ["-F", "btf", "-s", "a"]
 
@@ -250,6 +261,7 @@ KINDS = [
     ("units of one table of abbreviations", units_of_one_table, 2_500, True, encoding),
     ("attributes without bytes", attributes_without_bytes, 8_000, True, encoding),
     ("a chain of pointers", pointers, 4_000, True, encoding),
+    ("a chain of pointers in a base", pointers_of_btf, 12_500, True, encoding_over_it),
     ("blocks in each other", blocks, 25_000, True, encoding),
     ("types in each other", types_in_each_other, 12_500, True, encoding),
     ("entries that are no members", entries_that_are_no_members, 12_500, True, encoding),
@@ -301,6 +313,8 @@ def check(program, folder, name, make, sizes, words):
 
 def main():
     program, folder, size = sys.argv[1:]
+    with open(os.path.join(folder, SMALL), "wb") as it:
+        it.write(file(ROOT + INT, unit(INT_ENTRY)))
     for name, make, least, has_larger, words in KINDS:
         if size == "large" and not has_larger:
             continue

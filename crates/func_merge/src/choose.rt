@@ -145,7 +145,7 @@ fn choose_behind<'a, R: Threads + Sync, L: Ledger>(
     ensures refusal { IfErr result (RefusesChoice most (Some (before_of base.now)) protos.now.graph.nodes) }
 {
     let mut steps = Steps::<L>::new(blank);
-    let kept = base_classes(rt, alloc, base, &mut steps)?;
+    let kept = base_classes(rt, alloc, jobs, base, &mut steps)?;
     let whole = with_base_packed(alloc, base, most, copy_of(alloc, &protos.graph)?)?;
     let found = classes_over(rt, alloc, jobs, &whole, &kept, &mut steps)?;
     let graph = chosen_packed(alloc, whole.base(), protos, &found)?;

@@ -13,16 +13,15 @@ ghost use Rattle.unit_encoder.specs.Tables.{AreOfFiles};
 ghost use Rattle.func_types.specs.Prototypes.{prototypes_of_units};
 ghost use Rattle.func_merge.specs.Choosing.{AreTheChosen};
 ghost use Rattle.base_merge.specs.Merging.{CanBeBase};
-ghost use Rattle.pahole_run.specs.Layers.{of_funcs, seen_as};
+ghost use Rattle.pahole_run.specs.Layers.{of_funcs, of_make, seen_as};
 ghost use Rattle.pahole_run.specs.Refusals.{first, funcs_checks, over_check};
-ghost use Rattle.pahole_run.specs.Steps.{Tells, IsOwn};
+ghost use Rattle.pahole_run.specs.Steps.{Tells, IsOwn, ended_as};
 ghost use Rattle.pahole_run.specs.Tables.{AreNodesOf, AreTheOnly};
 ghost use Rattle.split_base.specs.Merged.{IsPartedBy};
 
 use crate::context::Context;
-use crate::faults::{ended_of_funcs, ended_of_table};
 use crate::merging::Sources;
-use crate::refusal::Ended;
+use crate::step_fault::MakeFault;
 use btf_codec::Table;
 use func_merge::{Chosen, choose_over};
 use func_types::{Protos, prototypes_packed};
@@ -36,7 +35,7 @@ pub fn add_functions<'a, R: Threads + Sync, G>(
     context: &Context<'_, R, G>,
     funcs: bool,
     sources: Sources<'a>,
-) -> Result<Sources<'a>, Ended>
+) -> Result<Sources<'a>, MakeFault>
     requires jobs { 1 ≤ context.now.jobs }
     requires few { length sources.units.items < 2 ^ 32 }
     requires readable { All IsReadable sources.units.items }
@@ -55,14 +54,14 @@ pub fn add_functions<'a, R: Threads + Sync, G>(
         (AreNodesOf funcs (option_map before_of sources.entry.base) sources.entry.graph.nodes
         (prototypes_of_units context.now.limits.nodes sources.entry.units.items
         sources.entry.graph.nodes))
-        s.graph.nodes) result }
+        s.graph.nodes) (ended_as of_make result) }
     ensures units { IfOk result (λ s. s.units.items ≡ sources.entry.units.items) }
     ensures same { IfOk result (λ s. s.base ≡ sources.entry.base) }
     ensures alone { IfOk result (λ s. s.graph.base ≡ 0) }
     ensures well { IfOk result (λ s. All IsWellFormed s.graph.nodes) }
     ensures fitting { IfOk result (λ s. HasFittingForwards s.graph) }
     ensures parted { IfOk result (λ s. IfSome s.classes (λ p. IsPartedBy s.graph p)) }
-    ensures own { IsOwn result }
+    ensures own { IsOwn (ended_as of_make result) }
 {
     if !funcs {
         return Ok(sources);
@@ -94,7 +93,7 @@ fn with_functions<'a, R: Threads + Sync, G>(
     base: Option<&Table<'a>>,
     units: &[UnitAt<'a>],
     graph: PackedGraph<'a>,
-) -> Result<Chosen<'a>, Ended>
+) -> Result<Chosen<'a>, MakeFault>
     requires jobs { 1 ≤ context.now.jobs }
     requires few { length units.now < 2 ^ 32 }
     requires readable { All IsReadable units.now }
@@ -110,12 +109,12 @@ fn with_functions<'a, R: Threads + Sync, G>(
         (λ c.
         AreTheOnly (AreNodesOf true (option_map (λ b. before_of b.now) base.entry) graph.entry.nodes
         (prototypes_of_units context.now.limits.nodes units.now graph.entry.nodes))
-        c.graph.nodes) result }
+        c.graph.nodes) (ended_as of_make result) }
     ensures alone { IfOk result (λ c. c.graph.base ≡ 0) }
     ensures well { IfOk result (λ c. All IsWellFormed c.graph.nodes) }
     ensures fitting { IfOk result (λ c. HasFittingForwards c.graph) }
     ensures parted { IfOk result (λ c. IfSome c.classes (λ p. IsPartedBy c.graph p)) }
-    ensures own { IsOwn result }
+    ensures own { IsOwn (ended_as of_make result) }
 {
     let protos = read_prototypes(context, units, graph)?;
     choose(context, base, protos)
@@ -126,7 +125,7 @@ fn read_prototypes<'a, R: Threads + Sync, G>(
     context: &Context<'_, R, G>,
     units: &[UnitAt<'a>],
     graph: PackedGraph<'a>,
-) -> Result<Protos<'a, PackedGraph<'a>>, Ended>
+) -> Result<Protos<'a, PackedGraph<'a>>, MakeFault>
     requires jobs { 1 ≤ context.now.jobs }
     requires few { length units.now < 2 ^ 32 }
     requires readable { All IsReadable units.now }
@@ -139,7 +138,8 @@ fn read_prototypes<'a, R: Threads + Sync, G>(
         (seen_as of_funcs
         (result_err (prototypes_of_units context.now.limits.nodes units.now graph.entry.nodes)))
         (λ p.
-        prototypes_of_units context.now.limits.nodes units.now graph.entry.nodes ≡ Ok p) result }
+        prototypes_of_units context.now.limits.nodes units.now graph.entry.nodes ≡ Ok p)
+        (ended_as of_make result) }
     ensures alone { IfOk result (λ p. p.graph.base ≡ 0) }
     ensures plain { IfOk result (λ p. p.plain ≤ length p.graph.nodes) }
     ensures within { IfOk result (λ p. RefersWithin p.plain p.graph.nodes) }
@@ -148,7 +148,7 @@ fn read_prototypes<'a, R: Threads + Sync, G>(
     ensures well { IfOk result (λ p. All IsWellFormed p.graph.nodes) }
     ensures fitting { IfOk result (λ p. HasFittingForwards p.graph) }
     ensures names { IfOk result (λ p. All (λ f. HasNoNul f.name) p.funcs) }
-    ensures own { IsOwn result }
+    ensures own { IsOwn (ended_as of_make result) }
 {
     match prototypes_packed(
         context.rt,
@@ -159,7 +159,7 @@ fn read_prototypes<'a, R: Threads + Sync, G>(
         units,
     ) {
         Ok(protos) => Ok(protos),
-        Err(fault) => Err(ended_of_funcs(fault)),
+        Err(fault) => Err(MakeFault::Functions(fault)),
     }
 }
 
@@ -168,7 +168,7 @@ fn choose<'a, R: Threads + Sync, G>(
     context: &Context<'_, R, G>,
     base: Option<&Table<'a>>,
     protos: Protos<'a, PackedGraph<'a>>,
-) -> Result<Chosen<'a>, Ended>
+) -> Result<Chosen<'a>, MakeFault>
     requires base { IfSome base (λ b. CanBeBase b.now) }
     requires alone { protos.graph.base ≡ 0 }
     requires plain { protos.plain ≤ length protos.graph.nodes }
@@ -178,19 +178,21 @@ fn choose<'a, R: Threads + Sync, G>(
     requires well { All IsWellFormed protos.graph.nodes }
     requires fitting { HasFittingForwards protos.graph }
     requires names { All (λ f. HasNoNul f.name) protos.funcs }
-    ensures told { Tells (over_check context.now.limits.nodes (option_map (λ b. before_of b.now) base.entry)
+    ensures told { Tells
+        (over_check context.now.limits.nodes (option_map (λ b. before_of b.now) base.entry)
         protos.entry.graph.nodes)
         (λ c. AreTheChosen
-        (option_map (λ b. before_of b.now) base.entry) protos.entry c.graph.nodes) result }
+        (option_map (λ b. before_of b.now) base.entry) protos.entry c.graph.nodes)
+        (ended_as of_make result) }
     ensures alone { IfOk result (λ c. c.graph.base ≡ 0) }
     ensures well { IfOk result (λ c. All IsWellFormed c.graph.nodes) }
     ensures fitting { IfOk result (λ c. HasFittingForwards c.graph) }
     ensures parted { IfOk result (λ c. IfSome c.classes (λ p. IsPartedBy c.graph p)) }
-    ensures own { IsOwn result }
+    ensures own { IsOwn (ended_as of_make result) }
 {
     let most = context.limits.nodes;
     match choose_over(context.rt, context.alloc, context.jobs, base, most, protos) {
         Ok(chosen) => Ok(chosen),
-        Err(fault) => Err(ended_of_table(fault)),
+        Err(fault) => Err(MakeFault::Table(fault)),
     }
 }

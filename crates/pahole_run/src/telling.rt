@@ -3,13 +3,15 @@ ghost use Rattle.std.specs.Prelude.{◌≡◌, ◌++◌, ◌<◌, ◌≤◌, ◌
 ghost use Rattle.std.specs.Prelude.{None, false};
 ghost use Rattle.command_line.specs.declared.job.Format.TheVariants.{Dwarf};
 ghost use Rattle.pahole_run.specs.Files.{HasImage};
+ghost use Rattle.pahole_run.specs.Layers.{of_make};
 ghost use Rattle.pahole_run.specs.Line.{counts_line};
-ghost use Rattle.pahole_run.specs.Steps.{Tells, IsOwn, Makes, bytes_in, inputs_from};
+ghost use Rattle.pahole_run.specs.Steps.{Tells, IsOwn, Makes, bytes_in, ended_as};
+ghost use Rattle.pahole_run.specs.Steps.{inputs_from};
 ghost use Rattle.pahole_run.specs.Tasks.Output.{Told};
 
 use crate::context::Context;
 use crate::images::order_in;
-use crate::refusal::Ended;
+use crate::step_fault::MakeFault;
 use crate::table::{Made, make_table, write_table};
 use dw_base::Bytes;
 use itoa::Buffer;
@@ -22,12 +24,13 @@ use world_io::Gate;
 pub fn make_line<R: Threads + Sync, G: Gate>(
     context: &Context<'_, R, G>,
     files: &[Bytes],
-) -> Result<Bytes, Ended>
+) -> Result<Bytes, MakeFault>
     requires jobs { 1 ≤ context.now.jobs }
     requires few { length files.now < 2 ^ 32 }
     requires size { bytes_in files.now < 2 ^ 32 }
     requires images { All HasImage files.now }
-    ensures { Makes Dwarf Told context.now.limits (inputs_from files.now None false) result }
+    ensures { Makes Dwarf Told context.now.limits (inputs_from files.now None false)
+        (ended_as of_make result) }
 {
     let made = make_table(context, files, None, false)?;
     let bytes = write_table(context.alloc, &made.table, order_in(files))?;
@@ -35,15 +38,16 @@ pub fn make_line<R: Threads + Sync, G: Gate>(
 }
 
 /// The line of a table that has so many bytes.
-fn line_of(alloc: Global, made: &Made<'_>, bytes: u64) -> Result<Bytes, Ended>
+fn line_of(alloc: Global, made: &Made<'_>, bytes: u64) -> Result<Bytes, MakeFault>
     ensures told { Tells None (λ v.
-        v ≡ counts_line made.now.units made.now.nodes (length made.now.table.types) bytes) result }
-    ensures own { IsOwn result }
+        v ≡ counts_line made.now.units made.now.nodes (length made.now.table.types) bytes)
+        (ended_as of_make result) }
+    ensures own { IsOwn (ended_as of_make result) }
 {
     let types = made.table.types.items().len() as u64;
     match counts_line(alloc, made.units, u64::from(made.nodes), types, bytes) {
         Ok(line) => Ok(Bytes::new(line)),
-        Err(_) => Err(Ended::Memory),
+        Err(_) => Err(MakeFault::Memory),
     }
 }
 

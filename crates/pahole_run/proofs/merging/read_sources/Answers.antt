@@ -1,4 +1,5 @@
-use Rattle.std.proofs.Common.{◌≡◌, Err, Ok, map, rules}
+use Rattle.std.proofs.Common.{◌≡◌, Ok, map}
+use Rattle.std.proofs.lemmas.Result.{err_from_is_err_and}
 use Rattle.std.specs.Global.{Vec}
 use Rattle.std.specs.Option.{option_copied, option_map}
 use Rattle.btf_codec.specs.Gives.{before_of}
@@ -7,6 +8,7 @@ use Rattle.elf_sections.specs.Images.{file_of}
 use Rattle.elf_sections.specs.declared.image.Image.{Image}
 use Rattle.pahole_run.specs.declared.merging.Sources.{Sources}
 use Rattle.pahole_run.specs.Files.{base_in, graph_in}
+use Rattle.pahole_run.specs.Layers.{of_input}
 use Rattle.pahole_run.specs.Refusals.{elf_check, first, first_file, graph_checks}
 use Rattle.pahole_run.specs.Steps.{inputs_from}
 use Rattle.pahole_run.proofs.LoadLemmas.{part_told}
@@ -15,15 +17,15 @@ use Rattle.pahole_run.proofs.merging.read_sources.Goals as goal
 
 pub returns-in_err-images-clause-told : goal.returns-in_err-images-clause-told
 returns-in_err-images-clause-told g c funcs =
-    let gone : c.from_residual.result ≡ Err c.in_err-images.field-0.0 = search rules in
+    let p = err_from_is_err_and c.from_residual.result c.from_residual.ensures.1 in
     let inputs = inputs_from c.args.files.now (option_copied c.args.base) funcs in
-    rw gone
+    rw (p.1, p.2)
     (part_told (Vec Image) Sources (λ (v : Vec Image). map file_of v.items ≡ c.args.files.now)
     (λ (s : Sources).
     (graph_in c.args.context.now.limits c.args.files.now ≡ Ok s.graph.nodes)
     × (option_map before_of s.base ≡ base_in Dwarf inputs))
     (first_file elf_check 0 c.args.files.now)
-    (first (graph_checks c.args.context.now.limits inputs)) c.in_err-images.field-0.0
+    (first (graph_checks c.args.context.now.limits inputs)) (of_input c.in_err-images.field-0.0)
     (λ r at. images_not_first c.args.files.now
     (first (graph_checks c.args.context.now.limits inputs)) r c.requires.images at)
     c.in_err-images.ensures.told)

@@ -1,7 +1,8 @@
 use Rattle.std.proofs.Common.{◌≡◌, ℕ, Err, List, None, false, rules}
 use Rattle.command_line.specs.declared.job.Format.TheVariants.{Dwarf}
 use Rattle.pahole_run.specs.Files.{Inputs, base_in}
-use Rattle.pahole_run.specs.Steps.{inputs_from}
+use Rattle.pahole_run.specs.Layers.{of_make}
+use Rattle.pahole_run.specs.Steps.{ended_as, inputs_from}
 use Rattle.pahole_run.specs.Tables.{btf_of}
 use Rattle.pahole_run.specs.Tasks.Output.{Told}
 use Rattle.pahole_run.proofs.TableLemmas.{bytes_unmade, line_made, line_unwritten}
@@ -12,7 +13,7 @@ returns-in_err-made g c =
     let gone : c.from_residual.result ≡ Err c.in_err-made.field-0.0 = search rules in
     rw gone
     (bytes_unmade Told c.args.context.now.limits (inputs_from c.args.files.now None false)
-    c.in_err-made.field-0.0 c.in_err-made.ensures.made)
+    (of_make c.in_err-made.field-0.0) c.in_err-made.ensures.made)
 
 pub returns-in_err-bytes : goal.returns-in_err-bytes
 returns-in_err-bytes g c =
@@ -21,7 +22,7 @@ returns-in_err-bytes g c =
     rw gone
     (line_unwritten c.args.context.now.limits inputs c.in_ok-made.made
     (λ (v : List ℕ). v ≡ btf_of c.order_in.result (base_in Dwarf inputs)
-    c.in_ok-made.made.table.types) c.in_err-bytes.field-0.0 c.in_ok-made.ensures.made
+    c.in_ok-made.made.table.types) (of_make c.in_err-bytes.field-0.0) c.in_ok-made.ensures.made
     (c.in_err-bytes.ensures.told (base_in Dwarf inputs) c.in_ok-made.ensures.made.over)
     c.in_err-bytes.ensures.own)
 
@@ -30,7 +31,7 @@ returns g c =
     let inputs : Inputs = inputs_from c.args.files.now None false in
     let over = c.in_ok-made.ensures.made.over in
     line_made c.args.context.now.limits inputs c.in_ok-made.made c.in_ok-bytes.bytes
-    c.line_of.result c.in_ok-made.ensures.made
+    (ended_as of_make c.line_of.result) c.in_ok-made.ensures.made
     c.in_ok-made.ensures.counted
     (rw c.order_in.ensures at (c.in_ok-bytes.ensures.told (base_in Dwarf inputs) over).1)
     (rw c.order_in.ensures at (c.in_ok-bytes.ensures.spelled (base_in Dwarf inputs) over))
