@@ -83,6 +83,13 @@ def attributes_without_bytes(n):
     return file(ROOT + abbreviation(2, BLOCK, 0, *[(0x2000 + i, FLAG) for i in range(n)]), unit(b"\2" * n))
 
 
+def attributes_without_bytes_beside_texts(n):
+    """Structures whose names, and declarations, stand behind attributes that have no bytes."""
+    none = [(0x2000 + i, FLAG) for i in range(n)]
+    table = ROOT + abbreviation(2, STRUCTURE, 0, (0x2001, STRING), *none, (NAME, STRING), (DECLARATION, FLAG))
+    return file(table, unit(b"\2\0s\0" * n))
+
+
 def pointers(n):
     """A chain: each pointer is to the next one, and the last one to void."""
     table = ROOT + abbreviation(2, POINTER, 0, (TYPE, REF4)) + abbreviation(3, POINTER, 0)
@@ -260,6 +267,7 @@ KINDS = [
     ("enumerations that differ in a value", enumerations, 10_000, True, encoding),
     ("units of one table of abbreviations", units_of_one_table, 2_500, True, encoding),
     ("attributes without bytes", attributes_without_bytes, 8_000, True, encoding),
+    ("attributes without bytes beside texts", attributes_without_bytes_beside_texts, 4_000, True, encoding),
     ("a chain of pointers", pointers, 4_000, True, encoding),
     ("a chain of pointers in a base", pointers_of_btf, 12_500, True, encoding_over_it),
     ("blocks in each other", blocks, 25_000, True, encoding),
