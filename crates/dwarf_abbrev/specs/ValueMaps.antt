@@ -37,7 +37,8 @@ slots = DW_AT_name ∷ DW_AT_type ∷ DW_AT_byte_size ∷ DW_AT_data_member_loca
 
 abbrev pub slot_in : ℕ → List ℕ → Option ℕ
 slot_in name [] = None
-slot_in name (n ∷ ns) = if name == n then Some 0 else option_map (λ (k : ℕ). suc k) (slot_in name ns)
+slot_in name (n ∷ ns) =
+    if name == n then Some 0 else option_map (λ (k : ℕ). suc k) (slot_in name ns)
 
 unfoldable pub slot_of : ℕ → Option ℕ
 slot_of name = slot_in name slots

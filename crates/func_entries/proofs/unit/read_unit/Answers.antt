@@ -8,7 +8,7 @@ use Rattle.func_entries.proofs.unit.read_unit.Goals as goal
 
 pub read_functions-requires-clause-descending : goal.read_functions-requires-clause-descending
 read_functions-requires-clause-descending c =
-    subst (λ (w : Coming). Descends 0 w.entries) (sym (c.new-2.ensures.all (file_of c.args.image.now)
-    c.context-form.ensures.within))
+    subst (λ (w : Coming). Descends 0 w.entries)
+    (sym (c.new-2.ensures.all (file_of c.args.image.now) c.context-form.ensures.within))
     (coming_descends (within_of (file_of c.args.image.now) c.args.unit.now) c.args.abbrevs.now
     c.args.unit.now.first c.args.unit.now.first 0)
