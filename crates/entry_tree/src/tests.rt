@@ -234,8 +234,8 @@ fn walked_unit(
     if unit.end.saturating_sub(unit.at) >= 1 << 32 {
         return Err(Outcome::NoUnit);
     }
-    let form = context(image, unit, first.str_base);
-    let mut walk = Walk::new(unit, &abbrevs, &form);
+    let values_in = context(image, unit, first.str_base);
+    let mut walk = Walk::new(unit, &abbrevs, &values_in);
     let mut entries = Vec::new(alloc);
     for _ in 0..=unit.end {
         match walk.next() {
@@ -432,8 +432,8 @@ fn named<'a>(alloc: Global, image: &Image<'a>, unit: &Unit) -> Result<Vec<Named<
     {
         return Ok(entries);
     }
-    let form = context(image, unit, first.str_base);
-    let mut walk = Walk::new(unit, &abbrevs, &form);
+    let values_in = context(image, unit, first.str_base);
+    let mut walk = Walk::new(unit, &abbrevs, &values_in);
     for _ in 0..unit.end {
         let Ok(Some(entry)) = walk.next() else {
             return Ok(entries);
@@ -491,8 +491,8 @@ fn has_value(
     if unit.end.saturating_sub(unit.at) >= 1 << 32 {
         return Ok(assert!(rt; false, "too long"));
     }
-    let form = context(image, unit, first.str_base);
-    let mut walk = Walk::new(unit, &abbrevs, &form);
+    let values_in = context(image, unit, first.str_base);
+    let mut walk = Walk::new(unit, &abbrevs, &values_in);
     for _ in 0..unit.end {
         let Ok(Some(entry)) = walk.next() else {
             return Ok(assert!(rt; false, "no entry at {at}"));
@@ -629,8 +629,8 @@ fn held(alloc: Global, image: &Image<'_>, unit: &Unit, index: u64) -> Result<Hel
     if unit.end.saturating_sub(unit.at) >= 1 << 32 {
         return none();
     }
-    let form = context(image, unit, first.str_base);
-    let mut walk = Walk::new(unit, &abbrevs, &form);
+    let values_in = context(image, unit, first.str_base);
+    let mut walk = Walk::new(unit, &abbrevs, &values_in);
     for _ in 0..index {
         if walk.next().is_err() {
             return none();
