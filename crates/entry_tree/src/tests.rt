@@ -471,6 +471,44 @@ fn a_real_unit(rt: HostRuntime) -> Result<(), Fail> {
     Ok(())
 }
 
+/// The form and the value of an attribute of the entry at an offset of that unit; the form 0 where
+/// it has none.
+fn value_at(
+    alloc: Global,
+    image: &Image<'_>,
+    unit: &Unit,
+    at: u64,
+    attribute: u64,
+) -> Result<(u64, String), Fail>
+    requires { IsUnitOf (bytes_of image.now) unit.now }
+{
+    let none = || Ok((0, format!(in alloc; "")?));
+    let Ok(abbrevs) = Abbrevs::read(alloc, &REAL_ABBREV, unit.abbrev_at) else {
+        return none();
+    };
+    let Ok(first) = root(image, unit, &abbrevs) else {
+        return none();
+    };
+    if unit.end.saturating_sub(unit.at) >= 1 << 32 {
+        return none();
+    }
+    let values_in = context(image, unit, first.str_base);
+    let mut walk = Walk::new(unit, &abbrevs, &values_in);
+    for _ in 0..unit.end {
+        let Ok(Some(entry)) = walk.next() else {
+            return none();
+        };
+        if entry.at == at {
+            let Ok(Some(given)) = entry.attr(attribute) else {
+                return none();
+            };
+            let value = format!(in alloc; "{:?}", given.value)?;
+            return Ok((given.form, value));
+        }
+    }
+    none()
+}
+
 /// An entry of that unit has this value.
 fn has_value(
     rt: &impl Abort,
@@ -482,30 +520,8 @@ fn has_value(
     requires { IsUnitOf (bytes_of image.now) unit.now }
 {
     let (at, attribute, form, text) = wanted;
-    let Ok(abbrevs) = Abbrevs::read(alloc, &REAL_ABBREV, unit.abbrev_at) else {
-        return Ok(assert!(rt; false, "no abbreviations"));
-    };
-    let Ok(first) = root(image, unit, &abbrevs) else {
-        return Ok(assert!(rt; false, "no root"));
-    };
-    if unit.end.saturating_sub(unit.at) >= 1 << 32 {
-        return Ok(assert!(rt; false, "too long"));
-    }
-    let values_in = context(image, unit, first.str_base);
-    let mut walk = Walk::new(unit, &abbrevs, &values_in);
-    for _ in 0..unit.end {
-        let Ok(Some(entry)) = walk.next() else {
-            return Ok(assert!(rt; false, "no entry at {at}"));
-        };
-        if entry.at == at {
-            let Ok(Some(given)) = entry.attr(attribute) else {
-                return Ok(assert!(rt; false, "no attribute {attribute} at {at}"));
-            };
-            let found = format!(in alloc; "{:?}", given.value)?;
-            assert_eq!(rt; (given.form, found.as_str()), (form, text));
-            return Ok(());
-        }
-    }
+    let (used, found) = value_at(alloc, image, unit, at, attribute)?;
+    assert_eq!(rt; (used, found.as_str()), (form, text));
     Ok(())
 }
 
