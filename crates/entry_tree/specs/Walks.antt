@@ -31,7 +31,10 @@ Steps old new (Ok (Some e)) = old ≡ with_first e new
 Steps old new (Ok None) = (old ≡ record { entries = []; ending = None }) × (new ≡ old)
 Steps old new (Err f) = (old ≡ record { entries = []; ending = Some f }) × (new ≡ old)
 
--- the entries of a unit, given its abbreviations
+-- the entries of a unit, given what its values are read in and its abbreviations
+abbrev pub entries_within : Within → Unit → List Declaration → Coming
+entries_within c unit declarations = coming_from c declarations unit.first unit.first 0
+
+-- the same of a unit of a file
 abbrev pub entries_of : List ℕ → Unit → List Declaration → Coming
-entries_of file unit declarations =
-    coming_from (within_of file unit) declarations unit.first unit.first 0
+entries_of file unit = entries_within (within_of file unit) unit

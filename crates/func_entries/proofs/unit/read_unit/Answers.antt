@@ -1,6 +1,5 @@
 use Rattle.std.proofs.Common.{sym, subst}
-use Rattle.elf_sections.specs.Images.{file_of}
-use Rattle.entry_tree.specs.Contexts.{within_of}
+use Rattle.dwarf_forms.specs.Values.{within}
 use Rattle.entry_tree.specs.Items.{Coming}
 use Rattle.c_types.specs.Parents.{Descends}
 use Rattle.c_types.proofs.Parenthood.{coming_descends}
@@ -8,7 +7,6 @@ use Rattle.func_entries.proofs.unit.read_unit.Goals as goal
 
 pub read_functions-requires-clause-descending : goal.read_functions-requires-clause-descending
 read_functions-requires-clause-descending c =
-    subst (λ (w : Coming). Descends 0 w.entries)
-    (sym (c.new-2.ensures.all (file_of c.args.image.now) c.context-form.ensures.within))
-    (coming_descends (within_of (file_of c.args.image.now) c.args.unit.now) c.args.abbrevs.now
+    subst (λ (w : Coming). Descends 0 w.entries) (sym c.new-2.ensures.all)
+    (coming_descends (within c.context-form.result) c.args.abbrevs.now
     c.args.unit.now.first c.args.unit.now.first 0)
