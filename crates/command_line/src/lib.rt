@@ -24,8 +24,6 @@ mod finish;
 pub mod job;
 mod options;
 pub mod scan;
-#[cfg(test)]
-mod tests;
 mod uses;
 mod values;
 

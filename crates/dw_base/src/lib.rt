@@ -11,8 +11,6 @@ pub mod numbers;
 pub mod places;
 mod shared;
 pub mod steps;
-#[cfg(test)]
-mod tests;
 
 pub use bytes::Bytes;
 pub use leb128::{LebFault, sleb, uleb};

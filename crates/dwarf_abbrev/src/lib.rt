@@ -12,8 +12,6 @@ pub mod row;
 mod shared;
 pub mod size;
 pub mod spec;
-#[cfg(test)]
-mod tests;
 pub mod value_map;
 
 pub use abbrevs::Abbrevs;

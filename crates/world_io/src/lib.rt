@@ -11,8 +11,6 @@ pub mod gate;
 pub mod host;
 pub mod memory;
 mod shared;
-#[cfg(test)]
-mod tests;
 pub mod world;
 
 pub use fault::{Failed, LoadFault, OutFault};

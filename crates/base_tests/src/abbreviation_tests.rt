@@ -1,9 +1,9 @@
 //! Tables in bytes, and what reading them answers.
-use crate::abbrevs::Abbrevs;
-use crate::constants::DW_AT_name;
-use crate::fault::AbbrevFault;
-use crate::size::Size;
-use crate::spec::Spec;
+use dwarf_abbrev::abbrevs::Abbrevs;
+use dwarf_abbrev::constants::DW_AT_name;
+use dwarf_abbrev::fault::AbbrevFault;
+use dwarf_abbrev::size::Size;
+use dwarf_abbrev::spec::Spec;
 
 /// A table with codes out of order: 2 with a padded number and an implicit_const of -2, then 1.
 const TWO: &[u8] = &[

@@ -1,5 +1,5 @@
 //! Values from outside: the tables of DWARF 5, section 7.6, and the edges of 64 bits.
-use crate::{LebFault, Order, SHIPPED, number, sleb, text_at, uleb};
+use dw_base::{LebFault, Order, SHIPPED, number, sleb, text_at, uleb};
 
 #[test]
 fn numbers_of_a_width(rt: HostRuntime) {

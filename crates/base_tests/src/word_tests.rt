@@ -1,5 +1,5 @@
-use crate::job::{Format, Job, JobFault, Text, Texts};
-use crate::scan::job_of;
+use command_line::job::{Format, Job, JobFault, Text, Texts};
+use command_line::scan::job_of;
 use std::alloc::{AllocError, Global};
 use std::process::Abort;
 use std::test::Fail;

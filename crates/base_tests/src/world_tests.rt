@@ -1,12 +1,12 @@
 //! A world in memory with stops, and the host with a file of this crate.
-use crate::fault::LoadFault;
-use crate::files::{Files, HeldFile, Stop, Stops};
-use crate::host::HostWorld;
-use crate::memory::{Faults, MemoryWorld};
-use crate::world::World;
 use dw_base::Bytes;
 use std::alloc::{AllocError, Global};
 use std::test::Fail;
+use world_io::fault::LoadFault;
+use world_io::files::{Files, HeldFile, Stop, Stops};
+use world_io::host::HostWorld;
+use world_io::memory::{Faults, MemoryWorld};
+use world_io::world::World;
 
 /// A world with the file `a` of three bytes, whose call of this number stops.
 fn stopping(alloc: Global, call: u64, takes: u64) -> Result<MemoryWorld, AllocError> {
