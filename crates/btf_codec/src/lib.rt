@@ -9,13 +9,9 @@ pub mod laws;
 mod layout;
 mod pieces;
 pub mod reader;
-#[cfg(test)]
-mod reader_tests;
 mod shared;
 mod shown;
 pub mod table;
-#[cfg(test)]
-mod tests;
 mod words;
 pub mod writer;
 

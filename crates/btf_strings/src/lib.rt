@@ -5,8 +5,6 @@
 pub mod fault;
 mod shared;
 pub mod strings;
-#[cfg(test)]
-mod tests;
 
 pub use fault::StringsFault;
 pub use strings::{LAST_OFFSET, Strings};

@@ -1,7 +1,7 @@
 use Rattle.std.proofs.Common.{◌≤◌, length, take}
 use Rattle.std.specs.List.{flat_map}
 use Rattle.btf_codec.specs.Fields.{fields_of}
-use Rattle.btf_codec.proofs.tests.is_short.Given as goal
+use Rattle.btf_tests.proofs.fitting.is_short.Given as goal
 
 abbrev pub invariant-loop-t : goal.invariant-loop-t
 invariant-loop-t l = record {

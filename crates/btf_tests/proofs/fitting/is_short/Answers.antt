@@ -4,7 +4,7 @@ use Rattle.c_model.specs.declared.label.Part.{Part}
 use Rattle.c_model.specs.declared.graph.CType.{CType}
 use Rattle.btf_codec.specs.Fields.{fields_of}
 use Rattle.btf_codec.proofs.Counting.{length_at_most, length_more}
-use Rattle.btf_codec.proofs.tests.is_short.Goals as goal
+use Rattle.btf_tests.proofs.fitting.is_short.Goals as goal
 
 pub loop-t-preserved : goal.loop-t-preserved
 loop-t-preserved c =

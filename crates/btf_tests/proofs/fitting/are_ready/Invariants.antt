@@ -1,7 +1,7 @@
 use Rattle.std.proofs.Common.{ℕ, ◌<◌, get_or}
 use Rattle.c_model.specs.declared.graph.CType.{CType}
 use Rattle.btf_codec.specs.Spelling.{IsReadyType}
-use Rattle.btf_codec.proofs.tests.are_ready.Given as goal
+use Rattle.btf_tests.proofs.fitting.are_ready.Given as goal
 
 abbrev pub invariant-loop-t : goal.invariant-loop-t
 invariant-loop-t l =

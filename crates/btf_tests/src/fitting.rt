@@ -1,0 +1,101 @@
+//! What the calls ask of a table, tested.
+ghost use Rattle.std.specs.Prelude.{◌≡◌, ◌<◌, ◌≤◌, ◌^◌, IsTrue, IfSome, All, length};
+ghost use Rattle.std.specs.List.{flat_map};
+ghost use Rattle.std.specs.Option.{option_copied};
+ghost use Rattle.btf_strings.specs.Kept.{IsSection};
+ghost use Rattle.c_model.specs.Graph.{IsBelow};
+ghost use Rattle.btf_codec.specs.Fields.{fields_of};
+ghost use Rattle.btf_codec.specs.Spelling.{HasOffset, IsReady, IsReadyType};
+
+use btf_codec::TableOut;
+use btf_strings::Strings;
+use c_model::{CType, Part, Ref};
+use dw_base::Name;
+
+/// Whether these are the strings of a base, or there is none.
+pub fn is_base(names: Option<&[u8]>) -> bool
+    ensures { IsTrue result → IfSome (option_copied names.entry) IsSection }
+{
+    match names {
+        None => true,
+        Some(section) => section.len() < 1000 && section.first().copied() == Some(0),
+    }
+}
+
+/// Whether each target is void or a type below `count`.
+fn is_within(count: usize, targets: &[Ref]) -> bool
+    ensures { IsTrue result → All (IsBelow count) targets.now }
+{
+    for target in targets {
+        if let Ref::Node(number) = target
+            && *number as usize >= count
+        {
+            return false;
+        }
+    }
+    true
+}
+
+/// Whether a small table meets the conditions of `write`.
+pub fn is_ready(table: &TableOut<'_>) -> bool
+    ensures { IsTrue result → IsReady table.now.types table.now.base table.now.strings }
+{
+    let types = table.types.items();
+    let base = table.base as usize;
+    if types.len() > 1000 || base > types.len() || table.strings.bytes().len() > 1_000_000 {
+        return false;
+    }
+    let own = &types[base..];
+    is_short(own) && are_ready(&table.strings, types.len(), own)
+}
+
+/// Whether the words of the types are few.
+fn is_short(own: &[CType<'_>]) -> bool
+    ensures { IsTrue result → length (flat_map fields_of own.now) < 2 ^ 29 }
+{
+    let mut count = 0;
+    for t in own {
+        let parts = t.label.parts.items().len();
+        if parts > 65_535 || count > 1_000_000 {
+            return false;
+        }
+        count += 6 + 3 * parts;
+    }
+    true
+}
+
+fn are_ready(strings: &Strings<'_>, count: usize, own: &[CType<'_>]) -> bool
+    ensures { IsTrue result → All (IsReadyType strings.now count) own.now }
+{
+    for t in own {
+        if !is_ready_type(strings, count, t) {
+            return false;
+        }
+    }
+    true
+}
+
+fn is_ready_type(strings: &Strings<'_>, count: usize, t: &CType<'_>) -> bool
+    ensures { IsTrue result → IsReadyType strings.now count t.now }
+{
+    has_offset(strings, &t.label.name)
+        && has_offsets(strings, t.label.parts.items())
+        && is_within(count, t.targets.items())
+}
+
+fn has_offset(strings: &Strings<'_>, name: &Name<'_>) -> bool
+    ensures { IsTrue result → HasOffset strings.now name.now }
+{
+    strings.offset_of(Name::new(name.bytes())).is_some()
+}
+
+fn has_offsets(strings: &Strings<'_>, parts: &[Part<'_>]) -> bool
+    ensures { IsTrue result → All (λ p. HasOffset strings.now p.name) parts.now }
+{
+    for part in parts {
+        if !has_offset(strings, &part.name) {
+            return false;
+        }
+    }
+    true
+}
