@@ -5,6 +5,8 @@
 #[cfg(test)]
 mod files;
 #[cfg(test)]
+mod form_tests;
+#[cfg(test)]
 mod header_tests;
 #[cfg(test)]
 mod walk_tests;
