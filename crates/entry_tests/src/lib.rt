@@ -7,6 +7,8 @@ mod files;
 #[cfg(test)]
 mod form_tests;
 #[cfg(test)]
+mod function_tests;
+#[cfg(test)]
 mod header_tests;
 #[cfg(test)]
 mod walk_tests;
