@@ -11,8 +11,6 @@ pub mod layout;
 pub mod meaning;
 pub mod reading;
 mod shared;
-#[cfg(test)]
-mod tests;
 
 pub use fault::FormFault;
 pub use given::{FormCtx, FormValue, Given};

@@ -5,8 +5,6 @@ pub mod entries;
 pub mod laws;
 mod places;
 mod shared;
-#[cfg(test)]
-mod tests;
 pub mod unit;
 mod walking;
 

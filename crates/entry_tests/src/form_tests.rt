@@ -2,12 +2,12 @@
 ghost use Rattle.std.specs.Prelude.{◌≤◌};
 ghost use Rattle.dwarf_forms.specs.Values.{IsContext};
 
-use crate::fault::FormFault;
-use crate::given::{FormCtx, FormValue, Given};
-use crate::meaning::{byte_offset_of, constant_of, flag_of, name_of, target_of};
-use crate::reading::{skip, value};
 use dw_base::{Name, Order};
 use dwarf_abbrev::Spec;
+use dwarf_forms::{
+    FormCtx, FormFault, FormValue, Given, byte_offset_of, constant_of, flag_of, name_of, skip,
+    target_of, value,
+};
 use std::alloc::Global;
 use std::process::Abort;
 use std::test::Fail;
@@ -171,110 +171,109 @@ const FORMS: [(u64, &[u8], &[u8], &str); 45] = [
     (0x16, &[0x12, 2, 0xf1], &[0x12, 0xf1, 2], "UnitRef(61698)"),
 ];
 
-/// The bytes are just the value, and where the unit ends one byte earlier it passes that end.
+/// An attribute of this form, for which the abbreviation holds -5.
+fn spec_of(form: u64) -> Spec {
+    Spec {
+        attribute: 3,
+        form,
+        implicit: -5,
+    }
+}
+
+/// A value is refused, and to pass it over, too.
+fn is_refused(rt: &impl Abort, ctx: &FormCtx<'_>, form: u64, fault: FormFault)
+    requires { IsContext ctx.now }
+{
+    let spec = spec_of(form);
+    assert_eq!(rt; skip(ctx, &spec, 0), Err(fault), "{form}");
+    assert_eq!(rt; value(ctx, &spec, 0).err(), Some(fault), "{form}");
+}
+
+/// The unit's bytes are just the value.
 fn holds(
     rt: &impl Abort,
     alloc: Global,
     ctx: &FormCtx<'_>,
-    bytes: &[u8],
     form: u64,
     text: &str,
 ) -> Result<(), Fail>
     requires { IsContext ctx.now }
 {
-    let spec = Spec {
-        attribute: 3,
-        form,
-        implicit: -5,
-    };
-    match value(ctx, &spec, 0) {
-        Ok((given, end)) => {
-            let found = format!(in alloc; "{:?}", given.value)?;
-            assert_eq!(rt; found.as_str(), text);
-            assert_eq!(rt; end, bytes.len() as u64, "the end of {text}");
-            assert_eq!(rt; given.form, if form == 0x16 { 0x12 } else { form });
-        }
-        Err(fault) => assert!(rt; false, "{form}: {fault}"),
-    }
-    assert_eq!(rt; skip(ctx, &spec, 0), Ok(bytes.len() as u64));
+    let spec = spec_of(form);
+    let (given, end) = value(ctx, &spec, 0)?;
+    let found = format!(in alloc; "{} {end} {:?}", given.form, given.value)?;
+    let named = if form == 0x16 { 0x12 } else { form };
+    let wanted = format!(in alloc; "{named} {} {text}", ctx.end)?;
+    assert_eq!(rt; found.as_str(), wanted.as_str());
+    assert_eq!(rt; skip(ctx, &spec, 0), Ok(ctx.end));
+    Ok(())
+}
+
+/// The value passes the end of a unit that ends one byte earlier.
+fn passes(rt: &impl Abort, ctx: &FormCtx<'_>, form: u64)
+    requires { IsContext ctx.now }
+{
     if ctx.end > 0 {
         let mut cut = *ctx;
         cut.end = ctx.end - 1;
-        let passes = FormFault::ValueTruncated(3);
-        assert_eq!(rt; skip(&cut, &spec, 0), Err(passes), "{text}");
-        match value(&cut, &spec, 0) {
-            Ok(_) => assert!(rt; false, "{form} passes the unit's end"),
-            Err(fault) => assert_eq!(rt; fault, passes),
-        }
+        is_refused(rt, &cut, form, FormFault::ValueTruncated(3));
     }
-    Ok(())
 }
 
 #[test]
 fn each_form_is_read(rt: HostRuntime) -> Result<(), Fail> {
     for (form, little, big, text) in FORMS {
         let narrow = context(little, Order::Little, 4);
-        holds(&rt, rt.alloc(), &narrow, little, form, text)?;
+        holds(&rt, rt.alloc(), &narrow, form, text)?;
+        passes(&rt, &narrow, form);
         let wide = context(big, Order::Big, 8);
-        holds(&rt, rt.alloc(), &wide, big, form, text)?;
+        holds(&rt, rt.alloc(), &wide, form, text)?;
+        passes(&rt, &wide, form);
     }
     Ok(())
 }
 
 /// The form that an indirect one names, its value, and the offset after that.
 #[test]
-fn an_indirect_form_is_the_named_one(rt: HostRuntime) {
+fn an_indirect_form_is_the_named_one(rt: HostRuntime) -> Result<(), FormFault> {
     let ctx = context(&[0x0b, 7], Order::Little, 4);
-    let spec = Spec {
-        attribute: 3,
-        form: 0x16,
-        implicit: 0,
-    };
-    match value(&ctx, &spec, 0) {
-        Ok((given, end)) => {
-            assert_eq!(rt; (given.form, end), (0x0b, 2));
-            assert_eq!(rt; constant_of(3, &given), Ok(7));
-        }
-        Err(fault) => assert!(rt; false, "{fault}"),
-    }
+    let (given, end) = value(&ctx, &spec_of(0x16), 0)?;
+    assert_eq!(rt; (given.form, end, constant_of(3, &given)), (0x0b, 2, Ok(7)));
+    Ok(())
 }
+
+/// A number that does not fit 64 bits.
+const WIDE: &[u8] = &[0xff, 0xff, 0xff, 0xff, 0xff, 0xff, 0xff, 0xff, 0xff, 0x02];
+
+/// The same behind the form that is named.
+const NAMED_WIDE: &[u8] = &[
+    0x0f, 0xff, 0xff, 0xff, 0xff, 0xff, 0xff, 0xff, 0xff, 0xff, 0x02,
+];
+
+/// Forms, bytes, and why these can't be read.
+const REFUSED: [(u64, &[u8], FormFault); 16] = [
+    (0x16, &[0x16, 0x0b, 7], FormFault::FormUnknown(0x16)),
+    (0x16, &[0x21, 7], FormFault::FormUnknown(0x21)),
+    (0x16, &[0x02, 7], FormFault::FormUnknown(0x02)),
+    (0x16, &[0x80], FormFault::ValueTruncated(3)),
+    (0x16, WIDE, FormFault::LebWide(0)),
+    (0x16, NAMED_WIDE, FormFault::LebWide(1)),
+    (0x02, &[1], FormFault::FormUnknown(0x02)),
+    (0x2d, &[1], FormFault::FormUnknown(0x2d)),
+    (0x1f02, &[1, 1, 1, 1], FormFault::FormUnknown(0x1f02)),
+    (0x0f, WIDE, FormFault::LebWide(0)),
+    (0x15, WIDE, FormFault::LebWide(0)),
+    (0x1a, WIDE, FormFault::LebWide(0)),
+    (0x0d, WIDE, FormFault::LebWide(0)),
+    (0x09, WIDE, FormFault::LebWide(0)),
+    (0x18, WIDE, FormFault::LebWide(0)),
+    (0x08, &[0x61, 0x62], FormFault::ValueTruncated(3)),
+];
 
 #[test]
 fn what_cannot_be_read(rt: HostRuntime) {
-    let wide: &[u8] = &[0xff, 0xff, 0xff, 0xff, 0xff, 0xff, 0xff, 0xff, 0xff, 0x02];
-    let named_wide: &[u8] = &[
-        0x0f, 0xff, 0xff, 0xff, 0xff, 0xff, 0xff, 0xff, 0xff, 0xff, 0x02,
-    ];
-    let cases: [(u64, &[u8], FormFault); 16] = [
-        (0x16, &[0x16, 0x0b, 7], FormFault::FormUnknown(0x16)),
-        (0x16, &[0x21, 7], FormFault::FormUnknown(0x21)),
-        (0x16, &[0x02, 7], FormFault::FormUnknown(0x02)),
-        (0x16, &[0x80], FormFault::ValueTruncated(3)),
-        (0x16, wide, FormFault::LebWide(0)),
-        (0x16, named_wide, FormFault::LebWide(1)),
-        (0x02, &[1], FormFault::FormUnknown(0x02)),
-        (0x2d, &[1], FormFault::FormUnknown(0x2d)),
-        (0x1f02, &[1, 1, 1, 1], FormFault::FormUnknown(0x1f02)),
-        (0x0f, wide, FormFault::LebWide(0)),
-        (0x15, wide, FormFault::LebWide(0)),
-        (0x1a, wide, FormFault::LebWide(0)),
-        (0x0d, wide, FormFault::LebWide(0)),
-        (0x09, wide, FormFault::LebWide(0)),
-        (0x18, wide, FormFault::LebWide(0)),
-        (0x08, &[0x61, 0x62], FormFault::ValueTruncated(3)),
-    ];
-    for (form, bytes, fault) in cases {
-        let ctx = context(bytes, Order::Little, 4);
-        let spec = Spec {
-            attribute: 3,
-            form,
-            implicit: 0,
-        };
-        assert_eq!(rt; skip(&ctx, &spec, 0), Err(fault), "{form}");
-        match value(&ctx, &spec, 0) {
-            Ok(_) => assert!(rt; false, "{form} is read"),
-            Err(found) => assert_eq!(rt; found, fault, "{form}"),
-        }
+    for (form, bytes, fault) in REFUSED {
+        is_refused(&rt, &context(bytes, Order::Little, 4), form, fault);
     }
 }
 
@@ -287,12 +286,25 @@ fn is_named(
 )
     requires { IsContext ctx.now }
 {
-    match (name_of(ctx, 3, &Given { form: 8, value }), wanted) {
-        (Ok(name), Ok(bytes)) => assert_eq!(rt; name.bytes(), bytes),
-        (Err(found), Err(fault)) => assert_eq!(rt; found, fault),
-        _ => assert!(rt; false),
+    match name_of(ctx, 3, &Given { form: 8, value }) {
+        Ok(name) => assert_eq!(rt; Ok(name.bytes()), wanted),
+        Err(found) => assert_eq!(rt; Err(found), wanted),
     }
 }
+
+/// Values, and the names that they stand for.
+const NAMES: [(FormValue<'static>, Result<&[u8], FormFault>); 10] = [
+    (FormValue::Strp(1), Ok(&[0x62, 0x63])),
+    (FormValue::Strp(3), Ok(&[])),
+    (FormValue::Strp(6), Err(FormFault::StringOut(6))),
+    (FormValue::LineStrp(0), Ok(&[0x65])),
+    (FormValue::LineStrp(2), Err(FormFault::StringOut(2))),
+    (FormValue::Strx(1), Ok(&[0x64])),
+    (FormValue::Strx(2), Err(FormFault::StrxOut(2))),
+    (FormValue::Strx(u64::MAX), Err(FormFault::StrxOut(u64::MAX))),
+    (FormValue::Alt(0x1d), Err(FormFault::AltForm(0x1d))),
+    (FormValue::Unsigned(1), Err(FormFault::WrongClass(3, 8))),
+];
 
 #[test]
 fn values_name(rt: HostRuntime) {
@@ -303,77 +315,62 @@ fn values_name(rt: HostRuntime) {
     ctx.str_base = 8;
     let held: &[u8] = &[0x61];
     is_named(&rt, &ctx, FormValue::Text(Name::new(held)), Ok(held));
-    is_named(&rt, &ctx, FormValue::Strp(1), Ok(&[0x62, 0x63]));
-    is_named(&rt, &ctx, FormValue::Strp(3), Ok(&[]));
-    is_named(&rt, &ctx, FormValue::Strp(6), Err(FormFault::StringOut(6)));
-    is_named(&rt, &ctx, FormValue::LineStrp(0), Ok(&[0x65]));
-    is_named(
-        &rt,
-        &ctx,
-        FormValue::LineStrp(2),
-        Err(FormFault::StringOut(2)),
-    );
-    is_named(&rt, &ctx, FormValue::Strx(1), Ok(&[0x64]));
-    is_named(&rt, &ctx, FormValue::Strx(2), Err(FormFault::StrxOut(2)));
-    is_named(
-        &rt,
-        &ctx,
-        FormValue::Strx(u64::MAX),
-        Err(FormFault::StrxOut(u64::MAX)),
-    );
-    is_named(
-        &rt,
-        &ctx,
-        FormValue::Alt(0x1d),
-        Err(FormFault::AltForm(0x1d)),
-    );
-    is_named(
-        &rt,
-        &ctx,
-        FormValue::Unsigned(1),
-        Err(FormFault::WrongClass(3, 8)),
-    );
+    for (value, wanted) in NAMES {
+        is_named(&rt, &ctx, value, wanted);
+    }
 }
+
+/// Values, and the places that they refer to, in a unit at 100.
+const TARGETS: [(FormValue<'static>, Result<u128, FormFault>); 5] = [
+    (FormValue::UnitRef(5), Ok(105)),
+    (FormValue::UnitRef(u64::MAX), Ok(18_446_744_073_709_551_715)),
+    (FormValue::InfoRef(5), Ok(5)),
+    (FormValue::Alt(0x1f20), Err(FormFault::AltForm(0x1f20))),
+    (FormValue::Strp(5), Err(FormFault::WrongClass(3, 8))),
+];
+
+#[test]
+fn values_refer(rt: HostRuntime) {
+    let mut ctx = context(&[], Order::Little, 4);
+    ctx.unit = 100;
+    for (value, target) in TARGETS {
+        assert_eq!(rt; target_of(&ctx, 3, &Given { form: 8, value }), target);
+    }
+}
+
+/// What a value of a class that the attribute doesn't have is refused with.
+const WRONG: FormFault = FormFault::WrongClass(3, 8);
+
+/// A value, its constant, and its offset in bytes.
+type Standing = (
+    FormValue<'static>,
+    Result<i128, FormFault>,
+    Result<Option<i128>, FormFault>,
+);
+
+/// Values, and what they stand for. None is a flag.
+const STANDING: [Standing; 9] = [
+    (FormValue::Unsigned(200), Ok(200), Ok(Some(200))),
+    (FormValue::Signed(-2), Ok(-2), Ok(Some(-2))),
+    (FormValue::Sixteen(&[0]), Err(WRONG), Err(WRONG)),
+    (FormValue::SecOffset(1), Err(WRONG), Err(WRONG)),
+    (FormValue::Expr(&[0x23, 8]), Err(WRONG), Ok(Some(8))),
+    (FormValue::Expr(&[0x23, 8, 0]), Err(WRONG), Ok(None)),
+    (FormValue::Expr(&[0x23, 0x80]), Err(WRONG), Ok(None)),
+    (FormValue::Expr(&[0x91, 8]), Err(WRONG), Ok(None)),
+    (FormValue::Expr(&[]), Err(WRONG), Ok(None)),
+];
 
 #[test]
 fn values_stand_for(rt: HostRuntime) {
-    let mut ctx = context(&[], Order::Little, 4);
-    ctx.unit = 100;
-    let cases: [(FormValue<'_>, Result<u128, FormFault>); 5] = [
-        (FormValue::UnitRef(5), Ok(105)),
-        (FormValue::UnitRef(u64::MAX), Ok(18_446_744_073_709_551_715)),
-        (FormValue::InfoRef(5), Ok(5)),
-        (FormValue::Alt(0x1f20), Err(FormFault::AltForm(0x1f20))),
-        (FormValue::Strp(5), Err(FormFault::WrongClass(3, 8))),
-    ];
-    for (value, target) in cases {
-        assert_eq!(rt; target_of(&ctx, 3, &Given { form: 8, value }), target);
-    }
-    let wrong = FormFault::WrongClass(3, 8);
-    let cases: [(
-        FormValue<'_>,
-        Result<i128, FormFault>,
-        Result<Option<i128>, FormFault>,
-    ); 9] = [
-        (FormValue::Unsigned(200), Ok(200), Ok(Some(200))),
-        (FormValue::Signed(-2), Ok(-2), Ok(Some(-2))),
-        (FormValue::Sixteen(&[0]), Err(wrong), Err(wrong)),
-        (FormValue::SecOffset(1), Err(wrong), Err(wrong)),
-        (FormValue::Expr(&[0x23, 8]), Err(wrong), Ok(Some(8))),
-        (FormValue::Expr(&[0x23, 8, 0]), Err(wrong), Ok(None)),
-        (FormValue::Expr(&[0x23, 0x80]), Err(wrong), Ok(None)),
-        (FormValue::Expr(&[0x91, 8]), Err(wrong), Ok(None)),
-        (FormValue::Expr(&[]), Err(wrong), Ok(None)),
-    ];
-    for (value, constant, offset) in cases {
+    for (value, constant, offset) in STANDING {
         let given = Given { form: 8, value };
-        assert_eq!(rt; constant_of(3, &given), constant);
-        assert_eq!(rt; byte_offset_of(3, &given), offset);
-        assert_eq!(rt; flag_of(3, &given), Err(wrong));
+        let (found, at) = (constant_of(3, &given), byte_offset_of(3, &given));
+        assert_eq!(rt;
+            (found, at, flag_of(3, &given)),
+            (constant, offset, Err(WRONG))
+        );
     }
-    let given = Given {
-        form: 12,
-        value: FormValue::Flag(true),
-    };
-    assert_eq!(rt; flag_of(3, &given), Ok(true));
+    let value = FormValue::Flag(true);
+    assert_eq!(rt; flag_of(3, &Given { form: 12, value }), Ok(true));
 }
