@@ -1,71 +1,29 @@
 //! A small graph: its classes, the references to its nodes, and the members of its classes. Rings,
 //! chains, trees and forwards are compared with the plain program in `graph_cases`.
-ghost use Rattle.std.specs.Prelude.{◌≡◌, ◌<◌, ◌≤◌, ◌+◌, ◌∷◌, ℕ, Some, [], length, All, IsTrue};
-ghost use Rattle.std.specs.Prelude.{IfOk, OnOk};
-ghost use Rattle.c_model.specs.Graph.{IsBelow, RefersWithin};
-ghost use Rattle.c_model.specs.Forwards.{Tag, declaration_at, HasFittingForwards, IsIndexOf};
+ghost use Rattle.std.specs.Prelude.{◌≡◌, ◌<◌, ◌≤◌, ◌∷◌, [], length, IfOk, OnOk};
 
-use c_model::{CType, Classes, Graph, Label, Nodes, Numbers, Parts, Ref, Refs};
+use crate::fitting::is_fitting;
+use crate::rows::{Named, Row, btf, graph_of};
+use c_model::{Classes, Graph, Nodes, Numbers};
 use class_halves::{Incoming, Members, classes_by_halves, split_by_halves};
-use dw_base::{Name, Steps};
+use dw_base::Steps;
 use forward_rule::FwdIndex;
-use forward_rule::families::declared_family;
 use std::alloc::{AllocError, Global};
 use std::marker::Brand;
 use std::sync::ledger::{Blank, Ledger};
 use std::test::Fail;
 use std::thread::Threads;
 
-/// Appends a structure of two members, which are void or of the first four nodes.
-fn push_structure<'n>(
-    alloc: Global,
-    nodes: &mut Vec<CType<'n>>,
-    x: Ref,
-    y: Ref,
-) -> Result<(), AllocError>
-    requires x { IsBelow 4 x }
-    requires y { IsBelow 4 y }
-    requires within { RefersWithin 4 nodes.old.items }
-    ensures within { OnOk result (RefersWithin 4 nodes.new.items) }
-    ensures more { OnOk result (length nodes.new.items ≡ length nodes.old.items + 1) }
-{
-    let label = Label {
-        kind: 4,
-        name: Name::new(b"s"),
-        flag: false,
-        size: 8,
-        extra: 0,
-        parts: Parts::new(Vec::new(alloc)),
-    };
-    let targets = Refs::new(Vec::from_slice(alloc, &[x, y])?);
-    nodes.push(CType { label, targets })?;
-    Ok(())
-}
-
 /// A node that refers to itself at both positions, one that refers to it at both, one that refers
-/// to two nodes, and one that refers to none.
-fn four_nodes(alloc: Global) -> Result<Graph<'static>, AllocError>
-    ensures { IfOk result (λ g. length g.nodes ≡ 4) }
-{
-    let mut nodes = Vec::new(alloc);
-    push_structure(alloc, &mut nodes, Ref::Node(0), Ref::Node(0))?;
-    push_structure(alloc, &mut nodes, Ref::Node(0), Ref::Node(0))?;
-    push_structure(alloc, &mut nodes, Ref::Node(3), Ref::Node(0))?;
-    push_structure(alloc, &mut nodes, Ref::Void, Ref::Void)?;
-    Ok(Graph::new(0, Nodes::new(nodes)))
-}
+/// to two nodes, and one that refers to none. All are structures of two members.
+const FOUR_NODES: &[Row] = &[
+    (4, b"s", 8, MEMBERS, &[1, 1]),
+    (4, b"s", 8, MEMBERS, &[1, 1]),
+    (4, b"s", 8, MEMBERS, &[4, 1]),
+    (4, b"s", 8, MEMBERS, &[0, 0]),
+];
 
-/// Whether no node is a declaration.
-fn declares_nothing(graph: &Graph<'_>) -> bool
-    ensures { IsTrue result → HasFittingForwards graph.now }
-{
-    for x in 0..graph.len() {
-        if declared_family(&graph.node(x).label).is_some() {
-            return false;
-        }
-    }
-    true
-}
+const MEMBERS: &[Named] = &[(b"", 0), (b"", 32)];
 
 /// The classes of a graph, split from labels on, and behind a guess.
 fn both_ways<R: Threads + Sync, L: Ledger>(
@@ -79,8 +37,8 @@ fn both_ways<R: Threads + Sync, L: Ledger>(
     requires some { 0 < L.parts }
 {
     let mut steps = Steps::<L>::new(blank);
-    if !declares_nothing(graph) {
-        return Err(Fail::from("a declaration"));
+    if !is_fitting(graph) {
+        return Err(Fail::from("forwards that do not fit"));
     }
     let fwd = FwdIndex::plain(graph);
     let split = split_by_halves(alloc, graph, &fwd, &mut steps)?;
@@ -88,16 +46,21 @@ fn both_ways<R: Threads + Sync, L: Ledger>(
     Ok((split, guessed))
 }
 
+/// Whether four nodes have three classes, of which the first has two nodes.
+fn are_three(classes: &[u32]) -> bool {
+    match classes {
+        [a, b, c, d] => a == b && a != c && a != d && c != d,
+        _ => false,
+    }
+}
+
 #[test]
 fn four_nodes_have_three_classes(rt: HostRuntime) -> Result<(), Fail> {
-    let graph = four_nodes(rt.alloc())?;
+    let bytes = btf(rt.alloc(), FOUR_NODES)?;
+    let graph = graph_of(rt.alloc(), 0, &bytes)?;
     let (split, guessed) = both_ways::<HostRuntime, Brand>(&rt, rt.alloc(), &graph, Blank::new(1))?;
-    for classes in [split, guessed] {
-        let [a, b, c, d] = classes.numbers() else {
-            return Err(Fail::from("other nodes"));
-        };
-        assert!(rt; a == b && a != c && a != d && c != d);
-    }
+    assert!(rt; are_three(split.numbers()));
+    assert!(rt; are_three(guessed.numbers()));
     Ok(())
 }
 
@@ -154,18 +117,22 @@ fn references_to<L: Ledger>(
     Ok(found)
 }
 
+/// A node, and the references to it.
+const REFERENCES: [(u32, &[(u32, u64)]); 3] = [
+    (0, &[(0, 0), (0, 1), (1, 0), (1, 1), (2, 1)]),
+    (3, &[(2, 0)]),
+    (1, &[]),
+];
+
 #[test]
 fn references_in_their_order(rt: HostRuntime) -> Result<(), Fail> {
-    let graph = four_nodes(rt.alloc())?;
-    let found = references_to::<Brand>(rt.alloc(), &graph, 0, Blank::new(1))?;
-    assert_eq!(rt;
-        found.as_slice(),
-        [(0, 0), (0, 1), (1, 0), (1, 1), (2, 1)].as_slice()
-    );
-    let found = references_to::<Brand>(rt.alloc(), &graph, 3, Blank::new(1))?;
-    assert_eq!(rt; found.as_slice(), [(2, 0)].as_slice());
-    let found = references_to::<Brand>(rt.alloc(), &graph, 1, Blank::new(1))?;
-    assert!(rt; found.is_empty());
+    let bytes = btf(rt.alloc(), FOUR_NODES)?;
+    let graph = graph_of(rt.alloc(), 0, &bytes)?;
+    for (x, wanted) in REFERENCES {
+        assert!(rt; x < graph.len());
+        let found = references_to::<Brand>(rt.alloc(), &graph, x, Blank::new(1))?;
+        assert_eq!(rt; found.as_slice(), wanted);
+    }
     Ok(())
 }
 

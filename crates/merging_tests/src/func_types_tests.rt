@@ -1,182 +1,123 @@
 //! Which names of a list of function entries are chosen. Each prototype is told from the others by
-//! its size.
-ghost use Rattle.std.specs.Prelude.{◌≡◌, ◌<◌, ◌≤◌, ◌+◌, All, length, IfOk, IsTrue};
-ghost use Rattle.c_model.specs.Graph.{RefersWithin};
+//! the number of its parameters.
+use crate::fitting::{have_protos, refer_below};
+use crate::functions::{Function, GLOBAL, LOCAL, entries, has_funcs};
+use crate::rows::{Named, Row, btf, graph_of};
+use c_model::{Classes, Numbers};
+use func_types::{Funcs, Protos, chosen};
+use std::alloc::Global;
+use std::test::Fail;
 
-use c_model::{CType, Classes, Graph, Label, Nodes, Numbers, Parts, Ref, Refs};
-use dw_base::Name;
-use func_types::{Func, Funcs, Protos, chosen};
-use std::alloc::{AllocError, Global};
+/// A parameter.
+const PART: Named = (b"x", 0);
 
-/// A function entry, or a chosen function with the prototype that is taken.
-#[derive(Clone, Copy)]
-struct Row {
-    name: &'static [u8],
-    external: bool,
-    proto: u32,
-}
+/// `int`, and prototypes that return it.
+const TYPES: [Row; 5] = [
+    (1, b"int", 4, &[], &[]),
+    (13, b"", 0, &[PART], &[1, 0]),
+    (13, b"", 0, &[PART, PART], &[1, 0, 0]),
+    (13, b"", 0, &[PART, PART, PART], &[1, 0, 0, 0]),
+    (13, b"", 0, &[PART, PART, PART, PART], &[1, 0, 0, 0, 0]),
+];
 
-fn global(name: &'static [u8], proto: u32) -> Row {
-    Row {
-        name,
-        external: true,
-        proto,
-    }
-}
+/// The nodes of a base; the classes of its nodes, of `int`, and of each prototype; the entries; and
+/// the functions that are chosen.
+type Case = (
+    u32,
+    &'static [u32],
+    &'static [Function],
+    &'static [Function],
+);
 
-fn local(name: &'static [u8], proto: u32) -> Row {
-    Row {
-        name,
-        external: false,
-        proto,
-    }
-}
+const F: &[u8] = b"f";
 
-fn node(alloc: Global, kind: u8, size: u32, targets: &[Ref]) -> Result<CType<'static>, AllocError>
-    ensures { IfOk result (λ t. t.targets ≡ targets.now) }
-{
-    let label = Label {
-        kind,
-        name: Name::new(b""),
-        flag: false,
-        size,
-        extra: 0,
-        parts: Parts::new(Vec::new(alloc)),
-    };
-    Ok(CType {
-        label,
-        targets: Refs::new(Vec::from_slice(alloc, targets)?),
-    })
-}
+const G: &[u8] = b"g";
 
-/// `int`, and so many prototypes that return it.
-fn types(alloc: Global, count: u32) -> Result<Graph<'static>, AllocError>
-    requires { count < 100 }
-    ensures base { IfOk result (λ g. g.base ≡ 0) }
-    ensures len { IfOk result (λ g. length g.nodes ≡ count + 1) }
-    ensures within { IfOk result (λ g. RefersWithin 1 g.nodes) }
-{
-    let mut nodes = Vec::new(alloc);
-    nodes.push(node(alloc, 1, 4, &[])?)?;
-    for i in 0..count {
-        nodes.push(node(alloc, 13, i + 1, &[Ref::Node(0)])?)?;
-    }
-    Ok(Graph::new(0, Nodes::new(nodes)))
-}
+const H: &[u8] = b"ff";
 
-/// The entries of these rows.
-fn entries(alloc: Global, rows: &[Row]) -> Result<Vec<Func<'static>>, AllocError>
-    ensures { IfOk result (λ v. length v.items ≡ length rows.now) }
-{
-    let mut funcs = Vec::new(alloc);
-    for row in rows {
-        funcs.push(Func {
-            name: Name::new(row.name),
-            external: row.external,
-            proto: row.proto,
-        })?;
-    }
-    Ok(funcs)
-}
+/// A function twice, the second time by another prototype.
+const TWICE: &[Function] = &[(F, LOCAL, 1), (F, LOCAL, 2)];
 
-/// Whether each prototype is one of the first nodes.
-fn are_below(limit: u32, funcs: &[Func<'_>]) -> bool
-    ensures { IsTrue result → All (λ f. f.proto < limit) funcs.now }
-{
-    for func in funcs {
-        if func.proto >= limit {
-            return false;
-        }
-    }
-    true
-}
+const MANY: &[Function] = &[
+    (H, GLOBAL, 2),
+    (G, LOCAL, 3),
+    (F, GLOBAL, 1),
+    (G, LOCAL, 1),
+    (H, GLOBAL, 4),
+    (F, GLOBAL, 2),
+];
 
-/// Whether the nodes behind the first one are the prototypes of these rows, and then their FUNCs.
-fn has_funcs(nodes: &[CType<'_>], rows: &[Row]) -> bool
-    requires { length rows.now < 100 }
-{
-    if nodes.len() != 1 + 2 * rows.len() {
-        return false;
-    }
-    for i in 0..rows.len() {
-        let (proto, func) = (&nodes[1 + i], &nodes[1 + rows.len() + i]);
-        let targets = [Ref::Node(1 + i as u32)];
-        let is_same = proto.label.kind == 13
-            && proto.label.size == rows[i].proto
-            && func.label.kind == 12
-            && func.label.name.bytes() == rows[i].name
-            && func.label.extra == u32::from(rows[i].external)
-            && func.targets.items() == targets.as_slice();
-        if !is_same {
-            return false;
-        }
-    }
-    true
-}
+const CASES: [Case; 9] = [
+    // No functions, and one.
+    (0, &[0], &[], &[]),
+    (0, &[0, 1], &[(F, GLOBAL, 1)], &[(F, GLOBAL, 1)]),
+    // A function twice, the second time by another prototype of its class; behind a base too.
+    (0, &[0, 1, 1], TWICE, &[(F, LOCAL, 1)]),
+    (2, &[7, 1, 0, 5, 5], TWICE, &[(F, LOCAL, 1)]),
+    // Prototypes that differ, and a name with two linkages.
+    (0, &[0, 1, 2], TWICE, &[]),
+    (0, &[0, 1], &[(F, GLOBAL, 1), (F, LOCAL, 1)], &[]),
+    // Chosen names stand in the order of their first entries, each with its first prototype.
+    (0, &[0, 1, 1, 2, 1], MANY, &[(H, GLOBAL, 2), (F, GLOBAL, 1)]),
+    (
+        0,
+        &[9, 4, 4, 4, 4],
+        MANY,
+        &[(H, GLOBAL, 2), (G, LOCAL, 3), (F, GLOBAL, 1)],
+    ),
+    // Only the last entry of a name is unlike.
+    (
+        0,
+        &[0, 1, 2],
+        &[
+            (F, GLOBAL, 1),
+            (G, GLOBAL, 1),
+            (F, GLOBAL, 1),
+            (F, GLOBAL, 2),
+        ],
+        &[(G, GLOBAL, 1)],
+    ),
+];
 
-/// Whether exactly the functions `want` are chosen. The classes are those of the nodes of a base,
-/// of `int`, and of each prototype.
-fn chooses(
-    alloc: Global,
-    base: u32,
-    classes: &[u32],
-    rows: &[Row],
-    want: &[Row],
-) -> Result<bool, AllocError>
-    requires { base < 100 }
-{
-    if classes.len() <= base as usize
-        || classes.len() > 100
-        || rows.len() > 100
-        || want.len() >= 100
-    {
-        return Ok(false);
-    }
-    let count = classes.len() as u32 - base;
-    let graph = types(alloc, count - 1)?;
+/// Whether exactly the wanted functions of a case are chosen of the types that bytes spell.
+fn chooses_from(alloc: Global, case: &Case, bytes: &[u8]) -> Result<bool, Fail> {
+    let (base, numbers, rows, wanted) = *case;
+    let graph = graph_of(alloc, 0, bytes)?;
     let funcs = entries(alloc, rows)?;
-    if !are_below(count, &funcs) {
-        return Ok(false);
+    if base > 100 || graph.len() > 100 || funcs.len() > 100 || graph.len() == 0 {
+        return Err(Fail::from("too many nodes or entries"));
+    }
+    if numbers.len() != base as usize + graph.len() as usize {
+        return Err(Fail::from("other classes"));
+    }
+    if !refer_below(1, graph.nodes()) || !have_protos(graph.len(), &funcs) {
+        return Err(Fail::from("no graph of prototypes"));
     }
     let protos = Protos {
         graph,
         plain: 1,
         funcs: Funcs::new(funcs),
     };
-    let classes = Classes::new(Numbers::new(Vec::from_slice(alloc, classes)?));
-    let graph = chosen(alloc, base, &protos, &classes)?;
-    Ok(has_funcs(graph.nodes(), want))
+    let classes = Classes::new(Numbers::new(Vec::from_slice(alloc, numbers)?));
+    let made = chosen(alloc, base, &protos, &classes)?;
+    Ok(has_funcs(made.nodes(), protos.graph.nodes(), 1, wanted))
+}
+
+/// Whether exactly the wanted functions of a case are chosen.
+fn chooses(alloc: Global, case: &Case) -> Result<bool, Fail> {
+    let count = case.1.len().saturating_sub(case.0 as usize);
+    let Some(types) = TYPES.get(..count) else {
+        return Err(Fail::from("too many classes"));
+    };
+    let bytes = btf(alloc, types)?;
+    chooses_from(alloc, case, &bytes)
 }
 
 #[test]
-fn names_that_agree_are_chosen(rt: HostRuntime) {
-    let alloc = rt.alloc();
-    let (f, g, h) = (b"f".as_slice(), b"g".as_slice(), b"ff".as_slice());
-    // No functions, and one.
-    assert!(rt; chooses(alloc, 0, &[0], &[], &[]).expect(&rt, "memory"));
-    assert!(rt; chooses(alloc, 0, &[0, 1], &[global(f, 1)], &[global(f, 1)]).expect(&rt, "memory"));
-    // A function twice, the second time by another prototype of its class; behind a base too.
-    let twice = [local(f, 1), local(f, 2)];
-    assert!(rt; chooses(alloc, 0, &[0, 1, 1], &twice, &[local(f, 1)]).expect(&rt, "memory"));
-    assert!(rt; chooses(alloc, 2, &[7, 1, 0, 5, 5], &twice, &[local(f, 1)]).expect(&rt, "memory"));
-    // Prototypes that differ, and a name with two linkages.
-    assert!(rt; chooses(alloc, 0, &[0, 1, 2], &twice, &[]).expect(&rt, "memory"));
-    let linkages = [global(f, 1), local(f, 1)];
-    assert!(rt; chooses(alloc, 0, &[0, 1], &linkages, &[]).expect(&rt, "memory"));
-    // Chosen names stand in the order of their first entries, each with its first prototype.
-    let many = [
-        global(h, 2),
-        local(g, 3),
-        global(f, 1),
-        local(g, 1),
-        global(h, 4),
-        global(f, 2),
-    ];
-    let some = [global(h, 2), global(f, 1)];
-    assert!(rt; chooses(alloc, 0, &[0, 1, 1, 2, 1], &many, &some).expect(&rt, "memory"));
-    let all = [global(h, 2), local(g, 3), global(f, 1)];
-    assert!(rt; chooses(alloc, 0, &[9, 4, 4, 4, 4], &many, &all).expect(&rt, "memory"));
-    // Only the last entry of a name is unlike.
-    let last = [global(f, 1), global(g, 1), global(f, 1), global(f, 2)];
-    assert!(rt; chooses(alloc, 0, &[0, 1, 2], &last, &[global(g, 1)]).expect(&rt, "memory"));
+fn names_that_agree_are_chosen(rt: HostRuntime) -> Result<(), Fail> {
+    for case in &CASES {
+        let is_chosen = chooses(rt.alloc(), case)?;
+        assert!(rt; is_chosen, "{case:?}");
+    }
+    Ok(())
 }

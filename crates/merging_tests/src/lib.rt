@@ -11,6 +11,10 @@ mod func_merge_tests;
 #[cfg(test)]
 mod func_types_tests;
 #[cfg(test)]
+mod functions;
+#[cfg(test)]
+mod rows;
+#[cfg(test)]
 mod split_base_tests;
 #[cfg(test)]
 mod table_tests;

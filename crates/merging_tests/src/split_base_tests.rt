@@ -1,109 +1,71 @@
 //! A base that declares a structure and points to it, beside a file that defines it, as in C's
 //! `struct foo; struct foo *p;` and `struct foo { int x; } *q;`.
-ghost use Rattle.std.specs.Prelude.{◌≡◌, IfOk, length};
-ghost use Rattle.c_model.specs.Graph.{RefersWithin};
-
-use btf_codec::Table;
-use c_model::{CType, Graph, Label, Nodes, Part, Parts, Ref, Refs};
-use dw_base::{Name, Order};
-use split_base::{TableFault, graph_of, with_base};
-use std::alloc::{AllocError, Global};
+use crate::rows::{Row, btf, graph_of, table_of};
+use c_model::{Graph, Ref};
+use split_base::{TableFault, with_base};
+use std::alloc::Global;
 use std::test::Fail;
 
-/// A type of these members, each with its name and its place in bits.
-fn node<'a>(
-    alloc: Global,
-    kind: u8,
-    name: &'a [u8],
-    size: u32,
-    members: &[(&'a [u8], u64)],
-    targets: &[Ref],
-) -> Result<CType<'a>, AllocError>
-    ensures { IfOk result (λ t. t.targets ≡ targets.now) }
-{
-    let mut parts = Vec::new(alloc);
-    for member in members {
-        parts.push(Part {
-            name: Name::new(member.0),
-            value: member.1,
-        })?;
-    }
-    let label = Label {
-        kind,
-        name: Name::new(name),
-        flag: false,
-        size,
-        extra: 0,
-        parts: Parts::new(parts),
-    };
-    Ok(CType {
-        label,
-        targets: Refs::new(Vec::from_slice(alloc, targets)?),
-    })
-}
-
 /// A forward `foo` and a pointer to it.
-fn declares(alloc: Global) -> Result<Table<'static>, AllocError>
-    ensures alone { IfOk result (λ t. t.base ≡ 0) }
-    ensures len { IfOk result (λ t. length t.types ≡ 2) }
-    ensures within { IfOk result (λ t. RefersWithin 2 t.types) }
-{
-    let mut types = Vec::new(alloc);
-    types.push(node(alloc, 7, b"foo", 0, &[], &[])?)?;
-    types.push(node(alloc, 2, b"", 0, &[], &[Ref::Node(0)])?)?;
-    Ok(Table {
-        order: Order::Little,
-        base: 0,
-        types: Nodes::new(types),
-        names: b"\0foo\0",
-    })
-}
+const DECLARES: &[Row] = &[(7, b"foo", 0, &[], &[]), (2, b"", 0, &[], &[1])];
 
 /// `int`, a structure `foo` of a member `x`, and a pointer to it.
-fn defines(alloc: Global) -> Result<Graph<'static>, AllocError>
-    ensures base { IfOk result (λ g. g.base ≡ 0) }
-    ensures len { IfOk result (λ g. length g.nodes ≡ 3) }
-{
-    let mut nodes = Vec::new(alloc);
-    nodes.push(node(alloc, 1, b"int", 4, &[], &[])?)?;
-    nodes.push(node(alloc, 4, b"foo", 4, &[(b"x", 0)], &[Ref::Node(0)])?)?;
-    nodes.push(node(alloc, 2, b"", 0, &[], &[Ref::Node(1)])?)?;
-    Ok(Graph::new(0, Nodes::new(nodes)))
+const DEFINES: &[Row] = &[
+    (1, b"int", 4, &[], &[]),
+    (4, b"foo", 4, &[(b"x", 0)], &[1]),
+    (2, b"", 0, &[], &[2]),
+];
+
+/// The kind of each node, and what it refers to.
+const WANTED: &[(u8, &[Ref])] = &[
+    (7, &[]),
+    (2, &[Ref::Node(0)]),
+    (1, &[]),
+    (4, &[Ref::Node(2)]),
+    (2, &[Ref::Node(3)]),
+];
+
+/// Whether a graph has two base nodes, and these nodes.
+fn has_nodes(graph: &Graph<'_>, wanted: &[(u8, &[Ref])]) -> bool {
+    for (node, (kind, targets)) in graph.nodes().iter().zip(wanted) {
+        if node.label.kind != *kind || node.targets.items() != *targets {
+            return false;
+        }
+    }
+    graph.base() == 2 && graph.nodes().len() == wanted.len()
+}
+
+/// Whether the graph of the base that bytes spell has these nodes.
+fn has_alone(alloc: Global, below: &[u8], wanted: &[(u8, &[Ref])]) -> Result<bool, Fail> {
+    let table = table_of(alloc, below)?;
+    let alone = split_base::graph_of(alloc, &table)?;
+    Ok(has_nodes(&alone, wanted))
+}
+
+/// The graph of the base and the file that bytes spell, where it has no more than `most` nodes.
+fn whole<'a>(
+    alloc: Global,
+    below: &'a [u8],
+    most: u32,
+    bytes: &'a [u8],
+) -> Result<Result<Graph<'a>, TableFault>, Fail> {
+    let graph = graph_of(alloc, 0, bytes)?;
+    let table = table_of(alloc, below)?;
+    Ok(with_base(alloc, &table, most, graph))
 }
 
 #[test]
 fn base_nodes_come_first(rt: HostRuntime) -> Result<(), Fail> {
-    let alloc = rt.alloc();
-    let table = declares(alloc)?;
-    let alone = graph_of(alloc, &table)?;
-    assert_eq!(rt; (alone.base(), alone.len()), (2, 2));
-    assert_eq!(rt; alone.node(1).targets.items(), [Ref::Node(0)].as_slice());
-
-    let Ok(whole) = with_base(alloc, &table, 5, defines(alloc)?) else {
-        panic!(rt; "five nodes fit")
-    };
-    assert_eq!(rt; (whole.base(), whole.len()), (2, 5));
-    let wanted = [
-        (7u8, None),
-        (2, Some(Ref::Node(0))),
-        (1, None),
-        (4, Some(Ref::Node(2))),
-        (2, Some(Ref::Node(3))),
-    ];
-    for (node, (kind, target)) in whole.nodes().iter().zip(wanted) {
-        assert_eq!(rt;
-            (node.label.kind, node.targets.items().first().copied()),
-            (kind, target)
-        );
+    let below = btf(rt.alloc(), DECLARES)?;
+    let bytes = btf(rt.alloc(), DEFINES)?;
+    let is_alone = has_alone(rt.alloc(), &below, &WANTED[..2])?;
+    assert!(rt; is_alone);
+    match whole(rt.alloc(), &below, 5, &bytes)? {
+        Ok(graph) => assert!(rt; has_nodes(&graph, WANTED)),
+        Err(fault) => assert!(rt; false, "five nodes fit: {fault:?}"),
     }
-    Ok(())
-}
-
-#[test]
-fn one_node_too_many(rt: HostRuntime) -> Result<(), Fail> {
-    let alloc = rt.alloc();
-    let table = declares(alloc)?;
-    let refused = with_base(alloc, &table, 4, defines(alloc)?).err();
+    // One node too many.
+    let refused = whole(rt.alloc(), &below, 4, &bytes)?.err();
     assert_eq!(rt; refused, Some(TableFault::NodesTooMany(5)));
     Ok(())
 }

@@ -1,39 +1,18 @@
 //! Two units that each describe a pointer to itself.
-ghost use Rattle.std.specs.Prelude.{◌≡◌, ◌<◌, ◌∷◌, [], length, IfOk};
+ghost use Rattle.std.specs.Prelude.{◌≡◌, ◌<◌, length};
 
-use c_model::{CType, Graph, Label, Nodes, Parts, Ref, Refs};
-use dw_base::{Name, Steps};
+use crate::rows::{Row, btf, graph_of};
+use c_model::Graph;
+use dw_base::Steps;
 use forward_rule::FwdIndex;
 use std::alloc::{AllocError, Global};
 use std::marker::Brand;
 use std::sync::ledger::{Blank, Ledger};
+use std::test::Fail;
 use type_signature::{Numbering, key, key_uncounted, label_classes};
 
-/// A pointer to a node.
-fn pointer(alloc: Global, target: u32) -> Result<CType<'static>, AllocError>
-    ensures { IfOk result (λ t. t.targets ≡ Ref.Node target ∷ []) }
-{
-    let label = Label {
-        kind: 2,
-        name: Name::new(b""),
-        flag: false,
-        size: 0,
-        extra: 0,
-        parts: Parts::new(Vec::new(alloc)),
-    };
-    let targets = Refs::new(Vec::from_slice(alloc, &[Ref::Node(target)])?);
-    Ok(CType { label, targets })
-}
-
 /// Two pointers to themselves.
-fn pointers(alloc: Global) -> Result<Graph<'static>, AllocError>
-    ensures { IfOk result (λ g. length g.nodes ≡ 2) }
-{
-    let mut nodes = Vec::new(alloc);
-    nodes.push(pointer(alloc, 0)?)?;
-    nodes.push(pointer(alloc, 1)?)?;
-    Ok(Graph::new(0, Nodes::new(nodes)))
-}
+const POINTERS: &[Row] = &[(2, b"", 0, &[], &[1]), (2, b"", 0, &[], &[2])];
 
 /// The numbers of both nodes' keys where each label is a class.
 fn numbers_of<L: Ledger>(
@@ -57,9 +36,13 @@ fn numbers_of<L: Ledger>(
 }
 
 #[test]
-fn pointers_to_themselves_have_one_key(rt: HostRuntime) {
-    let alloc = rt.alloc();
-    let graph = pointers(alloc).expect(&rt, "memory");
-    let numbers = numbers_of::<Brand>(alloc, &graph, Blank::new(1)).expect(&rt, "memory");
+fn pointers_to_themselves_have_one_key(rt: HostRuntime) -> Result<(), Fail> {
+    let bytes = btf(rt.alloc(), POINTERS)?;
+    let graph = graph_of(rt.alloc(), 0, &bytes)?;
+    if graph.len() != 2 {
+        return Err(Fail::from("other nodes"));
+    }
+    let numbers = numbers_of::<Brand>(rt.alloc(), &graph, Blank::new(1))?;
     assert_eq!(rt; numbers, (0, 0));
+    Ok(())
 }

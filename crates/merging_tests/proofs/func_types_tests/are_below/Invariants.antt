@@ -1,6 +1,0 @@
-use Rattle.std.proofs.Common.{◌<◌, take, All}
-use Rattle.func_types.specs.declared.protos.Func.{Func}
-use Rattle.merging_tests.proofs.func_types_tests.are_below.Given as goal
-
-abbrev pub invariant-loop-func : goal.invariant-loop-func
-invariant-loop-func l = All (λ (f : Func). f.proto < l.limit) (take l.func-index l.funcs)
