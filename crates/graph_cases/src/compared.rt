@@ -1,10 +1,7 @@
 //! A table decided by both programs.
-use crate::fault::Fault;
-use crate::merged::{Found, merged};
 use crate::plain::{Relation, View, opened};
-use crate::rows::{Table, types_of};
+use crate::rows::Table;
 use std::alloc::{AllocError, Global};
-use std::thread::Threads;
 
 /// Whether numbers are equal exactly where a relation relates their places.
 fn is_relation(numbers: &[u32], relation: &Relation) -> bool {
@@ -39,7 +36,7 @@ pub fn class_count(alloc: Global, numbers: &[u32]) -> Result<usize, AllocError> 
 }
 
 /// What occurs in tables.
-#[derive(Clone, Copy, Debug, Default)]
+#[derive(Clone, Copy, Default)]
 pub struct Tally {
     /// Pairs of different types that are related.
     pub pairs: u64,
@@ -71,33 +68,45 @@ impl Tally {
             _ => count(&mut self.apart),
         }
     }
-}
 
-/// The graph and its classes that the proved program finds, and whether the plain one finds the
-/// same relation.
-pub fn decided<R: Threads + Sync>(
-    rt: &R,
-    alloc: Global,
-    table: &Table,
-    tally: &mut Tally,
-) -> Result<(Found<'static>, bool), Fault> {
-    let base = table.rows.get(..table.base).ok_or(Fault::Unfit)?;
-    let own = table.rows.get(table.base..).ok_or(Fault::Unfit)?;
-    let found = merged(rt, alloc, types_of(alloc, base)?, types_of(alloc, own)?)?;
-    let numbers = found.refined.classes.numbers();
-    let view = opened(alloc, table)?;
-    let relation = view.coarsest(alloc)?;
-    let same = numbers.len() == table.rows.len() && is_relation(numbers, &relation);
-    for x in 0..table.rows.len() {
+    /// Counts the pairs of a row and the rows before it.
+    fn take_pairs(&mut self, relation: &Relation, x: usize) {
         for y in 0..x {
             if relation.relates(x, y) {
-                count(&mut tally.pairs);
+                count(&mut self.pairs);
             }
         }
+    }
+
+    /// Counts a row, where it is a forward.
+    fn take_row(
+        &mut self,
+        alloc: Global,
+        view: &View<'_>,
+        relation: &Relation,
+        x: usize,
+    ) -> Result<(), AllocError> {
         if view.forward(x).is_some() {
             let defined = !view.definitions_of(alloc, x)?.is_empty();
-            tally.take_forward(&view, &relation, x, defined);
+            self.take_forward(view, relation, x, defined);
         }
+        Ok(())
     }
-    Ok((found, same))
+}
+
+/// Whether the plain program finds the relation of these numbers for a table. Counts what occurs in
+/// it.
+pub fn agrees(
+    alloc: Global,
+    table: &Table,
+    numbers: &[u32],
+    tally: &mut Tally,
+) -> Result<bool, AllocError> {
+    let view = opened(alloc, table)?;
+    let relation = view.coarsest(alloc)?;
+    for x in 0..table.rows.len() {
+        tally.take_pairs(&relation, x);
+        tally.take_row(alloc, &view, &relation, x)?;
+    }
+    Ok(numbers.len() == table.rows.len() && is_relation(numbers, &relation))
 }

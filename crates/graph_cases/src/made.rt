@@ -1,7 +1,7 @@
 //! Made graphs: rows are drawn, and mostly repeated with their references moved, so that equal
 //! types and cycles occur. Definitions are now and then replaced by declarations.
 use crate::rows::{
-    ENUM, ENUM64, FWD, Head, INT, PTR, Piece, Row, STRUCT, TYPEDEF, Table, UNION, bare, parted,
+    ENUM, ENUM64, FWD, Head, INT, PTR, Piece, Row, STRUCT, TYPEDEF, Table, UNION, bare,
 };
 use c_model::Ref;
 use std::alloc::{AllocError, Global};
@@ -60,21 +60,91 @@ fn drawn_name(draws: &mut Draws) -> &'static [u8] {
     }
 }
 
-/// What a drawn type says of itself.
+/// A type without parts, of no name.
+const PLAIN: Head = Head {
+    kind: PTR,
+    name: b"",
+    flag: false,
+    size: 0,
+    extra: 0,
+    pieces: &[],
+};
+
+/// A structure of one member.
+const SINGLE: Head = Head {
+    kind: STRUCT,
+    size: 16,
+    pieces: ONE,
+    ..PLAIN
+};
+
+/// A declared structure.
+const FORWARD: Head = Head { kind: FWD, ..PLAIN };
+
+/// What drawn types say of themselves, apart from their names.
+const DRAWN: &[Head] = &[
+    PLAIN,
+    PLAIN,
+    PLAIN,
+    PLAIN,
+    SINGLE,
+    SINGLE,
+    SINGLE,
+    Head {
+        pieces: TWO,
+        ..SINGLE
+    },
+    Head {
+        pieces: &[],
+        ..SINGLE
+    },
+    Head {
+        kind: UNION,
+        ..SINGLE
+    },
+    Head {
+        kind: ENUM,
+        size: 4,
+        ..SINGLE
+    },
+    Head {
+        kind: ENUM64,
+        size: 8,
+        pieces: TWO,
+        ..SINGLE
+    },
+    Head {
+        kind: INT,
+        size: 4,
+        ..PLAIN
+    },
+    Head {
+        kind: TYPEDEF,
+        ..PLAIN
+    },
+    Head {
+        kind: ENUM,
+        size: 4,
+        ..PLAIN
+    },
+];
+
+/// What the drawn type of a number says of itself, apart from its name.
+fn numbered_head(number: u64) -> Head {
+    match DRAWN.get(number as usize) {
+        Some(head) => *head,
+        None => FORWARD,
+    }
+}
+
+/// What a drawn type says of itself. A pointer has no name.
 fn drawn_head(draws: &mut Draws) -> Head {
     let name = drawn_name(draws);
-    match draws.below(16) {
-        0..4 => bare(PTR, b"", 0),
-        4..7 => parted(STRUCT, name, 16, ONE),
-        7 => parted(STRUCT, name, 16, TWO),
-        8 => bare(STRUCT, name, 16),
-        9 => parted(UNION, name, 16, ONE),
-        10 => parted(ENUM, name, 4, ONE),
-        11 => parted(ENUM64, name, 8, TWO),
-        12 => bare(INT, name, 4),
-        13 => bare(TYPEDEF, name, 0),
-        14 => bare(ENUM, name, 4),
-        _ => bare(FWD, name, 0),
+    let head = numbered_head(draws.below(16));
+    if head.kind == PTR {
+        head
+    } else {
+        Head { name, ..head }
     }
 }
 
@@ -100,6 +170,28 @@ fn target_count(head: &Head) -> usize {
     }
 }
 
+/// What a row says of itself: mostly what its pattern says.
+fn made_head(draws: &mut Draws, pattern: &Pattern) -> Head {
+    match draws.below(8) {
+        0 | 1 => declaration_of(pattern.head),
+        2 => drawn_head(draws),
+        _ => pattern.head,
+    }
+}
+
+/// What a row at a place refers to: mostly the row so many steps behind it.
+fn made_target(draws: &mut Draws, place: u64, step: u64, limit: u64) -> Ref {
+    let far = match draws.below(12) {
+        0 => draws.below(limit),
+        _ => place.saturating_add(step),
+    };
+    let target = far.checked_rem(limit).unwrap_or(0);
+    match u32::try_from(target) {
+        Ok(x) if draws.below(20) != 0 => Ref::Node(x),
+        _ => Ref::Void,
+    }
+}
+
 /// A row at a place of a table, which refers to rows below `limit`.
 fn made_row(
     alloc: Global,
@@ -108,42 +200,61 @@ fn made_row(
     place: u64,
     limit: u64,
 ) -> Result<Row, AllocError> {
-    let head = match draws.below(8) {
-        0 | 1 => declaration_of(pattern.head),
-        2 => drawn_head(draws),
-        _ => pattern.head,
-    };
+    let head = made_head(draws, pattern);
     let mut targets = Vec::new(alloc);
     for step in pattern.steps.iter().take(target_count(&head)) {
-        let far = match draws.below(12) {
-            0 => draws.below(limit),
-            _ => place.saturating_add(*step),
-        };
-        let target = far.checked_rem(limit).unwrap_or(0);
-        targets.push(match u32::try_from(target) {
-            Ok(x) if draws.below(20) != 0 => Ref::Node(x),
-            _ => Ref::Void,
-        })?;
+        targets.push(made_target(draws, place, *step, limit))?;
     }
     Ok(Row { head, targets })
+}
+
+/// A drawn pattern.
+fn made_pattern(draws: &mut Draws) -> Pattern {
+    Pattern {
+        head: drawn_head(draws),
+        steps: [draws.below(5), draws.below(5)],
+    }
+}
+
+/// Two to four patterns.
+fn made_patterns(alloc: Global, draws: &mut Draws) -> Result<Vec<Pattern>, AllocError> {
+    let mut patterns = Vec::new(alloc);
+    for _ in 0..draws.below(3).saturating_add(2) {
+        patterns.push(made_pattern(draws))?;
+    }
+    Ok(patterns)
+}
+
+/// The pattern of the row at a place: each in turn.
+fn pattern_at(patterns: &[Pattern], place: u64) -> Option<&Pattern> {
+    let turn = place.checked_rem(patterns.len() as u64)?;
+    patterns.get(turn as usize)
+}
+
+/// So many rows, the first `base` of which refer to one another alone.
+fn made_rows(
+    alloc: Global,
+    draws: &mut Draws,
+    patterns: &[Pattern],
+    base: u64,
+    count: u64,
+) -> Result<Vec<Row>, AllocError> {
+    let mut rows = Vec::new(alloc);
+    for place in 0..count {
+        let limit = if place < base { base } else { count };
+        if let Some(pattern) = pattern_at(patterns, place) {
+            rows.push(made_row(alloc, draws, pattern, place, limit)?)?;
+        }
+    }
+    Ok(rows)
 }
 
 /// A table of 3 to 12 rows, none to four of them of a base.
 pub fn made_table(alloc: Global, draws: &mut Draws) -> Result<Table, AllocError> {
     let count = draws.below(10).saturating_add(3);
     let base = draws.below(5).min(count);
-    let mut patterns = Vec::new(alloc);
-    for _ in 0..draws.below(3).saturating_add(2) {
-        patterns.push(Pattern {
-            head: drawn_head(draws),
-            steps: [draws.below(5), draws.below(5)],
-        })?;
-    }
-    let mut rows = Vec::new(alloc);
-    for (place, pattern) in (0..count).zip(patterns.iter().cycle()) {
-        let limit = if place < base { base } else { count };
-        rows.push(made_row(alloc, draws, pattern, place, limit)?)?;
-    }
+    let patterns = made_patterns(alloc, draws)?;
+    let rows = made_rows(alloc, draws, &patterns, base, count)?;
     let base = usize::try_from(base).unwrap_or(0);
     Ok(Table { base, rows })
 }

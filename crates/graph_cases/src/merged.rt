@@ -8,6 +8,7 @@ ghost use Rattle.c_model.specs.Forwards.{IsIndexOf, HasFittingForwards};
 use crate::compared::is_one_relation;
 use crate::fault::Fault;
 use crate::fitting::{graph_from, is_fitting};
+use crate::rows::{Table, types_of};
 use c_model::laws::nothing_open_is_plain;
 use c_model::{CType, Classes, Graph};
 use class_halves::{classes_by_halves, split_by_halves};
@@ -54,16 +55,41 @@ fn followed_by<'a>(types: Vec<CType<'a>>, own: Vec<CType<'a>>) -> Result<Vec<CTy
     Ok(nodes)
 }
 
+/// The graph of these types, the first `base` of them those of a base, where its forwards fit.
+fn fitting_graph<'a>(base: u32, nodes: Vec<CType<'a>>) -> Result<Graph<'a>, Fault>
+    ensures base { IfOk result (λ g. g.base ≡ base) }
+    ensures nodes { IfOk result (λ g. g.nodes ≡ nodes.entry.items) }
+    ensures fitting { IfOk result (λ g. HasFittingForwards g) }
+{
+    let Some(graph) = graph_from(base, nodes) else {
+        return Err(Fault::Unfit);
+    };
+    if !is_fitting(&graph) {
+        return Err(Fault::Unfit);
+    }
+    Ok(graph)
+}
+
+/// The graph of a base alone.
+fn base_graph<'a>(types: Vec<CType<'a>>) -> Result<Graph<'a>, Fault>
+    ensures { IfOk result (λ g. HasFittingForwards g) }
+{
+    let Ok(count) = u32::try_from(types.len()) else {
+        return Err(Fault::Unfit);
+    };
+    let graph = fitting_graph(count, types)?;
+    Ok(graph)
+}
+
 /// The graph of a base and of types behind it.
 fn joined<'a>(alone: Graph<'a>, own: Vec<CType<'a>>) -> Result<Graph<'a>, Fault>
-    ensures { IfOk result (λ g. take g.base g.nodes ≡ alone.entry.nodes) }
+    ensures base { IfOk result (λ g. take g.base g.nodes ≡ alone.entry.nodes) }
+    ensures fitting { IfOk result (λ g. HasFittingForwards g) }
 {
     let base = alone.len();
     let nodes = followed_by(alone.into_nodes().into_items(), own)?;
-    match graph_from(base, nodes) {
-        Some(graph) => Ok(graph),
-        None => Err(Fault::Unfit),
-    }
+    let graph = fitting_graph(base, nodes)?;
+    Ok(graph)
 }
 
 /// How many nodes a graph has at most whose classes are compared pair by pair.
@@ -108,9 +134,6 @@ fn others_agree<R: Threads + Sync, L: Ledger>(
     ensures cost { OnOk result ((d : ℕ) → length graph.now.nodes < 2 ^ d
         → steps.new ≤ steps.old + 2 * (2 * (references graph.now.nodes * d))) }
 {
-    if graph.len() > COMPARED_AT_MOST {
-        return Ok(true);
-    }
     let kept_once = packed(alloc, graph)?;
     let split = split_by_halves(alloc, &kept_once, forwards, steps)?;
     let halves = classes_by_halves(rt, alloc, 2, &kept_once, forwards, steps)?;
@@ -118,6 +141,59 @@ fn others_agree<R: Threads + Sync, L: Ledger>(
         is_one_relation(split.numbers(), wanted.numbers())
             && is_one_relation(halves.numbers(), wanted.numbers()),
     )
+}
+
+/// Whether all ways find the same classes of a graph that is not too large for them.
+fn all_agree<R: Threads + Sync, L: Ledger>(
+    rt: &R,
+    alloc: Global,
+    graph: &Graph<'_>,
+    forwards: &FwdIndex,
+    wanted: &Classes,
+    steps: &mut Steps<L>,
+) -> Result<bool, AllocError>
+    requires index { IsIndexOf graph.now forwards.now }
+    requires fitting { HasFittingForwards graph.now }
+{
+    if graph.len() <= COMPARED_AT_MOST {
+        return others_agree(rt, alloc, graph, forwards, wanted, steps);
+    }
+    if graph.len() <= SHARED_AT_MOST {
+        return workers_agree(rt, alloc, graph, forwards, wanted, steps);
+    }
+    Ok(true)
+}
+
+/// The coarsest partition of a graph, where `kept` is that of its base alone.
+fn classes_over<R: Threads + Sync, L: Ledger>(
+    rt: &R,
+    alloc: Global,
+    graph: &Graph<'_>,
+    kept: &Classes,
+    steps: &mut Steps<L>,
+) -> Result<Refined, Fault>
+    requires kept { IsCoarsest (take graph.now.base graph.now.nodes) kept.now }
+    requires fitting { HasFittingForwards graph.now }
+{
+    let forwards = FwdIndex::build(alloc, graph, kept)?;
+    let refined = classes(rt, alloc, graph, &forwards, steps)?;
+    if !all_agree(rt, alloc, graph, &forwards, &refined.classes, steps)? {
+        return Err(Fault::Differs);
+    }
+    Ok(refined)
+}
+
+/// The coarsest partition of a table's graph.
+pub fn merged_table<R: Threads + Sync>(
+    rt: &R,
+    alloc: Global,
+    table: &Table,
+) -> Result<Found<'static>, Fault> {
+    let Some((base, own)) = table.rows.as_slice().split_at_checked(table.base) else {
+        return Err(Fault::Unfit);
+    };
+    let base = types_of(alloc, base)?;
+    merged(rt, alloc, base, types_of(alloc, own)?)
 }
 
 /// The coarsest partition of a base and of types behind it.
@@ -143,30 +219,9 @@ fn merged_over<'a, R: Threads + Sync, L: Ledger>(
     requires some { 0 < L.parts }
 {
     let mut steps = Steps::<L>::new(blank);
-    let Ok(count) = u32::try_from(base.len()) else {
-        return Err(Fault::Unfit);
-    };
-    let Some(alone) = graph_from(count, base) else {
-        return Err(Fault::Unfit);
-    };
-    if !is_fitting(&alone) {
-        return Err(Fault::Unfit);
-    }
+    let alone = base_graph(base)?;
     let kept = plain_classes(rt, alloc, &alone, &mut steps)?;
     let graph = joined(alone, own)?;
-    if !is_fitting(&graph) {
-        return Err(Fault::Unfit);
-    }
-    let forwards = FwdIndex::build(alloc, &graph, &kept)?;
-    let refined = classes(rt, alloc, &graph, &forwards, &mut steps)?;
-    if !others_agree(rt, alloc, &graph, &forwards, &refined.classes, &mut steps)? {
-        return Err(Fault::Differs);
-    }
-    if graph.len() > COMPARED_AT_MOST
-        && graph.len() <= SHARED_AT_MOST
-        && !workers_agree(rt, alloc, &graph, &forwards, &refined.classes, &mut steps)?
-    {
-        return Err(Fault::Differs);
-    }
+    let refined = classes_over(rt, alloc, &graph, &kept, &mut steps)?;
     Ok(Found { graph, refined })
 }

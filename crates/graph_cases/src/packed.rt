@@ -47,25 +47,6 @@ const REGROUPED: &[Piece] = &[
     },
 ];
 
-/// What a type says of itself, word by word.
-fn head(
-    kind: u8,
-    name: &'static [u8],
-    flag: bool,
-    size: u32,
-    extra: u32,
-    pieces: &'static [Piece],
-) -> Head {
-    Head {
-        kind,
-        name,
-        flag,
-        size,
-        extra,
-        pieces,
-    }
-}
-
 /// A name whose second eight bytes are the multiplier of std's hash: the eight before them make no
 /// difference to it.
 const HIDDEN: &[u8] = b"the_name\x15\x7c\x4a\x7f\xb9\x79\x37\x9e_of_both";
@@ -73,41 +54,82 @@ const HIDDEN: &[u8] = b"the_name\x15\x7c\x4a\x7f\xb9\x79\x37\x9e_of_both";
 /// Another name of the same hash.
 const HIDDEN_TOO: &[u8] = b"an_other\x15\x7c\x4a\x7f\xb9\x79\x37\x9e_of_both";
 
+/// A structure of two members.
+const S: Head = Head {
+    kind: STRUCT,
+    name: b"s",
+    flag: false,
+    size: 8,
+    extra: 0,
+    pieces: PAIR,
+};
+
 /// A structure of two members, and labels that each differ from one before in one thing.
-fn labels() -> [Head; 14] {
-    [
-        head(STRUCT, b"s", false, 8, 0, PAIR),
-        head(UNION, b"s", false, 8, 0, PAIR),
-        head(STRUCT, b"t", false, 8, 0, PAIR),
-        head(STRUCT, b"s", true, 8, 0, PAIR),
-        head(STRUCT, b"s", false, 4, 0, PAIR),
-        head(STRUCT, b"s", false, 8, 1, PAIR),
-        head(STRUCT, b"s", false, 8, 0, RENAMED),
-        head(STRUCT, b"s", false, 8, 0, MOVED),
-        head(STRUCT, b"s", false, 8, 0, REGROUPED),
-        head(STRUCT, b"s", false, 8, 0, &[B, A]),
-        head(STRUCT, b"s", false, 8, 0, &[A]),
-        head(STRUCT, b"s", false, 8, 0, &[A, B, B]),
-        head(STRUCT, HIDDEN, false, 8, 0, PAIR),
-        head(STRUCT, HIDDEN_TOO, false, 8, 0, PAIR),
-    ]
+const LABELS: &[Head] = &[
+    S,
+    Head { kind: UNION, ..S },
+    Head { name: b"t", ..S },
+    Head { flag: true, ..S },
+    Head { size: 4, ..S },
+    Head { extra: 1, ..S },
+    Head {
+        pieces: RENAMED,
+        ..S
+    },
+    Head { pieces: MOVED, ..S },
+    Head {
+        pieces: REGROUPED,
+        ..S
+    },
+    Head {
+        pieces: &[B, A],
+        ..S
+    },
+    Head { pieces: &[A], ..S },
+    Head {
+        pieces: &[A, B, B],
+        ..S
+    },
+    Head { name: HIDDEN, ..S },
+    Head {
+        name: HIDDEN_TOO,
+        ..S
+    },
+];
+
+/// Appends these labels to a list, as types that refer to nothing.
+fn push_labels(
+    alloc: Global,
+    nodes: &mut PackedNodes<'static>,
+    labels: &[Head],
+) -> Result<(), AllocError> {
+    for head in labels {
+        nodes.push(label_of(alloc, head)?, &[])?;
+    }
+    Ok(())
+}
+
+/// Whether numbers count up from 0 to below `count` again and again.
+fn count_up(numbers: &[u32], count: usize) -> bool {
+    let mut wanted = 0usize;
+    for number in numbers {
+        if *number as usize != wanted {
+            return false;
+        }
+        let next = wanted.saturating_add(1);
+        wanted = if next < count { next } else { 0 };
+    }
+    true
 }
 
 /// Whether labels that differ in one thing are told apart, and are known again: all are listed
 /// twice.
 pub fn labels_are_told(alloc: Global) -> Result<bool, AllocError> {
-    let labels = labels();
     let mut nodes = PackedNodes::new(alloc)?;
-    for number in 0..2 * labels.len() {
-        let head = labels[number % labels.len()];
-        nodes.push(label_of(alloc, &head)?, &[])?;
-    }
-    for (place, number) in nodes.numbers().iter().enumerate() {
-        if *number as usize != place % labels.len() {
-            return Ok(false);
-        }
-    }
-    Ok(true)
+    push_labels(alloc, &mut nodes, LABELS)?;
+    push_labels(alloc, &mut nodes, LABELS)?;
+    let count = LABELS.len();
+    Ok(nodes.len() == count.saturating_mul(2) && count_up(nodes.numbers(), count))
 }
 
 /// A reference to the first type of a list.
@@ -123,7 +145,11 @@ fn push_pair(
     nodes: &mut PackedNodes<'static>,
     name: &'static [u8],
 ) -> Result<(), AllocError> {
-    let head = head(STRUCT, name, false, 8, 0, &[A]);
+    let head = Head {
+        name,
+        pieces: &[A],
+        ..S
+    };
     nodes.push(label_of(alloc, &head)?, TO_LAST)?;
     nodes.push(label_of(alloc, &head)?, TO_FIRST)?;
     Ok(())
@@ -145,19 +171,29 @@ fn refer_to(nodes: &PackedNodes<'_>, wanted: &[u32]) -> bool {
     nodes.len() == wanted.len()
 }
 
-/// Whether lists that follow one another are one list, with the references moved: lists of two
-/// types with empty ones before, between and behind them.
+/// Puts two types of a name into an empty list, or nothing where there is no name.
+fn push_list(
+    alloc: Global,
+    nodes: &mut PackedNodes<'static>,
+    name: Option<&'static [u8]>,
+) -> Result<(), AllocError> {
+    match name {
+        Some(name) => push_pair(alloc, nodes, name),
+        None => Ok(()),
+    }
+}
+
+/// The names of the types of lists that follow one another: of two types each, with empty ones
+/// before, between and behind them.
+const LISTS: [Option<&[u8]>; 5] = [None, Some(b"first"), None, Some(b"second"), None];
+
+/// Whether lists that follow one another are one list, with the references moved.
 pub fn lists_follow(alloc: Global) -> Result<bool, AllocError> {
-    let none = PackedNodes::new(alloc)?;
-    let mut first = PackedNodes::new(alloc)?;
-    push_pair(alloc, &mut first, b"first")?;
-    let mut second = PackedNodes::new(alloc)?;
-    push_pair(alloc, &mut second, b"second")?;
-    let all = PackedNodes::new(alloc)?
-        .followed_by(alloc, &none)?
-        .followed_by(alloc, &first)?
-        .followed_by(alloc, &none)?
-        .followed_by(alloc, &second)?
-        .followed_by(alloc, &none)?;
+    let mut all = PackedNodes::new(alloc)?;
+    for name in &LISTS {
+        let mut next = PackedNodes::new(alloc)?;
+        push_list(alloc, &mut next, *name)?;
+        all = all.followed_by(alloc, &next)?;
+    }
     Ok(refer_to(&all, &[1, 0, 3, 2]) && all.numbers() == [0, 0, 1, 1].as_slice())
 }

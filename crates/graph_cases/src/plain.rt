@@ -1,7 +1,7 @@
 //! The coarsest agreeing partition of a small graph, straight from its definition: all pairs are
 //! related at first, and a pair that has no licence is taken away, until none is. It works on the
 //! rows of a table alone.
-use crate::rows::{ENUM, ENUM64, FWD, Head, Row, STRUCT, Table, UNION};
+use crate::rows::{ENUM, ENUM64, FWD, Head, Piece, Row, STRUCT, Table, UNION};
 use c_model::Ref;
 use std::alloc::{AllocError, Global};
 
@@ -40,7 +40,7 @@ impl Relation {
 }
 
 /// What sort of type a tag names.
-#[derive(Clone, Copy, Debug, PartialEq, Eq)]
+#[derive(Clone, Copy, PartialEq, Eq)]
 pub enum Sort {
     Structure,
     Union,
@@ -76,6 +76,16 @@ fn defines(head: &Head) -> Option<Sort> {
     None
 }
 
+/// Whether these parts are the same.
+fn are_same_pieces(these: &[Piece], those: &[Piece]) -> bool {
+    for (p, q) in these.iter().zip(those) {
+        if p.name != q.name || p.value != q.value {
+            return false;
+        }
+    }
+    these.len() == those.len()
+}
+
 /// Whether two types say the same of themselves.
 fn is_same_head(a: &Head, b: &Head) -> bool {
     a.kind == b.kind
@@ -83,11 +93,46 @@ fn is_same_head(a: &Head, b: &Head) -> bool {
         && a.flag == b.flag
         && a.size == b.size
         && a.extra == b.extra
-        && a.pieces.len() == b.pieces.len()
-        && a.pieces
-            .iter()
-            .zip(b.pieces)
-            .all(|(p, q)| p.name == q.name && p.value == q.value)
+        && are_same_pieces(a.pieces, b.pieces)
+}
+
+/// Whether two references are both void, or to related rows.
+fn is_related(relation: &Relation, s: Ref, t: Ref) -> bool {
+    match (s, t) {
+        (Ref::Void, Ref::Void) => true,
+        (Ref::Node(v), Ref::Node(w)) => relation.relates(v as usize, w as usize),
+        _ => false,
+    }
+}
+
+/// Whether these references are all void, or to related rows, at the same places.
+fn are_related(relation: &Relation, these: &[Ref], those: &[Ref]) -> bool {
+    for (s, t) in these.iter().zip(those) {
+        if !is_related(relation, *s, *t) {
+            return false;
+        }
+    }
+    these.len() == those.len()
+}
+
+/// Whether a row is related to all of these rows that are below `limit`.
+fn relates_to_all(relation: &Relation, x: usize, rows: &[usize], limit: usize) -> bool {
+    for y in rows {
+        if *y < limit && !relation.relates(x, *y) {
+            return false;
+        }
+    }
+    true
+}
+
+/// Whether all of these rows that are below `limit` are related.
+fn are_one_below(relation: &Relation, rows: &[usize], limit: usize) -> bool {
+    for x in rows {
+        if *x < limit && !relates_to_all(relation, *x, rows, limit) {
+            return false;
+        }
+    }
+    true
 }
 
 /// The rows of a table, and of each row that is an open forward its definitions.
@@ -122,13 +167,7 @@ impl View<'_> {
         let (Some(a), Some(b)) = (self.rows.get(x), self.rows.get(y)) else {
             return false;
         };
-        is_same_head(&a.head, &b.head)
-            && a.targets.len() == b.targets.len()
-            && a.targets.iter().zip(&b.targets).all(|(s, t)| match (s, t) {
-                (Ref::Void, Ref::Void) => true,
-                (Ref::Node(v), Ref::Node(w)) => relation.relates(*v as usize, *w as usize),
-                _ => false,
-            })
+        is_same_head(&a.head, &b.head) && are_related(relation, &a.targets, &b.targets)
     }
 
     /// The definitions of a row; none where it is no open forward.
@@ -141,8 +180,7 @@ impl View<'_> {
 
     /// Whether these rows are all related.
     pub fn are_one(relation: &Relation, rows: &[usize]) -> bool {
-        rows.iter()
-            .all(|d| rows.iter().all(|e| relation.relates(*d, *e)))
+        are_one_below(relation, rows, usize::MAX)
     }
 
     /// Whether `x` is an open forward, `d` one of its definitions, and these are of one class.
@@ -208,33 +246,44 @@ impl View<'_> {
         Ok(found)
     }
 
-    /// Whether all of these rows that are of the base are related there.
-    fn is_one_in_base(&self, kept: &Relation, rows: &[usize]) -> bool {
-        rows.iter().all(|d| {
-            rows.iter().all(|e| *d >= self.base || *e >= self.base || kept.relates(*d, *e))
-        })
+    /// The definitions of a row that is an open forward, none of another: a forward is open where
+    /// all of its definitions that are of the base are related there.
+    fn definitions_opened(
+        &self,
+        alloc: Global,
+        kept: &Relation,
+        x: usize,
+    ) -> Result<Vec<usize>, AllocError> {
+        let found = self.definitions_of(alloc, x)?;
+        if are_one_below(kept, &found, self.base) {
+            Ok(found)
+        } else {
+            Ok(Vec::new(alloc))
+        }
     }
+}
+
+/// The greatest relation of the rows of a table's base alone each pair of which has a licence.
+fn kept_of(alloc: Global, table: &Table) -> Result<Relation, AllocError> {
+    let alone = View {
+        rows: table.rows.get(..table.base).unwrap_or(&[]),
+        base: table.base,
+        definitions: Vec::new(alloc),
+    };
+    alone.coarsest(alloc)
 }
 
 /// A table with its open forwards.
 pub fn opened<'t>(alloc: Global, table: &'t Table) -> Result<View<'t>, AllocError> {
-    let base = table.base;
-    let alone = View {
-        rows: table.rows.get(..base).unwrap_or(&[]),
-        base,
-        definitions: Vec::new(alloc),
-    };
-    let kept = alone.coarsest(alloc)?;
+    let kept = kept_of(alloc, table)?;
     let mut view = View {
         rows: table.rows.as_slice(),
-        base,
+        base: table.base,
         definitions: Vec::new(alloc),
     };
     for x in 0..table.rows.len() {
-        let found = view.definitions_of(alloc, x)?;
-        let opens = view.is_one_in_base(&kept, &found);
-        view.definitions
-            .push(if opens { found } else { Vec::new(alloc) })?;
+        let found = view.definitions_opened(alloc, &kept, x)?;
+        view.definitions.push(found)?;
     }
     Ok(view)
 }

@@ -56,14 +56,7 @@ pub struct Table {
 
 /// What a type without parts says of itself.
 pub fn bare(kind: u8, name: &'static [u8], size: u32) -> Head {
-    Head {
-        kind,
-        name,
-        flag: false,
-        size,
-        extra: 0,
-        pieces: &[],
-    }
+    parted(kind, name, size, &[])
 }
 
 /// What a type with these parts says of itself.
@@ -78,22 +71,37 @@ pub fn parted(kind: u8, name: &'static [u8], size: u32, pieces: &'static [Piece]
     }
 }
 
-/// The label of a row.
-pub fn label_of(alloc: Global, head: &Head) -> Result<Label<'static>, AllocError> {
+/// The parts of a label.
+fn parts_of(alloc: Global, pieces: &'static [Piece]) -> Result<Parts<'static>, AllocError> {
     let mut parts = Vec::new(alloc);
-    for piece in head.pieces {
+    for piece in pieces {
         parts.push(Part {
             name: Name::new(piece.name),
             value: piece.value,
         })?;
     }
+    Ok(Parts::new(parts))
+}
+
+/// The label of a row.
+pub fn label_of(alloc: Global, head: &Head) -> Result<Label<'static>, AllocError> {
+    let parts = parts_of(alloc, head.pieces)?;
     Ok(Label {
         kind: head.kind,
         name: Name::new(head.name),
         flag: head.flag,
         size: head.size,
         extra: head.extra,
-        parts: Parts::new(parts),
+        parts,
+    })
+}
+
+/// The type of a row.
+fn type_of(alloc: Global, row: &Row) -> Result<CType<'static>, AllocError> {
+    let targets = Vec::from_slice(alloc, row.targets.as_slice())?;
+    Ok(CType {
+        label: label_of(alloc, &row.head)?,
+        targets: Refs::new(targets),
     })
 }
 
@@ -101,10 +109,19 @@ pub fn label_of(alloc: Global, head: &Head) -> Result<Label<'static>, AllocError
 pub fn types_of(alloc: Global, rows: &[Row]) -> Result<Vec<CType<'static>>, AllocError> {
     let mut types = Vec::new(alloc);
     for row in rows {
-        types.push(CType {
-            label: label_of(alloc, &row.head)?,
-            targets: Refs::new(Vec::from_slice(alloc, row.targets.as_slice())?),
-        })?;
+        types.push(type_of(alloc, row)?)?;
     }
     Ok(types)
+}
+
+/// Appends a row.
+pub fn push_row(
+    alloc: Global,
+    rows: &mut Vec<Row>,
+    head: Head,
+    targets: &[Ref],
+) -> Result<(), AllocError> {
+    let targets = Vec::from_slice(alloc, targets)?;
+    rows.push(Row { head, targets })?;
+    Ok(())
 }

@@ -1,6 +1,6 @@
 //! Graphs in shapes that are hard to split: rings, chains and trees, references of one node at many
 //! positions, and declarations whose definitions part late.
-use crate::rows::{FWD, PTR, Piece, Row, STRUCT, Table, bare, parted};
+use crate::rows::{FWD, PTR, Piece, Row, STRUCT, Table, bare, parted, push_row};
 use c_model::Ref;
 use std::alloc::{AllocError, Global};
 
@@ -199,12 +199,35 @@ fn push_word(alloc: Global, rows: &mut Vec<Row>, word: &str, end: u32) -> Result
         left = left.saturating_sub(1);
         let next = next_row(rows).saturating_add(1);
         let target = if left == 0 { end } else { next };
-        rows.push(Row {
-            head: parted(STRUCT, b"w", u32::from(letter), ONE),
-            targets: vec![in alloc; reference(target)]?,
-        })?;
+        let head = parted(STRUCT, b"w", u32::from(letter), ONE);
+        push_row(alloc, rows, head, &[reference(target)])?;
     }
     Ok(())
+}
+
+/// Appends words, the last structure of each referring to the first where they are closed.
+fn push_words(
+    alloc: Global,
+    rows: &mut Vec<Row>,
+    words: &[&'static str],
+    closed: bool,
+) -> Result<(), AllocError> {
+    for word in words {
+        let end = if closed { next_row(rows) } else { NONE };
+        push_word(alloc, rows, word, end)?;
+    }
+    Ok(())
+}
+
+/// The first row of each of these words, which are the first rows.
+fn first_rows(alloc: Global, words: &[&'static str]) -> Result<Vec<u32>, AllocError> {
+    let mut firsts = Vec::new(alloc);
+    let mut next = 0u32;
+    for word in words {
+        firsts.push(next)?;
+        next = next.saturating_add(u32::try_from(word.len()).unwrap_or(NONE));
+    }
+    Ok(firsts)
 }
 
 /// Appends a declaration of a tag, a pointer to it, and its definitions, which refer to these rows.
@@ -214,65 +237,57 @@ fn push_tag(
     tag: &'static str,
     heads: &[u32],
 ) -> Result<(), AllocError> {
-    let declared = next_row(rows);
-    rows.push(Row {
-        head: bare(FWD, tag.as_bytes(), 0),
-        targets: Vec::new(alloc),
-    })?;
-    rows.push(Row {
-        head: bare(PTR, b"", 0),
-        targets: vec![in alloc; reference(declared)]?,
-    })?;
+    let declared = reference(next_row(rows));
+    push_row(alloc, rows, bare(FWD, tag.as_bytes(), 0), &[])?;
+    push_row(alloc, rows, bare(PTR, b"", 0), &[declared])?;
+    let definition = parted(STRUCT, tag.as_bytes(), 8, ONE);
     for head in heads {
-        rows.push(Row {
-            head: parted(STRUCT, tag.as_bytes(), 8, ONE),
-            targets: vec![in alloc; reference(*head)]?,
-        })?;
+        push_row(alloc, rows, definition, &[reference(*head)])?;
     }
     Ok(())
 }
 
-/// The rows of structures of two members.
-fn pair_rows(alloc: Global, pairs: &[(u32, [u32; 2])]) -> Result<Vec<Row>, AllocError> {
-    let mut rows = Vec::new(alloc);
-    for (size, [x, y]) in pairs {
-        rows.push(Row {
-            head: parted(STRUCT, b"p", *size, TWO),
-            targets: vec![in alloc; reference(*x), reference(*y)]?,
-        })?;
+/// Appends chains, and tags whose definitions refer to their first structures.
+fn push_tags(
+    alloc: Global,
+    rows: &mut Vec<Row>,
+    tags: &[&'static str],
+    ends: &[&'static str],
+) -> Result<(), AllocError> {
+    let heads = first_rows(alloc, ends)?;
+    push_words(alloc, rows, ends, false)?;
+    for tag in tags {
+        push_tag(alloc, rows, tag, &heads)?;
     }
-    Ok(rows)
+    Ok(())
 }
 
-/// The rows of words, and the first row of each.
-fn word_rows(
+/// Appends structures of two members.
+fn push_pairs(
     alloc: Global,
-    words: &[&'static str],
-    closed: bool,
-) -> Result<(Vec<Row>, Vec<u32>), AllocError> {
-    let mut rows = Vec::new(alloc);
-    let mut heads = Vec::new(alloc);
-    for word in words {
-        let head = next_row(&rows);
-        heads.push(head)?;
-        push_word(alloc, &mut rows, word, if closed { head } else { NONE })?;
+    rows: &mut Vec<Row>,
+    pairs: &[(u32, [u32; 2])],
+) -> Result<(), AllocError> {
+    for (size, [x, y]) in pairs {
+        let head = parted(STRUCT, b"p", *size, TWO);
+        push_row(alloc, rows, head, &[reference(*x), reference(*y)])?;
     }
-    Ok((rows, heads))
+    Ok(())
+}
+
+/// Appends the rows of a shape to no rows.
+fn push_shape(alloc: Global, rows: &mut Vec<Row>, shape: &Shape) -> Result<(), AllocError> {
+    match shape {
+        Shape::Rings(words) => push_words(alloc, rows, words, true),
+        Shape::Chains(words) => push_words(alloc, rows, words, false),
+        Shape::Pairs(pairs) => push_pairs(alloc, rows, pairs),
+        Shape::Tags { tags, ends } => push_tags(alloc, rows, tags, ends),
+    }
 }
 
 /// A graph of a shape.
 pub fn shaped(alloc: Global, shape: &Shape) -> Result<Table, AllocError> {
-    let rows = match shape {
-        Shape::Rings(words) => word_rows(alloc, words, true)?.0,
-        Shape::Chains(words) => word_rows(alloc, words, false)?.0,
-        Shape::Pairs(pairs) => pair_rows(alloc, pairs)?,
-        Shape::Tags { tags, ends } => {
-            let (mut rows, heads) = word_rows(alloc, ends, false)?;
-            for tag in *tags {
-                push_tag(alloc, &mut rows, tag, &heads)?;
-            }
-            rows
-        }
-    };
+    let mut rows = Vec::new(alloc);
+    push_shape(alloc, &mut rows, shape)?;
     Ok(Table { base: 0, rows })
 }

@@ -2,7 +2,7 @@
 use crate::compared::{class_count, is_one_relation};
 use crate::fault::Fault;
 use crate::merged::{Found, merged};
-use crate::rows::{FWD, INT, PTR, Piece, Row, STRUCT, bare, parted, types_of};
+use crate::rows::{FWD, INT, PTR, Piece, Row, STRUCT, bare, parted, push_row, types_of};
 use crate::tables::built;
 use c_model::{CType, Label, Parts, Ref, Refs};
 use dw_base::Name;
@@ -26,15 +26,9 @@ const NEXT: &[Piece] = &[Piece {
     value: 0,
 }];
 
-/// Whether a ring of so many pointers among equal structures has two classes.
-pub fn ring_has_two_classes<R: Threads + Sync>(
-    rt: &R,
-    alloc: Global,
-    pointers: u32,
-) -> Result<bool, Fault> {
-    let count = pointers.saturating_mul(2);
+/// The rows of a ring of pointers among equal structures.
+fn ring_rows(alloc: Global, count: u32) -> Result<Vec<Row>, AllocError> {
     let mut rows = Vec::new(alloc);
-    let mut want = Vec::new(alloc);
     for x in 0..count {
         let head = if x % 2 == 0 {
             parted(STRUCT, b"ring", 8, NEXT)
@@ -42,11 +36,39 @@ pub fn ring_has_two_classes<R: Threads + Sync>(
             bare(PTR, b"", 0)
         };
         let next = x.saturating_add(1) % count;
-        let targets = vec![in alloc; Ref::Node(next)]?;
-        rows.push(Row { head, targets })?;
-        want.push(x % 2)?;
+        push_row(alloc, &mut rows, head, &[Ref::Node(next)])?;
     }
-    let found = merged(rt, alloc, Vec::new(alloc), types_of(alloc, &rows)?)?;
+    Ok(rows)
+}
+
+/// The numbers from 0 on, of so many, by whether they are odd.
+fn parities(alloc: Global, count: u32) -> Result<Vec<u32>, AllocError> {
+    let mut parities = Vec::new(alloc);
+    for x in 0..count {
+        parities.push(x % 2)?;
+    }
+    Ok(parities)
+}
+
+/// The graph of these rows.
+fn merged_rows<R: Threads + Sync>(
+    rt: &R,
+    alloc: Global,
+    rows: &[Row],
+) -> Result<Found<'static>, Fault> {
+    merged(rt, alloc, Vec::new(alloc), types_of(alloc, rows)?)
+}
+
+/// Whether a ring of so many pointers among equal structures has two classes.
+pub fn ring_has_two_classes<R: Threads + Sync>(
+    rt: &R,
+    alloc: Global,
+    pointers: u32,
+) -> Result<bool, Fault> {
+    let count = pointers.saturating_mul(2);
+    let rows = ring_rows(alloc, count)?;
+    let found = merged_rows(rt, alloc, &rows)?;
+    let want = parities(alloc, count)?;
     Ok(is_one_relation(found.refined.classes.numbers(), &want))
 }
 
@@ -57,26 +79,26 @@ const DECLARED: u32 = 20;
 /// that, or behind the first few a pointer to the structure, as the one before; and an INT of a
 /// size of its own. They begin at number `x`.
 fn push_four(alloc: Global, rows: &mut Vec<Row>, x: u32) -> Result<(), AllocError> {
-    let declared = x < 4 * DECLARED;
-    let to = if declared { x.saturating_add(2) } else { x };
-    let heads = [
-        (parted(STRUCT, b"ring", 8, NEXT), Some(x.saturating_add(1))),
-        (bare(PTR, b"", 0), Some(to)),
-        if declared {
-            (bare(FWD, b"ring", 0), None)
-        } else {
-            (bare(PTR, b"", 0), Some(to))
-        },
-        (bare(INT, b"int", x), None),
-    ];
-    for (head, target) in heads {
-        let mut targets = Vec::new(alloc);
-        if let Some(node) = target {
-            targets.push(Ref::Node(node))?;
-        }
-        rows.push(Row { head, targets })?;
+    let structure = parted(STRUCT, b"ring", 8, NEXT);
+    push_row(alloc, rows, structure, &[Ref::Node(x.saturating_add(1))])?;
+    let pointer = bare(PTR, b"", 0);
+    if x < 4 * DECLARED {
+        push_row(alloc, rows, pointer, &[Ref::Node(x.saturating_add(2))])?;
+        push_row(alloc, rows, bare(FWD, b"ring", 0), &[])?;
+    } else {
+        push_row(alloc, rows, pointer, &[Ref::Node(x)])?;
+        push_row(alloc, rows, pointer, &[Ref::Node(x)])?;
     }
-    Ok(())
+    push_row(alloc, rows, bare(INT, b"int", x), &[])
+}
+
+/// So many times four rows.
+fn four_rows(alloc: Global, fours: u32) -> Result<Vec<Row>, AllocError> {
+    let mut rows = Vec::new(alloc);
+    for number in 0..fours {
+        push_four(alloc, &mut rows, number.saturating_mul(4))?;
+    }
+    Ok(rows)
 }
 
 /// How many classes so many times four such types have, which are so many that workers share them.
@@ -85,11 +107,8 @@ pub fn classes_of_fours<R: Threads + Sync>(
     alloc: Global,
     fours: u32,
 ) -> Result<usize, Fault> {
-    let mut rows = Vec::new(alloc);
-    for number in 0..fours {
-        push_four(alloc, &mut rows, number.saturating_mul(4))?;
-    }
-    let found = merged(rt, alloc, Vec::new(alloc), types_of(alloc, &rows)?)?;
+    let rows = four_rows(alloc, fours)?;
+    let found = merged_rows(rt, alloc, &rows)?;
     Ok(class_count(alloc, found.refined.classes.numbers())?)
 }
 
@@ -108,32 +127,55 @@ fn int<'a>(alloc: Global, name: &'a [u8], size: u32) -> CType<'a> {
     }
 }
 
+/// INTs of sizes from 0 on, so many.
+fn ints(alloc: Global, count: u32) -> Result<Vec<CType<'static>>, AllocError> {
+    let mut types = Vec::new(alloc);
+    for size in 0..count {
+        types.push(int(alloc, b"int", size))?;
+    }
+    Ok(types)
+}
+
 /// INTs of so many sizes, merged.
 pub fn ints_of_sizes<R: Threads + Sync>(
     rt: &R,
     alloc: Global,
     count: u32,
 ) -> Result<Found<'static>, Fault> {
-    let mut types = Vec::new(alloc);
-    for size in 0..count {
-        types.push(int(alloc, b"int", size))?;
-    }
-    merged(rt, alloc, Vec::new(alloc), types)
+    merged(rt, alloc, Vec::new(alloc), ints(alloc, count)?)
 }
 
-/// Whether no two nodes are of one class.
-pub fn all_differ(alloc: Global, found: &Found<'_>) -> Result<bool, AllocError> {
-    let mut numbers = Vec::from_slice(alloc, found.refined.classes.numbers())?;
-    numbers.sort_unstable();
-    Ok(numbers.windows(2).all(|pair| pair.first() != pair.last()))
+/// Whether no two of these numbers are equal.
+pub fn all_differ(alloc: Global, numbers: &[u32]) -> Result<bool, AllocError> {
+    Ok(class_count(alloc, numbers)? == numbers.len())
 }
 
 /// The number of types of a graph's table, or why there is none.
-pub fn table_len(alloc: Global, found: Found<'_>) -> Result<Result<usize, TableFault>, Fault> {
-    match built(alloc, found, None)? {
+pub fn table_len(alloc: Global, found: &Found<'_>) -> Result<Result<usize, TableFault>, Fault> {
+    match built(alloc, &found.graph, &found.refined.classes, None)? {
         Ok(table) => Ok(Ok(table.types.items().len())),
         Err(fault) => Ok(Err(fault)),
     }
+}
+
+/// Two INTs, the first of this name.
+fn two_ints<'a>(alloc: Global, name: &'a [u8]) -> Result<Vec<CType<'a>>, AllocError> {
+    let mut types = Vec::new(alloc);
+    types.push(int(alloc, name, 4))?;
+    types.push(int(alloc, b"last", 4))?;
+    Ok(types)
+}
+
+/// The number of types of the table of two INTs, the first of this name, or why there is none.
+fn named_table<R: Threads + Sync>(
+    rt: &R,
+    alloc: Global,
+    name: &[u8],
+) -> Result<Result<usize, TableFault>, Fault> {
+    let types = two_ints(alloc, name)?;
+    let found = merged(rt, alloc, Vec::new(alloc), types)?;
+    let table = table_len(alloc, &found)?;
+    Ok(table)
 }
 
 /// The table of two INTs, the first with a name of so many bytes.
@@ -143,9 +185,6 @@ pub fn long_name_table<R: Threads + Sync>(
     bytes: usize,
 ) -> Result<Result<usize, TableFault>, Fault> {
     let name = vec![in alloc; b'n'; bytes]?;
-    let mut types = Vec::new(alloc);
-    types.push(int(alloc, &name, 4))?;
-    types.push(int(alloc, b"last", 4))?;
-    let found = merged(rt, alloc, Vec::new(alloc), types)?;
-    table_len(alloc, found)
+    let table = named_table(rt, alloc, name.as_slice())?;
+    Ok(table)
 }

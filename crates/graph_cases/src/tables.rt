@@ -1,30 +1,30 @@
 //! Tables of merged graphs, and graphs with the types of a base.
+ghost use Rattle.std.specs.Prelude.{◌≡◌};
+
 use crate::fault::Fault;
 use crate::fitting::{are_formed, graph_from, is_base, refer_below};
-use crate::merged::Found;
 use crate::rows::types_of;
 use crate::worked::{DECLARED, DEFINED, DEFINED_OVER_DECLARED, Entry, Worked, table_of};
 use btf_codec::{Table, TableOut};
-use c_model::{CType, Nodes, is_same_label};
+use c_model::{CType, Classes, Graph, Nodes, is_same_label};
 use dw_base::Order;
 use split_base::{TableFault, build, with_base};
 use std::alloc::{AllocError, Global};
 
-/// The table of a graph's coarsest partition over the strings of a base, or why there is none.
+/// The table of a graph's classes over the strings of a base, or why there is none.
 pub fn built<'a>(
     alloc: Global,
-    found: Found<'a>,
+    graph: &Graph<'a>,
+    classes: &Classes,
     base_names: Option<&'a [u8]>,
 ) -> Result<Result<TableOut<'a>, TableFault>, Fault> {
-    let Found { graph, refined } = found;
-    let classes = refined.classes;
     if classes.numbers().len() != graph.nodes().len()
         || !are_formed(graph.nodes())
         || !is_base(base_names)
     {
         return Err(Fault::Unfit);
     }
-    Ok(build(alloc, &graph, &classes, base_names))
+    Ok(build(alloc, graph, classes, base_names))
 }
 
 /// The types of these entries.
@@ -32,15 +32,20 @@ fn listed(alloc: Global, entries: &[Entry]) -> Result<Vec<CType<'static>>, Alloc
     types_of(alloc, &table_of(alloc, 0, entries)?.rows)
 }
 
+/// Whether types are the same, one by one.
+fn are_same(types: &[CType<'_>], others: &[CType<'_>]) -> bool {
+    for (t, u) in types.iter().zip(others) {
+        if !is_same_label(&t.label, &u.label) || t.targets.items() != u.targets.items() {
+            return false;
+        }
+    }
+    types.len() == others.len()
+}
+
 /// Whether types are those of these entries.
 fn are_types(alloc: Global, types: &[CType<'_>], entries: &[Entry]) -> Result<bool, AllocError> {
     let want = listed(alloc, entries)?;
-    Ok(
-        types.len() == want.len()
-            && types.iter().zip(&want).all(|(t, u)| {
-                is_same_label(&t.label, &u.label) && t.targets.items() == u.targets.items()
-            }),
-    )
+    Ok(are_same(types, &want))
 }
 
 /// Whether a table is the one that is written beside a graph.
@@ -59,10 +64,21 @@ pub fn is_table(alloc: Global, table: &TableOut<'_>, worked: &Worked) -> Result<
     )
 }
 
-/// Whether the graph of a declaring base and a defining file, of at most so many nodes, is what it
+/// Whether a graph is the one of a declaring base and a defining file.
+fn is_joined(alloc: Global, graph: &Graph<'_>) -> Result<bool, AllocError> {
+    Ok(graph.base() == 2 && are_types(alloc, graph.nodes(), DEFINED_OVER_DECLARED)?)
+}
+
+/// Whether the graph of a base of these types and of a file, of at most so many nodes, is what it
 /// should be; or why there is none.
-pub fn joined(alloc: Global, most: u32) -> Result<Result<bool, TableFault>, Fault> {
-    let types = listed(alloc, DECLARED)?;
+fn joined_over(
+    alloc: Global,
+    types: Vec<CType<'static>>,
+    most: u32,
+    file: Graph<'static>,
+) -> Result<Result<bool, TableFault>, Fault>
+    requires { file.base ≡ 0 }
+{
     if types.len() > 1000 || !refer_below(types.len() as u32, &types) {
         return Err(Fault::Unfit);
     }
@@ -72,13 +88,17 @@ pub fn joined(alloc: Global, most: u32) -> Result<Result<bool, TableFault>, Faul
         types: Nodes::new(types),
         names: b"\0foo\0",
     };
+    match with_base(alloc, &table, most, file) {
+        Ok(graph) => Ok(Ok(is_joined(alloc, &graph)?)),
+        Err(fault) => Ok(Err(fault)),
+    }
+}
+
+/// Whether the graph of a declaring base and a defining file, of at most so many nodes, is what it
+/// should be; or why there is none.
+pub fn joined(alloc: Global, most: u32) -> Result<Result<bool, TableFault>, Fault> {
     let Some(file) = graph_from(0, listed(alloc, DEFINED)?) else {
         return Err(Fault::Unfit);
     };
-    match with_base(alloc, &table, most, file) {
-        Ok(graph) => Ok(Ok(
-            graph.base() == 2 && are_types(alloc, graph.nodes(), DEFINED_OVER_DECLARED)?,
-        )),
-        Err(fault) => Ok(Err(fault)),
-    }
+    joined_over(alloc, listed(alloc, DECLARED)?, most, file)
 }

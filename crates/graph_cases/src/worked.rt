@@ -1,79 +1,11 @@
 //! Graphs whose coarsest partition is known from C's rules for compatible types, and whose table
 //! follows from it, by hand.
 use crate::rows::{ARRAY, ENUM, FWD, Head, INT, PTR, Piece, Row, STRUCT, TYPEDEF, Table, UNION};
-use crate::worked::Type::{
-    AOfB, BOfA, BOfTwo, BOfX, EOfA, Fields, FooOf4, FooOf8, FooOfX, Grid, Index, ListHead,
-    ListTypedef, Number, Pointer, SomeA, SomeB, SomeE, SomeFoo, SomeT, Tail, UnionAt0, UnionAt5,
-    UnionT, Unsigned, Wide,
-};
 use c_model::Ref;
 use std::alloc::{AllocError, Global};
 
-/// What the types here say of themselves.
-#[derive(Clone, Copy)]
-pub enum Type {
-    Pointer,
-    Number,
-    Wide,
-    Unsigned,
-    Index,
-    Grid,
-    Tail,
-    ListHead,
-    AOfB,
-    BOfA,
-    BOfX,
-    BOfTwo,
-    FooOfX,
-    FooOf4,
-    FooOf8,
-    SomeFoo,
-    SomeA,
-    SomeB,
-    SomeT,
-    UnionT,
-    UnionAt0,
-    UnionAt5,
-    Fields,
-    SomeE,
-    EOfA,
-    ListTypedef,
-}
-
-/// What a type says of itself.
-fn head_of(which: Type) -> Head {
-    match which {
-        Pointer => POINTER,
-        Number => NUMBER,
-        Wide => WIDE,
-        Unsigned => UNSIGNED,
-        Index => INDEX,
-        Grid => GRID,
-        Tail => TAIL,
-        ListHead => LIST_HEAD,
-        AOfB => A_OF_B,
-        BOfA => B_OF_A,
-        BOfX => B_OF_X,
-        BOfTwo => B_OF_TWO,
-        FooOfX => FOO_OF_X,
-        FooOf4 => FOO_OF_4,
-        FooOf8 => FOO_OF_8,
-        SomeFoo => SOME_FOO,
-        SomeA => SOME_A,
-        SomeB => SOME_B,
-        SomeT => SOME_T,
-        UnionT => UNION_T,
-        UnionAt0 => UNION_AT_0,
-        UnionAt5 => UNION_AT_5,
-        Fields => FIELDS,
-        SomeE => SOME_E,
-        EOfA => E_OF_A,
-        ListTypedef => LH,
-    }
-}
-
-/// A type, and the numbers of the types that it refers to.
-pub type Entry = (Type, &'static [u32]);
+/// What a type says of itself, and the numbers of the types that it refers to.
+pub type Entry = (&'static Head, &'static [u32]);
 
 /// A graph, its classes and its table.
 #[derive(Clone, Copy)]
@@ -93,13 +25,22 @@ pub struct Worked {
     pub names: &'static [u8],
 }
 
+/// References to these types.
+fn references(alloc: Global, numbers: &[u32]) -> Result<Vec<Ref>, AllocError> {
+    let mut targets = Vec::new(alloc);
+    for number in numbers {
+        targets.push(Ref::Node(*number))?;
+    }
+    Ok(targets)
+}
+
 /// The rows of these types, the first `base` of them of a base.
 pub fn table_of(alloc: Global, base: usize, entries: &[Entry]) -> Result<Table, AllocError> {
     let mut rows = Vec::new(alloc);
-    for (which, numbers) in entries {
-        let targets = numbers.iter().map(|x| Ref::Node(*x)).collect(alloc)?;
+    for (head, numbers) in entries {
+        let targets = references(alloc, numbers)?;
         rows.push(Row {
-            head: head_of(*which),
+            head: **head,
             targets,
         })?;
     }
@@ -358,18 +299,18 @@ const LH: Head = Head {
 };
 
 /// A base that declares a structure.
-pub const DECLARED: &[Entry] = &[(SomeFoo, &[]), (Pointer, &[0])];
+pub const DECLARED: &[Entry] = &[(&SOME_FOO, &[]), (&POINTER, &[0])];
 
 /// A file that defines it. Its types are numbered from 0.
-pub const DEFINED: &[Entry] = &[(Number, &[]), (FooOfX, &[0]), (Pointer, &[1])];
+pub const DEFINED: &[Entry] = &[(&NUMBER, &[]), (&FOO_OF_X, &[0]), (&POINTER, &[1])];
 
 /// The graph of both.
 pub const DEFINED_OVER_DECLARED: &[Entry] = &[
-    (SomeFoo, &[]),
-    (Pointer, &[0]),
-    (Number, &[]),
-    (FooOfX, &[2]),
-    (Pointer, &[3]),
+    (&SOME_FOO, &[]),
+    (&POINTER, &[0]),
+    (&NUMBER, &[]),
+    (&FOO_OF_X, &[2]),
+    (&POINTER, &[3]),
 ];
 
 /// Graphs without declarations.
@@ -382,9 +323,9 @@ const PLAIN: &[Worked] = &[
         name: "ints of two sizes",
         base: 0,
         base_names: None,
-        types: &[(Number, &[]), (Wide, &[])],
+        types: &[(&NUMBER, &[]), (&WIDE, &[])],
         classes: &[0, 1],
-        own: &[(Number, &[]), (Wide, &[])],
+        own: &[(&NUMBER, &[]), (&WIDE, &[])],
         names: b"\0int\0",
     },
     // A pointer to itself in each of two units.
@@ -392,9 +333,9 @@ const PLAIN: &[Worked] = &[
         name: "pointers to themselves",
         base: 0,
         base_names: None,
-        types: &[(Pointer, &[0]), (Pointer, &[1])],
+        types: &[(&POINTER, &[0]), (&POINTER, &[1])],
         classes: &[0, 0],
-        own: &[(Pointer, &[0])],
+        own: &[(&POINTER, &[0])],
         names: b"\0",
     },
     // A structure of two pointers to itself, in each of two units.
@@ -403,13 +344,13 @@ const PLAIN: &[Worked] = &[
         base: 0,
         base_names: None,
         types: &[
-            (ListHead, &[1, 1]),
-            (Pointer, &[0]),
-            (ListHead, &[3, 3]),
-            (Pointer, &[2]),
+            (&LIST_HEAD, &[1, 1]),
+            (&POINTER, &[0]),
+            (&LIST_HEAD, &[3, 3]),
+            (&POINTER, &[2]),
         ],
         classes: &[0, 1, 0, 1],
-        own: &[(ListHead, &[1, 1]), (Pointer, &[0])],
+        own: &[(&LIST_HEAD, &[1, 1]), (&POINTER, &[0])],
         names: b"\0list_head\0next\0prev\0",
     },
     // An unnamed union of a bit field, which stands elsewhere in a second unit.
@@ -418,31 +359,31 @@ const PLAIN: &[Worked] = &[
         base: 0,
         base_names: None,
         types: &[
-            (Number, &[]),
-            (UnionAt0, &[0]),
-            (Number, &[]),
-            (UnionAt5, &[2]),
+            (&NUMBER, &[]),
+            (&UNION_AT_0, &[0]),
+            (&NUMBER, &[]),
+            (&UNION_AT_5, &[2]),
         ],
         classes: &[0, 1, 0, 2],
-        own: &[(Number, &[]), (UnionAt0, &[0]), (UnionAt5, &[0])],
+        own: &[(&NUMBER, &[]), (&UNION_AT_0, &[0]), (&UNION_AT_5, &[0])],
         names: b"\0int\0a\0",
     },
     Worked {
         name: "bit fields",
         base: 0,
         base_names: None,
-        types: &[(Unsigned, &[]), (Fields, &[0, 0, 0])],
+        types: &[(&UNSIGNED, &[]), (&FIELDS, &[0, 0, 0])],
         classes: &[0, 1],
-        own: &[(Unsigned, &[]), (Fields, &[0, 0, 0])],
+        own: &[(&UNSIGNED, &[]), (&FIELDS, &[0, 0, 0])],
         names: b"\0unsigned int\0f\0a\0b\0c\0",
     },
     Worked {
         name: "array",
         base: 0,
         base_names: None,
-        types: &[(Number, &[]), (Grid, &[0, 2]), (Index, &[])],
+        types: &[(&NUMBER, &[]), (&GRID, &[0, 2]), (&INDEX, &[])],
         classes: &[0, 1, 2],
-        own: &[(Number, &[]), (Grid, &[0, 2]), (Index, &[])],
+        own: &[(&NUMBER, &[]), (&GRID, &[0, 2]), (&INDEX, &[])],
         names: b"\0int\0__ARRAY_SIZE_TYPE__\0",
     },
     // An array without a bound in one unit, and one of two bounds in another.
@@ -451,19 +392,19 @@ const PLAIN: &[Worked] = &[
         base: 0,
         base_names: None,
         types: &[
-            (Number, &[]),
-            (Tail, &[0, 2]),
-            (Index, &[]),
-            (Number, &[]),
-            (Grid, &[3, 5]),
-            (Index, &[]),
+            (&NUMBER, &[]),
+            (&TAIL, &[0, 2]),
+            (&INDEX, &[]),
+            (&NUMBER, &[]),
+            (&GRID, &[3, 5]),
+            (&INDEX, &[]),
         ],
         classes: &[0, 1, 2, 0, 3, 2],
         own: &[
-            (Number, &[]),
-            (Tail, &[0, 2]),
-            (Index, &[]),
-            (Grid, &[0, 2]),
+            (&NUMBER, &[]),
+            (&TAIL, &[0, 2]),
+            (&INDEX, &[]),
+            (&GRID, &[0, 2]),
         ],
         names: b"\0int\0__ARRAY_SIZE_TYPE__\0",
     },
@@ -480,9 +421,9 @@ const FORWARD: &[Worked] = &[
         name: "declared three times",
         base: 0,
         base_names: None,
-        types: &[(SomeFoo, &[]), (SomeFoo, &[]), (SomeFoo, &[])],
+        types: &[(&SOME_FOO, &[]), (&SOME_FOO, &[]), (&SOME_FOO, &[])],
         classes: &[0, 0, 0],
-        own: &[(SomeFoo, &[])],
+        own: &[(&SOME_FOO, &[])],
         names: b"\0foo\0",
     },
     // Two structures that point to each other: each in a unit that declares the other, and both in
@@ -492,19 +433,24 @@ const FORWARD: &[Worked] = &[
         base: 0,
         base_names: None,
         types: &[
-            (AOfB, &[1]),
-            (Pointer, &[2]),
-            (SomeB, &[]),
-            (BOfA, &[4]),
-            (Pointer, &[5]),
-            (SomeA, &[]),
-            (AOfB, &[7]),
-            (Pointer, &[8]),
-            (BOfA, &[9]),
-            (Pointer, &[6]),
+            (&A_OF_B, &[1]),
+            (&POINTER, &[2]),
+            (&SOME_B, &[]),
+            (&B_OF_A, &[4]),
+            (&POINTER, &[5]),
+            (&SOME_A, &[]),
+            (&A_OF_B, &[7]),
+            (&POINTER, &[8]),
+            (&B_OF_A, &[9]),
+            (&POINTER, &[6]),
         ],
         classes: &[0, 1, 2, 2, 3, 0, 0, 1, 2, 3],
-        own: &[(AOfB, &[1]), (Pointer, &[2]), (BOfA, &[3]), (Pointer, &[0])],
+        own: &[
+            (&A_OF_B, &[1]),
+            (&POINTER, &[2]),
+            (&B_OF_A, &[3]),
+            (&POINTER, &[0]),
+        ],
         names: b"\0A\0b\0B\0a\0",
     },
     // A structure over one that has two definitions, and over its declaration, which stays apart.
@@ -513,30 +459,30 @@ const FORWARD: &[Worked] = &[
         base: 0,
         base_names: None,
         types: &[
-            (Number, &[]),
-            (BOfX, &[0]),
-            (Pointer, &[1]),
-            (AOfB, &[2]),
-            (Number, &[]),
-            (BOfTwo, &[4, 4]),
-            (Pointer, &[5]),
-            (AOfB, &[6]),
-            (SomeB, &[]),
-            (Pointer, &[8]),
-            (AOfB, &[9]),
+            (&NUMBER, &[]),
+            (&B_OF_X, &[0]),
+            (&POINTER, &[1]),
+            (&A_OF_B, &[2]),
+            (&NUMBER, &[]),
+            (&B_OF_TWO, &[4, 4]),
+            (&POINTER, &[5]),
+            (&A_OF_B, &[6]),
+            (&SOME_B, &[]),
+            (&POINTER, &[8]),
+            (&A_OF_B, &[9]),
         ],
         classes: &[0, 1, 2, 3, 0, 4, 5, 6, 7, 8, 9],
         own: &[
-            (Number, &[]),
-            (BOfX, &[0]),
-            (Pointer, &[1]),
-            (AOfB, &[2]),
-            (BOfTwo, &[0, 0]),
-            (Pointer, &[4]),
-            (AOfB, &[5]),
-            (SomeB, &[]),
-            (Pointer, &[7]),
-            (AOfB, &[8]),
+            (&NUMBER, &[]),
+            (&B_OF_X, &[0]),
+            (&POINTER, &[1]),
+            (&A_OF_B, &[2]),
+            (&B_OF_TWO, &[0, 0]),
+            (&POINTER, &[4]),
+            (&A_OF_B, &[5]),
+            (&SOME_B, &[]),
+            (&POINTER, &[7]),
+            (&A_OF_B, &[8]),
         ],
         names: b"\0int\0B\0x\0A\0b\0y\0",
     },
@@ -547,14 +493,19 @@ const FORWARD: &[Worked] = &[
         base: 0,
         base_names: None,
         types: &[
-            (SomeE, &[]),
-            (EOfA, &[]),
-            (SomeT, &[]),
-            (Pointer, &[2]),
-            (UnionT, &[]),
+            (&SOME_E, &[]),
+            (&E_OF_A, &[]),
+            (&SOME_T, &[]),
+            (&POINTER, &[2]),
+            (&UNION_T, &[]),
         ],
         classes: &[0, 0, 1, 2, 3],
-        own: &[(EOfA, &[]), (SomeT, &[]), (Pointer, &[1]), (UnionT, &[])],
+        own: &[
+            (&E_OF_A, &[]),
+            (&SOME_T, &[]),
+            (&POINTER, &[1]),
+            (&UNION_T, &[]),
+        ],
         names: b"\0e\0a\0t\0",
     },
 ];
@@ -572,7 +523,7 @@ const BASE: &[Worked] = &[
         base_names: Some(b"\0foo\0"),
         types: DEFINED_OVER_DECLARED,
         classes: &[0, 1, 2, 3, 4],
-        own: &[(Number, &[]), (FooOfX, &[2]), (Pointer, &[3])],
+        own: &[(&NUMBER, &[]), (&FOO_OF_X, &[2]), (&POINTER, &[3])],
         names: b"int\0x\0",
     },
     // A base with two different structures of a name closes the declarations of it.
@@ -581,12 +532,12 @@ const BASE: &[Worked] = &[
         base: 4,
         base_names: Some(b"\0foo\0"),
         types: &[
-            (FooOf4, &[]),
-            (FooOf8, &[]),
-            (SomeFoo, &[]),
-            (Pointer, &[2]),
-            (SomeFoo, &[]),
-            (Pointer, &[4]),
+            (&FOO_OF_4, &[]),
+            (&FOO_OF_8, &[]),
+            (&SOME_FOO, &[]),
+            (&POINTER, &[2]),
+            (&SOME_FOO, &[]),
+            (&POINTER, &[4]),
         ],
         classes: &[0, 1, 2, 3, 2, 3],
         own: &[],
@@ -599,15 +550,15 @@ const BASE: &[Worked] = &[
         base: 3,
         base_names: Some(b"\0foo\0"),
         types: &[
-            (FooOf4, &[]),
-            (FooOf4, &[]),
-            (SomeFoo, &[]),
-            (SomeFoo, &[]),
-            (Pointer, &[3]),
-            (Pointer, &[0]),
+            (&FOO_OF_4, &[]),
+            (&FOO_OF_4, &[]),
+            (&SOME_FOO, &[]),
+            (&SOME_FOO, &[]),
+            (&POINTER, &[3]),
+            (&POINTER, &[0]),
         ],
         classes: &[0, 0, 1, 0, 2, 2],
-        own: &[(Pointer, &[0])],
+        own: &[(&POINTER, &[0])],
         names: b"",
     },
     // A base with a structure of two pointers to itself, and two units with the same, one with a
@@ -617,16 +568,16 @@ const BASE: &[Worked] = &[
         base: 2,
         base_names: Some(b"\0list_head\0next\0prev\0"),
         types: &[
-            (ListHead, &[1, 1]),
-            (Pointer, &[0]),
-            (ListHead, &[3, 3]),
-            (Pointer, &[2]),
-            (ListTypedef, &[2]),
-            (ListHead, &[6, 6]),
-            (Pointer, &[5]),
+            (&LIST_HEAD, &[1, 1]),
+            (&POINTER, &[0]),
+            (&LIST_HEAD, &[3, 3]),
+            (&POINTER, &[2]),
+            (&LH, &[2]),
+            (&LIST_HEAD, &[6, 6]),
+            (&POINTER, &[5]),
         ],
         classes: &[0, 1, 0, 1, 2, 0, 1],
-        own: &[(ListTypedef, &[0])],
+        own: &[(&LH, &[0])],
         names: b"lh\0",
     },
 ];
