@@ -58,7 +58,7 @@ TOLD = [
     ("README.md", r"all (\w+) kinds of types", lambda: occurrences("crates/btf_codec/specs/Fields.antt", r"k == BTF_KIND_\w+ then Some")),
     ("docs/PROMISES.md", r"types of ([\d,]+) parts and of one more", lambda: in_tests("c_types", 65_535)),
     ("docs/PROMISES.md", r"([\d,]+) structures in each other", lambda: in_tests("c_types", 50_000)),
-    ("docs/PROMISES.md", r"(\d+) lists of words", lambda: 1 + occurrences("crates/command_line/src/tests.rt", r"^(?!const|///).* -> \w+ ")),
+    ("docs/PROMISES.md", r"(\d+) lists of words", lambda: 1 + occurrences("crates/base_tests/src/word_tests.rt", r"^(?!const|///).* -> \w+ ")),
     ("docs/PROMISES.md", r"on (\d+) graphs whose", lambda: printed("graph_cases", r"^worked graphs with their tables: (\d+), as expected$")),
     ("docs/PROMISES.md", r"The tables of the (\d+),", lambda: printed("graph_cases", r"^worked graphs with their tables: (\d+), as expected$")),
     ("docs/PROMISES.md", r"on (\d+) in shapes", lambda: printed("graph_cases", r"^shapes with their numbers of classes: (\d+), as expected$")),
