@@ -37,7 +37,9 @@ def kind(process):
     if "--crate-name" not in said[:-1] or len(said) < 2 or said[1] not in ("build", "check"):
         return None
     crate = said[said.index("--crate-name") + 1]
-    return crate, "edits" if said[1] == "check" else "tests" if "--test" in said else "proof"
+    # a program is proved by a check that keeps what it proved (-o), an edit by one that keeps nothing
+    is_edit = said[1] == "check" and "-o" not in said
+    return crate, "edits" if is_edit else "tests" if "--test" in said else "proof"
 
 
 def below(parents, process):
