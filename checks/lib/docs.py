@@ -102,14 +102,17 @@ def check_refusals():
     # a definition that goes on in indented lines is one line here
     layers = re.sub(r"\n +", " ", read("crates/pahole_run/specs/Layers.antt"))
     names = {new: old for old, new in re.findall(r"(\w+) as (\w+)", layers)}
+    numbers = dict(re.findall(r"^pub const (\w+): u32 = (\d+);", read("crates/pahole_run/src/numbers.rt"), re.M))
+    faults = [f"{name} has the number of another refusal" for name, number in numbers.items() if list(numbers.values()).count(number) > 1]
     known = set()
     for left, right in re.findall(r"^((?:of_\w+|mixed) .*?) = (.*)$", layers, re.M):
-        number = re.search(r"(?:bare|keeping|keeping_two) .*? (?:at|number|from|0|4|16|18) (\d+)\b|of_whole (\d+) \w+", right)
+        number = re.search(r"\bnumbers\.(\w+)", right)
         if number and not left.startswith("of_whole"):
             fault = re.findall(r"\b(mixed|[A-Z]\w*)", left)[-1]
-            known.add((number[1] or number[2], names.get(fault, fault)))
+            known.add((numbers[number[1]], names.get(fault, fault)))
     told = set(re.findall(r"^\| (\d+) \| (\w+) \|", read("docs/REFUSALS.md"), re.M))
-    faults = [f"{pair} is not told" for pair in sorted(known - told)]
+    faults += [f"{name} is told of no fault" for name, number in numbers.items() if number not in {one for one, _ in known}]
+    faults += [f"{pair} is not told" for pair in sorted(known - told)]
     for page in ("docs/REFUSALS.md", "docs/DECISIONS.md"):
         free = re.findall(r"No refusal has the number (\d+)", read(page))
         faults += [f"{page} says that {one} is free" for one in free if one in {number for number, _ in known}]

@@ -15,6 +15,7 @@ use Rattle.c_model.specs.Graph.{RefersWithin}
 use Rattle.c_model.specs.Partition.{label_at}
 use Rattle.c_model.specs.declared.label.Label.{Label}
 use Rattle.c_model.specs.declared.graph.CType.{CType}
+use Rattle.c_model.specs.declared.kinds.TheConstants.{BTF_KIND_FUNC, BTF_KIND_FUNC_PROTO}
 use Rattle.func_types.specs.declared.protos.Func.{Func}
 use Rattle.func_types.specs.Chosen.{chosen_funcs, chosen_nodes, func_type, funcs_from}
 use Rattle.func_types.specs.Chosen.{prototypes_of}
@@ -176,9 +177,9 @@ module _ (plain : ℕ) (nodes : List CType) (fs : List Func) (front : plain ≤ 
         λ (x : ℕ) (t : CType) (e : slice_get nodes x ≡ Some t).
         ⊎_elim
         (λ (low : x < plain).
-        all_at (λ (s : CType). s.label.kind ≢ 12) (take plain nodes) x t has.before
+        all_at (λ (s : CType). s.label.kind ≢ BTF_KIND_FUNC) (take plain nodes) x t has.before
         (slice_get-take plain nodes x low ∙ e))
-        (λ (ge : plain ≤ x) (is : t.label.kind ≡ 12).
+        (λ (ge : plain ≤ x) (is : t.label.kind ≡ BTF_KIND_FUNC).
         absurd (omega (arith, is, protos_from x t ge e)))
         (cases_lt x plain);
     funcs =
@@ -189,9 +190,11 @@ module _ (plain : ℕ) (nodes : List CType) (fs : List Func) (front : plain ≤ 
     within = refer;
   }
     where
-      protos_from : (x : ℕ) (t : CType) → plain ≤ x → slice_get nodes x ≡ Some t → t.label.kind ≡ 13
+      protos_from : (x : ℕ) (t : CType) → plain ≤ x → slice_get nodes x ≡ Some t
+          → t.label.kind ≡ BTF_KIND_FUNC_PROTO
       protos_from x t ge e =
-          all_at (λ (s : CType). s.label.kind ≡ 13) (drop plain nodes) (x - plain) t has.behind
+          all_at (λ (s : CType). s.label.kind ≡ BTF_KIND_FUNC_PROTO) (drop plain nodes) (x - plain) t
+          has.behind
           (slice_get-drop plain nodes (x - plain) ∙ ap (slice_get nodes) (omega (arith, ge)) ∙ e)
 
   module _ (p : List ℕ) (from : ℕ) (covers : length p ≡ length nodes)

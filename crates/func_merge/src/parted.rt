@@ -7,17 +7,12 @@ ghost use Rattle.func_types.specs.Chosen.{chosen_funcs, chosen_graph, class_behi
 ghost use Rattle.func_merge.specs.Parting.{HasProtosBehind, classes_by, fits_place};
 ghost use Rattle.split_base.specs.Merged.{IsPartedBy};
 
+use c_model::kinds::{BTF_KIND_FUNC, BTF_KIND_FUNC_PROTO};
 use c_model::{Classes, Numbers, TypeGraph};
 use func_types::protos::func_at;
 use func_types::{Func, Protos};
 use packed_graph::PackedGraph;
 use std::alloc::{AllocError, Global};
-
-/// The kind of a function in a BTF table (the Linux kernel's BTF documentation, "Type Encoding").
-const BTF_KIND_FUNC: u8 = 12;
-
-/// The kind of a function's prototype.
-const BTF_KIND_FUNC_PROTO: u8 = 13;
 
 /// Whether a node of this kind may stand in this place: a prototype from `plain` on, and anything
 /// but a function before.

@@ -9,13 +9,11 @@ ghost use Rattle.c_model.specs.declared.graph.CType.{CType};
 ghost use Rattle.func_types.specs.Chosen.{func_type, funcs_from, prototypes_of};
 
 use crate::protos::{Func, func_at};
+use c_model::kinds::BTF_KIND_FUNC;
 use c_model::{Label, Parts, Ref, TypeGraph, copy_of_label};
 use dw_base::Name;
 use packed_graph::PackedNodes;
 use std::alloc::{AllocError, Global};
-
-/// The kind of a function in a BTF table (the Linux kernel's BTF documentation, "Type Encoding").
-const BTF_KIND_FUNC: u8 = 12;
 
 /// The linkage of a function that other units can't call.
 const BTF_FUNC_STATIC: u32 = 0;
