@@ -1,6 +1,6 @@
 -- References of a graph as words, side by side, and hashes that are computed from them.
 use Rattle.std.specs.Prelude.{◌≡◌, ◌<◌, ◌≤◌, ◌+◌, ℕ, List, All, map, length, slice_index}
-use Rattle.std.specs.Prelude.{slice_range, if◌then◌else◌}
+use Rattle.std.specs.Prelude.{slice_range, Option, None, Some, if◌then◌else◌}
 use Rattle.std.specs.List.{fold}
 use Rattle.c_model.specs.declared.graph.CType.{CType}
 use Rattle.c_model.specs.Partition.{classes_of, targets_at}
@@ -23,6 +23,11 @@ pub record AreWords (count : ℕ) (ends words : List ℕ) : Type 0 where
 pub record AreLinks (nodes : List CType) (ends words : List ℕ) : Type 0 where
   pub fits : AreWords (length nodes) ends words
   pub at : (x : ℕ) → x < length nodes → words_at ends words x ≡ map word_of (targets_at nodes x)
+
+-- the classes of a node's targets by its words; None of an open forward
+abbrev pub targets_by : List (List ℕ) → List ℕ → List ℕ → List ℕ → ℕ → Option (List (Option ℕ))
+targets_by index ends words p x = if is_open_at index x then None
+    else Some (classes_of p (map ref_of (words_at ends words x)))
 
 -- a node's hash by its words: its own number, and mixed into it those of its targets unless it is
 -- an open forward

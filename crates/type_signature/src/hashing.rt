@@ -14,6 +14,12 @@ use std::thread::Threads;
 /// A factor of the hash: odd, and without a pattern in its bits.
 pub(crate) const FACTOR: u64 = 5_871_781_006_564_002_453;
 
+/// The place of a number of 32 bits among so many, in proportion.
+#[inline(always)]
+pub(crate) fn place_among(number: u64, count: u64) -> u64 {
+    number.wrapping_mul(count) >> 32
+}
+
 /// A hash with one more target, which is told by its word.
 #[inline(always)]
 fn mix(hash: u64, now: &[u64], word: u32) -> u64

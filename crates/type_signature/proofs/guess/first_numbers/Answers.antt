@@ -13,7 +13,22 @@ guessed-requires b c κs =
     let coarse = IsCoarse-above s c.args.fwd.now c.requires.index c.requires.fitting raw
     c.in_ok-labelled.labelled above in (
       search sendable depth 20,
-      ((refl, tt), (c.requires.index, (c.requires.fitting, rw c.deref-2.ensures.value coarse))),
+      (
+        (refl, tt),
+        (
+          c.requires.workers,
+          (
+            c.requires.index,
+            (
+              c.requires.fitting,
+              (
+                c.requires.links,
+                rw c.deref-2.ensures.value coarse,
+              ),
+            ),
+          ),
+        ),
+      ),
     )
 
 pub paired-requires-clause-same : goal.paired-requires-clause-same
