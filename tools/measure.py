@@ -39,6 +39,7 @@ KERNEL, KERNEL_TWO, KERNEL_ONE = "a kernel", "a kernel, two workers", "a kernel,
 FUNCS, FUNCS_ONE = "a kernel with its functions", "a kernel with its functions, one worker"
 KERNEL_LAYOUT = "a layout of a kernel"
 TABLE = "the layouts of this machine's kernel, from its BTF"
+OVER = "the program of demo/ over this machine's kernel's types"
 PEER, PEER_ONE = "a kernel, by the tool pahole", "a kernel, by the tool pahole, one thread"
 # modules of a kernel that stand beside it, in ../lib/modules, and are encoded over its table
 MODULES = ["xfs.ko", "btrfs.ko", "mac80211.ko", "amdgpu.ko"]
@@ -48,7 +49,7 @@ MADE_NUMBER, MADE_LINE = 8388607, b"units 1024, entries 2100224, types 16387, by
 # other programs, which tools/real-programs.sh builds: the files of the folder REAL, each by another program too
 REAL, REAL_PEER = "the program {}", "{}, by the tool pahole"
 REAL_NAMES = ["busybox", "git", "postgres", "redis", "sqlite3"]
-ALL = [KERNEL, KERNEL_TWO, KERNEL_ONE, FUNCS, FUNCS_ONE, KERNEL_LAYOUT, PEER, PEER_ONE, TABLE, *WHATS.values(), WIDE, MADE,
+ALL = [KERNEL, KERNEL_TWO, KERNEL_ONE, FUNCS, FUNCS_ONE, KERNEL_LAYOUT, PEER, PEER_ONE, TABLE, OVER, *WHATS.values(), WIDE, MADE,
        *(form.format(name) for name in MODULES for form in (MODULE, MODULE_PEER)),
        *(form.format(name) for name in REAL_NAMES for form in (REAL, REAL_PEER))]
 
@@ -262,8 +263,8 @@ def compare(*tables):
             print(f"| {kind} | {' | '.join(number(count[kind]) for count in counts)} |")
 
 
-def table(program, folder, runs):
-    """The types of the kernel that runs, from its own table."""
+def table(program, root, folder, runs):
+    """The types of the kernel that runs, from its own table; and a small program over them."""
     if not os.access(OWN, os.R_OK):
         return say(f"skipped {TABLE}: there is no {OWN}")
     path = f"{folder}/own"
@@ -271,6 +272,11 @@ def table(program, folder, runs):
     data = read(path)
     given = f"`{OWN}`, {number(len(data))} bytes, {number(count(data))} types"
     show(Row(TABLE, given, [program, "-F", "btf", path]), folder, runs)
+    if not shutil.which("cc"):
+        return say(f"skipped {OVER}: there is no C compiler")
+    subprocess.run(["cc", "-g", "-o", f"{folder}/demo", f"{root}/demo/registry.c", f"{root}/demo/main.c"], check=True)
+    given = f"{number(os.path.getsize(f'{folder}/demo'))} bytes, over the same table"
+    show(Row(OVER, given, [program, "--btf_encode_detached=o", f"--btf_base={path}", f"{folder}/demo"]), folder, runs)
 
 
 def made_inputs(program, root, folder, runs):
@@ -294,7 +300,7 @@ def main():
     machine(program, runs)
     ours, funcs, theirs = kernel(program, folder, runs, sys.argv[5] if len(sys.argv) > 5 else None)
     modules(program, folder, runs, sys.argv[5] if len(sys.argv) > 5 else None, ours)
-    table(program, folder, runs)
+    table(program, root, folder, runs)
     real_programs(program, folder, runs)
     made_number(program, folder, runs)
     made_inputs(program, root, folder, runs)
