@@ -1,11 +1,11 @@
 -- How what a worker holds grows, by a node and by what another worker holds.
-use Rattle.std.proofs.Common.{◌≡◌, ◌+◌, ◌-◌, ◌<◌, ◌≤◌, ◌++◌, ◌∷◌, [], ℕ, zero, suc, Bool, List}
+use Rattle.std.proofs.Common.{◌≡◌, ◌+◌, ◌-◌, ◌<◌, ◌≤◌, ◌++◌, ◌∷◌, [], ℕ, Bool, List}
 use Rattle.std.proofs.Common.{Option, Some, Ok, IsTrue, length, map, refl, sym, ap, subst, ◌∙◌}
-use Rattle.std.proofs.Common.{arith, ◌⊎◌, inl, inr, append_assoc, append-nil, ⊎_elim}
+use Rattle.std.proofs.Common.{arith, ◌⊎◌, inl, inr, ⊎_elim}
 use Rattle.std.specs.List.{slice_get}
 use Rattle.std.specs.Option.{option_map, option_map_or}
 use Rattle.std.proofs.lemmas.Bool.{cases_lt}
-use Rattle.std.proofs.lemmas.Option.{slice_get_within, none-some, same_Some}
+use Rattle.std.proofs.lemmas.Option.{slice_get_within}
 use Rattle.std.proofs.lemmas.List.{length_push}
 use Rattle.c_model.specs.declared.label.Label.{Label}
 use Rattle.c_model.specs.declared.graph.CType.{CType}
@@ -60,7 +60,7 @@ targets-right ns ms k m h =
 pub record IsPushed (local : Bool) (given nodes : ℕ → List Source) (s : ℕ → Source) (p q : Piece)
     (t : CType) (more : List Unlinked) : Type 0 where
   pub pushed : q.nodes ≡ p.nodes ++ t ∷ []
-  pub rows : (n : ℕ) → q.rows.items ≡ p.rows.items ++ rows_at (length p.nodes) (s n).file (s n).at
+  pub rows : (n : ℕ) → q.rows ≡ p.rows ++ rows_at (length p.nodes) (s n).file (s n).at
   pub unlinked : q.unlinked.items ≡ p.unlinked.items ++ more
   pub label : (n : ℕ) → (s n).label ≡ t.label
   pub few : length more ≤ 1

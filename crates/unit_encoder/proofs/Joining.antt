@@ -45,7 +45,7 @@ holds-wider local given wider nodes p w h =
     }
 
 pub holds-none : (local : Bool) (given : ℕ → List Source) (p : Piece) → p.nodes ≡ []
-    → p.rows.items ≡ [] → p.unlinked.items ≡ [] → Holds local given (λ n. []) p
+    → p.rows ≡ [] → p.unlinked.items ≡ [] → Holds local given (λ n. []) p
 holds-none local given p nodes rows unlinked =
     record {
       count = λ n. ap (λ (ns : List CType). length ns) (sym nodes);
@@ -180,7 +180,7 @@ module _ (local : Bool) (ss ts : ℕ → List Source) (p q r : Piece) (a : Holds
             ≡ length q.nodes = b.count (n + length p.nodes) in omega (arith, count_now));
         rows = λ n.
             f.rows
-            ∙ ap (λ (rs : List Row). rs ++ map (row_moved (length p.nodes)) q.rows.items) (a.rows n)
+            ∙ ap (λ (rs : List Row). rs ++ map (row_moved (length p.nodes)) q.rows) (a.rows n)
             ∙ ap (λ (rs : List Row). rows_from 0 (ss n) ++ map (row_moved (length p.nodes)) rs)
             (b.rows (n + length p.nodes))
             ∙ ap (λ (rs : List Row). rows_from 0 (ss n) ++ rs) (sym (rows_moved (length p.nodes) 0

@@ -1,7 +1,6 @@
 -- Units read one after the other, and by workers.
 use Rattle.std.proofs.Common.{◌≡◌, ◌+◌, ◌<◌, ◌≤◌, ◌++◌, ◌∷◌, [], ℕ, Bool, List, Result, Ok, Err}
 use Rattle.std.proofs.Common.{length, take, drop, get_or, refl, sym, ap, subst, ◌∙◌, arith}
-use Rattle.std.proofs.Common.{append_assoc, append-nil, length-append}
 use Rattle.std.proofs.lemmas.List.{take_more, take_all, drop_more, length-take-le}
 use Rattle.type_attributes.specs.declared.source.UnitTypes.{UnitTypes}
 use Rattle.type_attributes.specs.declared.fault.TypeFault.{TypeFault}
@@ -13,7 +12,7 @@ use Rattle.unit_encoder.specs.declared.fault.EncodeFault.TheVariants.{Memory}
 use Rattle.unit_encoder.specs.declared.piece.Piece.{Piece}
 use Rattle.unit_graph.specs.Sources.{FileUnit, Source, UnitRefusal, sources_of}
 use Rattle.unit_encoder.specs.Faults.{Fails, unit_faults}
-use Rattle.unit_graph.specs.Pieces.{Read, read_before, reads, both, glued, sources_from}
+use Rattle.unit_graph.specs.Pieces.{Read, read_before, reads, both, sources_from}
 use Rattle.unit_encoder.specs.Held.{Holds, IsHeld, Follow}
 use Rattle.unit_graph.proofs.Halves.{reads-append, reads_halves, sources-append, sources-one}
 use Rattle.unit_graph.proofs.Halves.{sources-none}
@@ -25,7 +24,7 @@ both_ways : (local : Bool) (f g : ℕ → List Source) (p : Piece) → ((n : ℕ
     → Holds local f f p → Holds local g g p
 both_ways local f g p e h = subst (λ (k : ℕ → List Source). Holds local k k p) (λ i n. e n i) h
 
-pub held_none : (local : Bool) (from : ℕ) (p : Piece) → p.nodes ≡ [] → p.rows.items ≡ []
+pub held_none : (local : Bool) (from : ℕ) (p : Piece) → p.nodes ≡ [] → p.rows ≡ []
     → p.unlinked.items ≡ [] → IsHeld local p (reads from [])
 unfolding reads
 held_none local from p nodes rows unlinked = both_ways local (λ n. []) (λ n. sources_from n []) p

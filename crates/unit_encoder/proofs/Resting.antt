@@ -1,6 +1,6 @@
 -- The nodes of a piece, the rest of them linked one after the other.
-use Rattle.std.proofs.Common.{◌≡◌, ◌+◌, ◌<◌, ◌≤◌, ◌⊎◌, ◌==◌, ◌&&◌, inl, inr, ◌++◌, ◌∷◌, [], ℕ, zero}
-use Rattle.std.proofs.Common.{suc, Bool, true, false, List, Option, None, Some, Result, Ok, Err}
+use Rattle.std.proofs.Common.{◌≡◌, ◌+◌, ◌<◌, ◌≤◌, ◌⊎◌, inl, inr, ◌++◌, ◌∷◌, [], ℕ, zero}
+use Rattle.std.proofs.Common.{suc, Bool, List, Option, None, Some, Result, Ok, Err}
 use Rattle.std.proofs.Common.{IsTrue, All, length, map, take, drop, get_or, refl, sym, ap, subst}
 use Rattle.std.proofs.Common.{◌∙◌, arith, ⊎_elim, append_assoc, append-nil}
 use Rattle.std.specs.List.{slice_get}
@@ -20,8 +20,8 @@ use Rattle.unit_encoder.specs.declared.piece.Piece.{Piece}
 use Rattle.unit_encoder.specs.declared.piece.Unlinked.{Unlinked}
 use Rattle.unit_graph.specs.declared.places.Row.{Row}
 use Rattle.unit_graph.specs.Sources.{Source}
-use Rattle.unit_graph.specs.Links.{is_at, at_offset, or_here, number_from, refs_from, nodes_from}
-use Rattle.unit_graph.specs.Numbers.{number_in, PlacesRise, rows_at, rows_from}
+use Rattle.unit_graph.specs.Links.{number_from, refs_from, nodes_from}
+use Rattle.unit_graph.specs.Numbers.{number_in, PlacesRise}
 use Rattle.unit_encoder.specs.Held.{Stands, Holds}
 use Rattle.unit_graph.proofs.Numbering.{numbers}
 use Rattle.unit_graph.proofs.Linking.{nodes_go_on, nodes_stop, nodes_end}
@@ -102,7 +102,7 @@ module _ (local : Bool) (nodes : ℕ → List Source) (p : Piece) (h : Holds loc
       (cases_lt u.node x)
 
   pub next_node : (rows : List Row) (x next more : ℕ) (linked : List CType)
-      (r : Result (List Ref) Out) → ((q : ℕ × ℕ) → number_in q rows ≡ number_in q p.rows.items)
+      (r : Result (List Ref) Out) → ((q : ℕ × ℕ) → number_in q rows ≡ number_in q p.rows)
       → x < length p.nodes → IsResting (nodes 0) p.unlinked.items x next linked
       → IsAnswer rows x next more r → IsNext x next more r
   next_node rows x next more linked r same lt rest a =

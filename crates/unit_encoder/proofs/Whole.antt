@@ -1,6 +1,6 @@
 -- What all workers hold is of the graph of all units.
 use Rattle.std.proofs.Common.{◌≡◌, ◌<◌, ◌≤◌, [], nat_lt, ℕ, Bool, true, false, List, Result, Ok}
-use Rattle.std.proofs.Common.{Err, IsTrue, length, if◌then◌else◌, arith, refl, sym, ap, subst, ◌∙◌}
+use Rattle.std.proofs.Common.{Err, IsTrue, length, if◌then◌else◌, arith, refl, sym, ap, ◌∙◌}
 use Rattle.std.proofs.lemmas.Bool.Decides.{nat_tests}
 use Rattle.c_model.specs.declared.graph.CType.{CType}
 use Rattle.c_types.specs.Laws.{TypesRise}

@@ -14,6 +14,7 @@ ghost use Rattle.unit_graph.specs.Numbers.{PlacesRise};
 ghost use Rattle.unit_encoder.specs.Held.{Stands, Finds, Holds};
 ghost use Rattle.type_attributes.specs.declared.source.SourceType.{SourceType};
 
+use crate::rows::Rows;
 use crate::starts::Starts;
 use c_model::kinds::BTF_KIND_INT;
 use c_model::{Label, Parts, Ref};
@@ -45,7 +46,7 @@ pub(crate) struct Piece<'a> {
     /// The nodes. One that is not linked has no references here.
     pub nodes: PackedNodes<'a>,
     /// Where their entries begin.
-    pub rows: Vec<Row>,
+    pub rows: Rows,
     /// The nodes that are not linked, in order.
     pub unlinked: Vec<Unlinked>,
 }
@@ -68,12 +69,12 @@ pub(crate) struct UnitNodes {
 /// A piece without units.
 pub(crate) fn no_units<'a>(alloc: Global) -> Result<Piece<'a>, AllocError>
     ensures nodes { IfOk result (λ p. p.nodes ≡ []) }
-    ensures rows { IfOk result (λ p. p.rows.items ≡ []) }
+    ensures rows { IfOk result (λ p. p.rows ≡ []) }
     ensures unlinked { IfOk result (λ p. p.unlinked.items ≡ []) }
 {
     Ok(Piece {
         nodes: PackedNodes::new(alloc)?,
-        rows: Vec::new(alloc),
+        rows: Rows::new(alloc),
         unlinked: Vec::new(alloc),
     })
 }

@@ -4,12 +4,10 @@ use Rattle.std.specs.Prelude.{All}
 use Rattle.c_model.specs.Kinds.{IsWellFormed}
 use Rattle.c_model.specs.declared.graph.CType.{CType}
 use Rattle.c_types.proofs.Standing.{types_in_order}
-use Rattle.unit_encoder.specs.declared.fault.EncodeFault.{EncodeFault}
 use Rattle.unit_encoder.specs.declared.fault.EncodeFault.TheVariants.{NodesTooMany, TypeRefOut}
 use Rattle.unit_graph.specs.declared.links.Out.{Out}
 use Rattle.unit_encoder.specs.declared.piece.Piece.{Piece}
 use Rattle.unit_graph.specs.Sources.{FileUnit}
-use Rattle.unit_graph.specs.Tags.{tag_of}
 use Rattle.unit_graph.proofs.Formed.{IsFine, units_fine, well, fits}
 use Rattle.unit_graph.proofs.Within.{linked_fine}
 use Rattle.unit_encoder.proofs.Whole.{IsRest, whole, too_many, graph_is, graph_out, graph_fails}
