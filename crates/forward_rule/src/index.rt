@@ -5,7 +5,7 @@ ghost use Rattle.c_model.specs.Forwards.{forward_at, definitions_in, IsOpen, IsI
 ghost use Rattle.c_model.specs.Forwards.{IsForwardIndex};
 
 use crate::families::declared_family;
-use crate::gather::{gathered, opened};
+use crate::gather::{empty_unnamed, gathered, opened};
 use c_model::{Classes, TypeGraph};
 use std::alloc::{AllocError, Global};
 use std::marker::Model;
@@ -62,7 +62,8 @@ impl FwdIndex {
         requires { let g = G.shape graph.now in IsCoarsest (take g.base g.nodes) base.now }
         ensures { IfOk result (λ f. IsForwardIndex (G.shape graph.now) f) }
     {
-        let Kept { tags, groups } = gathered(alloc, graph)?;
+        let Kept { tags, mut groups } = gathered(alloc, graph)?;
+        empty_unnamed(alloc, &tags, &mut groups)?;
         let groups = opened(alloc, base.numbers(), groups)?;
         Ok(FwdIndex {
             count: graph.len(),
