@@ -1,5 +1,5 @@
 //! Pointers, and the tag entries under them.
-ghost use Rattle.std.specs.Prelude.{◌≡◌, ◌++◌, ◌==◌, [], codes, None, Some, IfOk, is_some};
+ghost use Rattle.std.specs.Prelude.{◌≡◌, ◌++◌, ◌==◌, [], codes, None, Some, is_some};
 ghost use Rattle.std.specs.Prelude.{if◌then◌else◌};
 ghost use Rattle.std.specs.Str.{bytes_eq};
 ghost use Rattle.dwarf_forms.specs.Values.{IsContext};
@@ -17,11 +17,11 @@ use dw_base::Name;
 use dwarf_abbrev::constants::DW_AT_const_value;
 use dwarf_forms::FormCtx;
 use entry_tree::Entry;
-use std::alloc::{AllocError, Global};
+use std::alloc::Global;
 use type_attributes::attributes::{name, text};
 use type_attributes::fault::{TypeFault, note_if};
-use type_attributes::labels::{is_unnamed, make_label, one_target};
-use type_attributes::source::{SourceType, Target};
+use type_attributes::labels::{is_unnamed, make_label};
+use type_attributes::source::{SourceType, Target, Targets};
 use type_attributes::tags::DW_TAG_GNU_annotation;
 
 /// The type of a pointer, or of a tag entry, that refers to a target.
@@ -29,32 +29,28 @@ pub(crate) fn pointing<'a>(
     alloc: Global,
     pointer: OpenPointer<'a>,
     target: Target,
-) -> Result<SourceType<'a>, AllocError>
-    ensures { IfOk result (λ t. t ≡ pointer_by pointer.entry target) }
+) -> SourceType<'a>
+    ensures { result ≡ pointer_by pointer.entry target }
 {
-    let targets = one_target(alloc, target)?;
-    Ok(SourceType {
+    SourceType {
         at: pointer.at,
         label: make_label(alloc, pointer.kind, pointer.name, 0),
-        targets,
-    })
+        targets: Targets::one(target),
+    }
 }
 
 /// The type of the last tag entry of a pointer whose children have all come, or of the pointer
 /// itself.
-pub(crate) fn complete_pointer<'a>(
-    alloc: Global,
-    whole: OpenPointer<'a>,
-) -> Result<Complete<'a>, AllocError>
-    ensures made { IfOk result (λ d. (c : Sections) → d.made ≡ pointer_made c whole.entry []) }
-    ensures refused { IfOk result (λ d. d.refused ≡ None) }
+pub(crate) fn complete_pointer<'a>(alloc: Global, whole: OpenPointer<'a>) -> Complete<'a>
+    ensures made { (c : Sections) → result.made ≡ pointer_made c whole.entry [] }
+    ensures refused { result.refused ≡ None }
 {
     let own = whole.own;
-    let made = pointing(alloc, whole, own)?;
-    Ok(Complete {
+    let made = pointing(alloc, whole, own);
+    Complete {
         made,
         refused: None,
-    })
+    }
 }
 
 /// The pointer that is kept of an open type, if it is one.

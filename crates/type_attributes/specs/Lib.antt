@@ -11,3 +11,4 @@ pub mod Positions
 pub mod References
 pub mod Rows
 pub mod Scopes
+pub mod Targets

@@ -1,5 +1,5 @@
 //! What the rows of all tags share: labels and sizes.
-ghost use Rattle.std.specs.Prelude.{◌≡◌, [], ◌∷◌, IfOk, IfSome};
+ghost use Rattle.std.specs.Prelude.{◌≡◌, [], IfSome};
 ghost use Rattle.dwarf_forms.specs.Meanings.{Fits64};
 ghost use Rattle.type_attributes.specs.Faults.{noted};
 ghost use Rattle.type_attributes.specs.Labels.{plain_label, is_empty, fits_word, word_of, size_in};
@@ -7,10 +7,10 @@ ghost use Rattle.type_attributes.specs.Labels.{size_refused};
 
 use crate::fault::{TypeFault, note, note_if};
 use crate::number::{Number, by_sign};
-use crate::source::{Target, Targets};
+use crate::source::Targets;
 use c_model::{Label, Parts};
 use dw_base::Name;
-use std::alloc::{AllocError, Global};
+use std::alloc::Global;
 
 /// The most members, enumerators or parameters of a type.
 pub const MOST: u64 = 65_535;
@@ -27,15 +27,6 @@ pub fn make_label<'a>(alloc: Global, kind: u8, name: Name<'a>, size: u32) -> Lab
         extra: 0,
         parts: Parts::new(Vec::new(alloc)),
     }
-}
-
-/// A list of one target.
-pub fn one_target(alloc: Global, target: Target) -> Result<Targets, AllocError>
-    ensures { IfOk result (λ ts. ts ≡ target ∷ []) }
-{
-    let mut items = Vec::with_capacity(alloc, 1)?;
-    items.push(target)?;
-    Ok(Targets::new(items))
 }
 
 /// A list of no target.

@@ -8,8 +8,8 @@ ghost use Rattle.type_attributes.specs.References.{reference_row, typedef_row};
 
 use crate::attributes::{name, type_target};
 use crate::fault::{TypeFault, note_if};
-use crate::labels::{is_unnamed, make_label, one_target};
-use crate::source::SourceType;
+use crate::labels::{is_unnamed, make_label};
+use crate::source::{SourceType, Targets};
 use c_model::kinds::BTF_KIND_TYPEDEF;
 use dw_base::Name;
 use dwarf_forms::FormCtx;
@@ -31,11 +31,10 @@ pub fn reference<'a>(
         (reference_row kind name.entry (sections ctx.now) (given_entry entry.now)).refused) }
 {
     let target = type_target(ctx, entry, least);
-    let targets = one_target(alloc, target)?;
     Ok(SourceType {
         at: entry.at,
         label: make_label(alloc, kind, name, 0),
-        targets,
+        targets: Targets::one(target),
     })
 }
 
@@ -55,10 +54,9 @@ pub fn typedef<'a>(
     let name = name(ctx, entry, least);
     note_if(least, is_unnamed(&name), TypeFault::MissingName(entry.at));
     let target = type_target(ctx, entry, least);
-    let targets = one_target(alloc, target)?;
     Ok(SourceType {
         at: entry.at,
         label: make_label(alloc, BTF_KIND_TYPEDEF, name, 0),
-        targets,
+        targets: Targets::one(target),
     })
 }

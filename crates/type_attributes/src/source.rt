@@ -1,5 +1,5 @@
 //! The types of a unit, as they are given back.
-ghost use Rattle.std.specs.Prelude.{◌≡◌};
+ghost use Rattle.std.specs.Prelude.{◌≡◌, ◌∷◌, []};
 
 use c_model::Label;
 use std::marker::Model;
@@ -15,10 +15,17 @@ pub enum Target {
     Entry { from: u64, to: u128 },
 }
 
+/// How a list of targets is kept. Most types have one target, which takes no memory of its own.
+#[derive(Debug, Drop)]
+enum Kept {
+    One(Target),
+    Many(Vec<Target>),
+}
+
 /// A list of targets. Contracts see it as the list.
 #[derive(Debug, Drop)]
 pub struct Targets {
-    items: Vec<Target>,
+    kept: Kept,
 }
 
 impl Model for Targets {
@@ -27,7 +34,9 @@ impl Model for Targets {
 
     ghost Value = { List Target };
 
-    ghost view = { λ s. s.items.items };
+    ghost use Rattle.type_attributes.specs.Targets.{targets_in};
+
+    ghost view = { λ s. targets_in s.kept };
 }
 
 impl Targets {
@@ -35,7 +44,18 @@ impl Targets {
     pub fn new(items: Vec<Target>) -> Targets
         ensures { result ≡ items.items }
     {
-        Targets { items }
+        Targets {
+            kept: Kept::Many(items),
+        }
+    }
+
+    /// The list of one target.
+    pub fn one(target: Target) -> Targets
+        ensures { result ≡ target ∷ [] }
+    {
+        Targets {
+            kept: Kept::One(target),
+        }
     }
 
     /// The targets as a slice.
@@ -43,14 +63,10 @@ impl Targets {
     pub fn items(&self) -> &[Target]
         ensures { result.now ≡ self.now }
     {
-        self.items.as_slice()
-    }
-
-    /// Gives the targets back, without a copy.
-    pub fn into_items(self) -> Vec<Target>
-        ensures { result.items ≡ self }
-    {
-        self.items
+        match &self.kept {
+            Kept::One(target) => std::slice::from_ref(target),
+            Kept::Many(items) => items.as_slice(),
+        }
     }
 }
 

@@ -84,7 +84,7 @@ returns-clause-complete c = λ s.
       name = n;
       own = c.type_target-own.result;
     }) c.type_target-own.result) (sym c.new.ensures)
-    ∙ sym c.in_ok-made.ensures)
+    ∙ sym c.pointing-made.ensures)
 
 pub returns-clause-pointed : goal.returns-clause-pointed
 returns-clause-pointed c = λ d.

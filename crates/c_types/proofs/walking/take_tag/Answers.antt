@@ -79,8 +79,8 @@ begin-requires-clause-above c = (nested_pop c.pop.new.self.items c.in-Some.last
 pub begin-requires-clause-placed : goal.begin-requires-clause-placed
 begin-requires-clause-placed c =
     closed_placed c.pop.new.self.items c.in-Some.last c.args.reading.now.types.items
-    (slice_set c.args.reading.now.types.items c.in-Some.last.index c.in_ok-made.made)
-    c.in-Some.last.index c.in_ok-made.made refl
+    (slice_set c.args.reading.now.types.items c.in-Some.last.index c.pointing-made.result)
+    c.in-Some.last.index c.pointing-made.result refl
     (subst (ArePlaced (length c.args.reading.now.types.items)) c.in-Some.ensures.items
     c.requires.placed)
 
@@ -97,9 +97,9 @@ returns-clause-types c = λ s es tag.
     (ap (λ (os : List Open). tag_in s.sections (pointed_at os c.args.entry.now.depth)
     (given_entry c.args.entry.now)) (sym items) ∙ tag)
     es c.begin.new.reading.opens.items c.args.reading.now.types.items
-    (slice_set c.args.reading.now.types.items c.in-Some.last.index c.in_ok-made.made)
-    c.begin.new.reading.types.items c.in_ok-made.made
-    (c.in_ok-made.ensures ∙ ap (λ (to : ℕ). pointer_by c.in-Some-kept_pointer.pointer
+    (slice_set c.args.reading.now.types.items c.in-Some.last.index c.pointing-made.result)
+    c.begin.new.reading.types.items c.pointing-made.result
+    (c.pointing-made.ensures ∙ ap (λ (to : ℕ). pointer_by c.in-Some-kept_pointer.pointer
     (Entry c.in-Some-kept_pointer.pointer.at to)) c.from.ensures) refl
     (c.in_ok-begin.ensures.types s (tag_row s.sections c.args.entry.now.at c.args.tag q.own) es
     (tag_comes s c.args.entry.now.at c.args.tag q.own))
