@@ -16,8 +16,6 @@ mod shapes;
 pub mod sizes;
 pub mod slots;
 mod summary;
-#[cfg(test)]
-mod tests;
 pub mod texts;
 
 pub use laws::bits_add_up;

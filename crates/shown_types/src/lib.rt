@@ -10,10 +10,6 @@ pub mod fault;
 pub mod listed;
 mod shared;
 pub mod showing;
-#[cfg(test)]
-mod tests;
-#[cfg(test)]
-mod tests_long;
 
 pub use fault::ShowFault;
 pub use showing::{Style, show};

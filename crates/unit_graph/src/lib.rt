@@ -10,8 +10,6 @@ mod shared;
 pub mod sources;
 pub mod tables;
 pub mod tags;
-#[cfg(test)]
-mod tests;
 
 pub use links::{Out, link_targets};
 pub use pieces::{cut_of, push_moved_rows};

@@ -1,7 +1,7 @@
 use Rattle.std.proofs.Common.{ℕ, ◌<◌, get_or, All}
 use Rattle.c_model.specs.Graph.{IsBelow}
 use Rattle.c_model.specs.declared.graph.CType.{CType}
-use Rattle.shown_types.proofs.tests.are_within.Given as goal
+use Rattle.shown_tests.proofs.fitting.are_within.Given as goal
 
 abbrev pub invariant-loop-t : goal.invariant-loop-t
 invariant-loop-t l =

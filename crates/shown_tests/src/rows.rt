@@ -1,0 +1,88 @@
+//! Tables, made from rows.
+use btf_codec::Table;
+use c_model::{CType, Label, Nodes, Part, Parts, Ref, Refs};
+use dw_base::{Name, Order};
+use std::alloc::{AllocError, Global};
+
+/// A part by its name and its value.
+pub type PartRow<'a> = (&'a [u8], u64);
+
+/// A type by its kind, its name, its flag, its size, its extra word, its parts, and the ids of its
+/// targets, where 0 is void.
+#[derive(Clone, Copy)]
+pub struct Row<'a, 'r>(
+    pub u8,
+    pub &'a [u8],
+    pub bool,
+    pub u32,
+    pub u32,
+    pub &'r [PartRow<'a>],
+    pub &'r [u32],
+);
+
+/// The rows of a table.
+pub type Rows = &'static [Row<'static, 'static>];
+
+/// What an id refers to.
+fn ref_of(id: u32) -> Ref {
+    if id == 0 {
+        Ref::Void
+    } else {
+        Ref::Node(id - 1)
+    }
+}
+
+fn refs_of(alloc: Global, ids: &[u32]) -> Result<Refs, AllocError> {
+    let mut targets = Vec::new(alloc);
+    for id in ids {
+        targets.push(ref_of(*id))?;
+    }
+    Ok(Refs::new(targets))
+}
+
+fn parts_of<'a>(alloc: Global, rows: &[PartRow<'a>]) -> Result<Parts<'a>, AllocError> {
+    let mut parts = Vec::new(alloc);
+    for (name, value) in rows {
+        parts.push(Part {
+            name: Name::new(name),
+            value: *value,
+        })?;
+    }
+    Ok(Parts::new(parts))
+}
+
+/// The type of a row.
+pub fn type_of<'a>(alloc: Global, row: Row<'a, '_>) -> Result<CType<'a>, AllocError> {
+    let Row(kind, name, flag, size, extra, parts, targets) = row;
+    let label = Label {
+        kind,
+        name: Name::new(name),
+        flag,
+        size,
+        extra,
+        parts: parts_of(alloc, parts)?,
+    };
+    Ok(CType {
+        label,
+        targets: refs_of(alloc, targets)?,
+    })
+}
+
+/// The types of rows.
+pub fn types_of<'a>(alloc: Global, rows: &[Row<'a, '_>]) -> Result<Vec<CType<'a>>, AllocError> {
+    let mut types = Vec::new(alloc);
+    for row in rows {
+        types.push(type_of(alloc, *row)?)?;
+    }
+    Ok(types)
+}
+
+/// The table of types, of which so many are a base's.
+pub fn table_of(base: u32, types: Vec<CType<'_>>) -> Table<'_> {
+    Table {
+        order: Order::Little,
+        base,
+        types: Nodes::new(types),
+        names: b"\0",
+    }
+}
