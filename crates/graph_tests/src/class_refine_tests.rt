@@ -3,11 +3,12 @@
 ghost use Rattle.std.specs.Prelude.{◌≡◌, ◌<◌};
 
 use crate::fitting::is_fitting;
-use crate::rows::{
-    ENUM, FWD, INT, Named, PTR, Row, STRUCT, UNION, forwards_of, graph_of, label, node, types_of,
-};
+use crate::rows::{Named, Row, forwards_of, graph_of, label, node, types_of};
 use c_model::CType;
 use c_model::Ref::{Node, Void};
+use c_model::kinds::{
+    BTF_KIND_ENUM, BTF_KIND_FWD, BTF_KIND_INT, BTF_KIND_PTR, BTF_KIND_STRUCT, BTF_KIND_UNION,
+};
 use class_refine::classes;
 use dw_base::Steps;
 use std::alloc::{AllocError, Global};
@@ -24,16 +25,16 @@ const SECOND: &[Named] = &[(b"", 1)];
 
 /// Structures that refer to each other, first through declarations, then defined.
 const THROUGH_DECLARATIONS: &[Row] = &[
-    (STRUCT, b"A", 8, FIRST, &[Node(1)]),
-    (PTR, b"", 0, &[], &[Node(2)]),
-    (FWD, b"B", 0, &[], &[]),
-    (STRUCT, b"B", 8, SECOND, &[Node(4)]),
-    (PTR, b"", 0, &[], &[Node(5)]),
-    (FWD, b"A", 0, &[], &[]),
-    (STRUCT, b"A", 8, FIRST, &[Node(7)]),
-    (PTR, b"", 0, &[], &[Node(8)]),
-    (STRUCT, b"B", 8, SECOND, &[Node(9)]),
-    (PTR, b"", 0, &[], &[Node(6)]),
+    (BTF_KIND_STRUCT, b"A", 8, FIRST, &[Node(1)]),
+    (BTF_KIND_PTR, b"", 0, &[], &[Node(2)]),
+    (BTF_KIND_FWD, b"B", 0, &[], &[]),
+    (BTF_KIND_STRUCT, b"B", 8, SECOND, &[Node(4)]),
+    (BTF_KIND_PTR, b"", 0, &[], &[Node(5)]),
+    (BTF_KIND_FWD, b"A", 0, &[], &[]),
+    (BTF_KIND_STRUCT, b"A", 8, FIRST, &[Node(7)]),
+    (BTF_KIND_PTR, b"", 0, &[], &[Node(8)]),
+    (BTF_KIND_STRUCT, b"B", 8, SECOND, &[Node(9)]),
+    (BTF_KIND_PTR, b"", 0, &[], &[Node(6)]),
 ];
 
 /// Two members of 32 bits.
@@ -41,17 +42,17 @@ const HALVES: &[Named] = &[(b"", 0), (b"", 32)];
 
 /// A declaration with two definitions that differ.
 const TWO_DEFINITIONS: &[Row] = &[
-    (INT, b"int", 4, &[], &[]),
-    (STRUCT, b"B", 8, FIRST, &[Node(0)]),
-    (PTR, b"", 0, &[], &[Node(1)]),
-    (STRUCT, b"A", 8, FIRST, &[Node(2)]),
-    (INT, b"int", 4, &[], &[]),
-    (STRUCT, b"B", 8, HALVES, &[Node(4), Node(4)]),
-    (PTR, b"", 0, &[], &[Node(5)]),
-    (STRUCT, b"A", 8, FIRST, &[Node(6)]),
-    (FWD, b"B", 0, &[], &[]),
-    (PTR, b"", 0, &[], &[Node(8)]),
-    (STRUCT, b"A", 8, FIRST, &[Node(9)]),
+    (BTF_KIND_INT, b"int", 4, &[], &[]),
+    (BTF_KIND_STRUCT, b"B", 8, FIRST, &[Node(0)]),
+    (BTF_KIND_PTR, b"", 0, &[], &[Node(1)]),
+    (BTF_KIND_STRUCT, b"A", 8, FIRST, &[Node(2)]),
+    (BTF_KIND_INT, b"int", 4, &[], &[]),
+    (BTF_KIND_STRUCT, b"B", 8, HALVES, &[Node(4), Node(4)]),
+    (BTF_KIND_PTR, b"", 0, &[], &[Node(5)]),
+    (BTF_KIND_STRUCT, b"A", 8, FIRST, &[Node(6)]),
+    (BTF_KIND_FWD, b"B", 0, &[], &[]),
+    (BTF_KIND_PTR, b"", 0, &[], &[Node(8)]),
+    (BTF_KIND_STRUCT, b"A", 8, FIRST, &[Node(9)]),
 ];
 
 /// Two members of 64 bits.
@@ -59,27 +60,27 @@ const LINKS: &[Named] = &[(b"", 0), (b"", 64)];
 
 /// The same structure with its pointer in two units, and pointers to themselves.
 const IN_TWO_UNITS: &[Row] = &[
-    (STRUCT, b"list_head", 8, LINKS, &[Node(1), Node(1)]),
-    (PTR, b"", 0, &[], &[Node(0)]),
-    (STRUCT, b"list_head", 8, LINKS, &[Node(3), Node(3)]),
-    (PTR, b"", 0, &[], &[Node(2)]),
-    (PTR, b"", 0, &[], &[Node(4)]),
-    (PTR, b"", 0, &[], &[Node(5)]),
+    (BTF_KIND_STRUCT, b"list_head", 8, LINKS, &[Node(1), Node(1)]),
+    (BTF_KIND_PTR, b"", 0, &[], &[Node(0)]),
+    (BTF_KIND_STRUCT, b"list_head", 8, LINKS, &[Node(3), Node(3)]),
+    (BTF_KIND_PTR, b"", 0, &[], &[Node(2)]),
+    (BTF_KIND_PTR, b"", 0, &[], &[Node(4)]),
+    (BTF_KIND_PTR, b"", 0, &[], &[Node(5)]),
 ];
 
 /// An enumeration declared and defined, one more of that name, and a structure declared beside a
 /// union.
 const ENUMERATIONS_AND_UNIONS: &[Row] = &[
-    (ENUM, b"e", 4, &[], &[]),
-    (ENUM, b"e", 4, FIRST, &[]),
-    (FWD, b"t", 0, &[], &[]),
-    (PTR, b"", 0, &[], &[Node(2)]),
-    (STRUCT, b"t", 8, &[], &[]),
-    (UNION, b"t", 8, &[], &[]),
-    (FWD, b"u", 0, &[], &[]),
-    (FWD, b"u", 0, &[], &[]),
-    (UNION, b"u", 4, &[(b"", 3)], &[Void]),
-    (UNION, b"u", 4, &[(b"", 5)], &[Void]),
+    (BTF_KIND_ENUM, b"e", 4, &[], &[]),
+    (BTF_KIND_ENUM, b"e", 4, FIRST, &[]),
+    (BTF_KIND_FWD, b"t", 0, &[], &[]),
+    (BTF_KIND_PTR, b"", 0, &[], &[Node(2)]),
+    (BTF_KIND_STRUCT, b"t", 8, &[], &[]),
+    (BTF_KIND_UNION, b"t", 8, &[], &[]),
+    (BTF_KIND_FWD, b"u", 0, &[], &[]),
+    (BTF_KIND_FWD, b"u", 0, &[], &[]),
+    (BTF_KIND_UNION, b"u", 4, &[(b"", 3)], &[Void]),
+    (BTF_KIND_UNION, b"u", 4, &[(b"", 5)], &[Void]),
 ];
 
 /// Types, and numbers that relate those of one class.
@@ -139,9 +140,9 @@ fn known_graphs_have_their_classes(rt: HostRuntime) -> Result<(), Fail> {
 fn ring(alloc: Global) -> Result<Vec<CType<'static>>, AllocError> {
     let mut types = Vec::new(alloc);
     for i in 0..1000u32 {
-        let structure = label(alloc, STRUCT, b"ring", 8, FIRST)?;
+        let structure = label(alloc, BTF_KIND_STRUCT, b"ring", 8, FIRST)?;
         types.push(node(alloc, structure, &[Node(2 * i + 1)])?)?;
-        let pointer = label(alloc, PTR, b"", 0, &[])?;
+        let pointer = label(alloc, BTF_KIND_PTR, b"", 0, &[])?;
         types.push(node(alloc, pointer, &[Node((2 * i + 2) % 2000)])?)?;
     }
     Ok(types)

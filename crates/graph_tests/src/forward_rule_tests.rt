@@ -1,14 +1,15 @@
 //! A declared structure and its definition, as in C's `struct t; struct t { .. };`.
-use crate::rows::{FWD, PTR, Row, STRUCT, forwards_of, graph_of, types_of};
+use crate::rows::{Row, forwards_of, graph_of, types_of};
 use c_model::Ref;
+use c_model::kinds::{BTF_KIND_FWD, BTF_KIND_PTR, BTF_KIND_STRUCT};
 use forward_rule::FwdIndex;
 use std::test::Fail;
 
 /// A forward, a pointer to it, and a structure of that name.
 const DECLARED_AND_DEFINED: &[Row] = &[
-    (FWD, b"t", 0, &[], &[]),
-    (PTR, b"", 0, &[], &[Ref::Node(0)]),
-    (STRUCT, b"t", 4, &[], &[]),
+    (BTF_KIND_FWD, b"t", 0, &[], &[]),
+    (BTF_KIND_PTR, b"", 0, &[], &[Ref::Node(0)]),
+    (BTF_KIND_STRUCT, b"t", 4, &[], &[]),
 ];
 
 #[test]

@@ -9,26 +9,14 @@ use forward_rule::FwdIndex;
 use std::alloc::{AllocError, Global};
 use std::test::Fail;
 
-// Kinds, as `c_model` numbers them.
-pub const INT: u8 = 1;
-
-pub const PTR: u8 = 2;
-
-pub const STRUCT: u8 = 4;
-
-pub const UNION: u8 = 5;
-
-pub const ENUM: u8 = 6;
-
-pub const FWD: u8 = 7;
-
 /// The most nodes of a graph here.
 const MOST: usize = 4_000_000;
 
 /// A part's name and its value.
 pub type Named = (&'static [u8], u64);
 
-/// A type: its kind, its name, its size in bytes, its parts, and what it refers to.
+/// A type: its kind, as `c_model::kinds` numbers it, its name, its size in bytes, its parts, and what
+/// it refers to.
 pub type Row = (u8, &'static [u8], u32, &'static [Named], &'static [Ref]);
 
 /// The label of a type of this kind.
