@@ -1,5 +1,7 @@
-use Rattle.std.proofs.Common.{refl, ◌∙◌}
+use Rattle.std.proofs.Common.{refl, ◌∙◌, ℕ, ap, subst}
+use Rattle.c_model.specs.Graph.{Shape}
 use Rattle.base_merge.proofs.Nothing.{IsCoarsest-alone}
+use Rattle.split_base.specs.Merged.{IsPartedBy}
 use Rattle.func_merge.proofs.choose.choose_alone.Goals as goal
 
 pub classes_over-requires-sync-R : goal.classes_over-requires-sync-R
@@ -16,3 +18,12 @@ classes_over-requires-sync-R g c κs h =
         ),
       ),
     )
+
+pub returns-clause-chosen : goal.returns-clause-chosen
+returns-clause-chosen g c = record {
+  partition = c.in_ok-found.found;
+  parted = subst
+      (λ (b : ℕ). IsPartedBy (record { base = b; nodes = c.args.protos.now.graph.nodes })
+      c.in_ok-found.found) c.requires.alone c.in_ok-found.ensures.parted;
+  chosen = ap (λ (s : Shape). s.nodes) c.in_ok-graph.ensures.graph;
+}
