@@ -1,29 +1,19 @@
 -- What a walk has ahead of it.
 use Rattle.std.specs.Prelude.{ℕ, ◌≡◌, List, [], Option, None, Some, Result, Ok, Err}
 use Rattle.dwarf_abbrev.specs.Declarations.{Declaration}
-use Rattle.dwarf_forms.specs.Values.{Within, within}
+use Rattle.dwarf_forms.specs.Values.{Within}
 use Rattle.entry_tree.specs.declared.fault.WalkFault.{WalkFault}
-use Rattle.entry_tree.specs.declared.entry.Entry.{Entry}
 use Rattle.entry_tree.specs.declared.walk.Next.{Next}
 use Rattle.entry_tree.specs.declared.unit.Unit.{Unit}
 use Rattle.entry_tree.specs.Contexts.{within_of}
-use Rattle.entry_tree.specs.Reads.{values_at}
-use Rattle.entry_tree.specs.Items.{Given, Coming, with_first, listed, coming_from}
-
-abbrev pub given_entry : Entry → Given
-given_entry e = record {
-  at = e.at;
-  depth = e.depth;
-  tag = e.tag;
-  values = listed (values_at (within e.form.now) e.specs.now e.from);
-}
+use Rattle.entry_tree.specs.Items.{Given, Coming, with_first, coming_from}
 
 -- what was found, and what comes after it
 abbrev pub ahead : Within → List Declaration → ℕ → Result (Option Next) WalkFault → Coming
 ahead c declarations first (Err f) = record { entries = []; ending = Some f }
 ahead c declarations first (Ok None) = record { entries = []; ending = None }
 ahead c declarations first (Ok (Some n)) =
-    with_first (given_entry n.entry) (coming_from c declarations first n.at n.lists)
+    with_first n.entry (coming_from c declarations first n.at n.lists)
 
 -- one step of a walk: the first entry that comes, or what ends the walk
 abbrev pub Steps : Coming → Coming → Result (Option Given) WalkFault → Type 0

@@ -73,7 +73,7 @@ pub fn root(image: &Image<'_>, unit: &Unit, abbrevs: &Abbrevs) -> Result<RootInf
     let base = read_base(unit.offset_bytes, entry.attr(DW_AT_str_offsets_base)?);
     let str_base = at_root(unit, base)?;
     Ok(RootInfo {
-        tag: entry.tag,
+        tag: entry.tag(),
         language,
         str_base,
     })

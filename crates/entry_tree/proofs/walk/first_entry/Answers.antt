@@ -10,11 +10,10 @@ invariant_of-result c =
     let h : Ok (shown_item c.in_ok-abbrev.field-0) ≡ item_at (within c.args.form.now)
     c.args.abbrevs.now c.args.first c.args.first 0 = c.in_ok-abbrev.ensures in
     let p = entry_after (within c.args.form.now) c.args.abbrevs.now c.args.first c.args.first 0
-    (shown c.in-Found.abbrev) c.in-Found.from c.in-Found.field-2 (rw c.in-Found.is at h) in
-    record {
-      context = c.requires;
-      mapped = c.in-Found.abbrev.mapped;
-      read = values_read
+    (shown c.in-Found.abbrev) c.in-Found.from c.in-Found.field-2 (rw c.in-Found.is at h) in (
+      c.requires,
+      c.in-Found.abbrev.mapped,
+      values_read
           (within c.args.form.now) c.in-Found.abbrev.specs.now c.in-Found.from
-          c.in-Found.field-2 p.2;
-    }
+          c.in-Found.field-2 p.2,
+    )

@@ -5,9 +5,10 @@ use Rattle.entry_tree.proofs.entry.Entry.has.Goals as goal
 
 pub returns : goal.returns
 returns c =
+    let e = c.self.inside in
+    rw (← c.self.view_is) (
     c.is_some.ensures
-    ∙ tells_by_first c.args.self.now.specs.now c.args.name
+    ∙ tells_by_first e.specs.now c.args.name
     (record { attribute = 0; form = 0; implicit = pos 0 }) c.first_of.result
     c.first_of.ensures.first c.first_of.ensures.none
-    ∙ sym (has_is (within c.args.self.now.form.now) c.args.self.now.specs.now
-    c.args.self.now.from c.args.name c.args.self.now.read)
+    ∙ sym (has_is (within e.form.now) e.specs.now e.from c.args.name c.self.invariant.2))
