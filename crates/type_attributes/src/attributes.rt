@@ -4,7 +4,6 @@ ghost use Rattle.std.specs.Option.{option_map};
 ghost use Rattle.dwarf_forms.specs.Values.{given as shown, IsContext};
 ghost use Rattle.dwarf_forms.specs.Meanings.{sections, Fits64};
 ghost use Rattle.entry_tree.specs.Reads.{value_with};
-ghost use Rattle.entry_tree.specs.Walks.{given_entry};
 ghost use Rattle.type_attributes.specs.Faults.{noted};
 ghost use Rattle.type_attributes.specs.Attributes.{has, text_asked, name_asked, name_in_full};
 ghost use Rattle.type_attributes.specs.Attributes.{constant_asked, number_said, flag_asked, is_set};
@@ -23,7 +22,7 @@ use entry_tree::Entry;
 /// The first value of an attribute.
 #[inline(always)]
 pub fn attribute<'a>(entry: &Entry<'_, 'a>, name: u64) -> Option<Given<'a>>
-    ensures { option_map shown result ≡ value_with name (given_entry entry.now).values }
+    ensures { option_map shown result ≡ value_with name entry.now.values }
 {
     match entry.attr(name) {
         Ok(found) => found,
@@ -34,23 +33,23 @@ pub fn attribute<'a>(entry: &Entry<'_, 'a>, name: u64) -> Option<Given<'a>>
 /// Whether an entry has an attribute. Its abbreviation tells, so no value is read.
 #[inline(always)]
 pub fn is_given(entry: &Entry<'_, '_>, name: u64) -> bool
-    ensures { result ≡ has name (given_entry entry.now) }
+    ensures { result ≡ has name entry.now }
 {
     entry.has(name)
 }
 
 /// What a constant says.
 pub fn constant(entry: &Entry<'_, '_>, name: u64, least: &mut Option<TypeFault>) -> Option<i128>
-    ensures said { result ≡ (constant_asked name (given_entry entry.now)).said }
+    ensures said { result ≡ (constant_asked name entry.now).said }
     ensures small { IfSome result Fits64 }
-    ensures noted { least.new ≡ noted least.old (constant_asked name (given_entry entry.now)).refused }
+    ensures noted { least.new ≡ noted least.old (constant_asked name entry.now).refused }
 {
     match attribute(entry, name) {
         None => None,
         Some(given) => match constant_of(name, &given) {
             Ok(z) => Some(z),
             Err(fault) => {
-                note(least, TypeFault::Form(entry.at, fault));
+                note(least, TypeFault::Form(entry.at(), fault));
                 None
             }
         },
@@ -59,15 +58,15 @@ pub fn constant(entry: &Entry<'_, '_>, name: u64, least: &mut Option<TypeFault>)
 
 /// Whether a flag is given and true.
 pub fn flag(entry: &Entry<'_, '_>, name: u64, least: &mut Option<TypeFault>) -> bool
-    ensures said { result ≡ is_set (flag_asked name (given_entry entry.now)) }
-    ensures noted { least.new ≡ noted least.old (flag_asked name (given_entry entry.now)).refused }
+    ensures said { result ≡ is_set (flag_asked name entry.now) }
+    ensures noted { least.new ≡ noted least.old (flag_asked name entry.now).refused }
 {
     match attribute(entry, name) {
         None => false,
         Some(given) => match flag_of(name, &given) {
             Ok(set) => set,
             Err(fault) => {
-                note(least, TypeFault::Form(entry.at, fault));
+                note(least, TypeFault::Form(entry.at(), fault));
                 false
             }
         },
@@ -82,16 +81,16 @@ pub fn text<'a>(
     least: &mut Option<TypeFault>,
 ) -> Name<'a>
     requires { IsContext ctx.now }
-    ensures said { result ≡ name_in_full (text_asked name (sections ctx.now) (given_entry entry.now)) }
+    ensures said { result ≡ name_in_full (text_asked name (sections ctx.now) entry.now) }
     ensures noted { least.new
-        ≡ noted least.old (text_asked name (sections ctx.now) (given_entry entry.now)).refused }
+        ≡ noted least.old (text_asked name (sections ctx.now) entry.now).refused }
 {
     match attribute(entry, name) {
         None => Name::new(&[]),
         Some(given) => match name_of(ctx, name, &given) {
             Ok(found) => found,
             Err(fault) => {
-                note(least, TypeFault::Form(entry.at, fault));
+                note(least, TypeFault::Form(entry.at(), fault));
                 Name::new(&[])
             }
         },
@@ -101,9 +100,9 @@ pub fn text<'a>(
 /// The name of an entry; the empty one where it has none.
 pub fn name<'a>(ctx: &FormCtx<'a>, entry: &Entry<'_, 'a>, least: &mut Option<TypeFault>) -> Name<'a>
     requires { IsContext ctx.now }
-    ensures said { result ≡ name_in_full (name_asked (sections ctx.now) (given_entry entry.now)) }
+    ensures said { result ≡ name_in_full (name_asked (sections ctx.now) entry.now) }
     ensures noted { least.new
-        ≡ noted least.old (name_asked (sections ctx.now) (given_entry entry.now)).refused }
+        ≡ noted least.old (name_asked (sections ctx.now) entry.now).refused }
 {
     text(ctx, entry, DW_AT_name, least)
 }
@@ -114,17 +113,20 @@ pub fn type_target(
     entry: &Entry<'_, '_>,
     least: &mut Option<TypeFault>,
 ) -> Target
-    ensures said { result ≡ target_of_type (given_entry entry.now).at
-        (target_asked (sections ctx.now) (given_entry entry.now)) }
+    ensures said { result ≡ target_of_type entry.now.at
+        (target_asked (sections ctx.now) entry.now) }
     ensures noted { least.new
-        ≡ noted least.old (target_asked (sections ctx.now) (given_entry entry.now)).refused }
+        ≡ noted least.old (target_asked (sections ctx.now) entry.now).refused }
 {
     match attribute(entry, DW_AT_type) {
         None => Target::Void,
         Some(given) => match target_of(ctx, DW_AT_type, &given) {
-            Ok(to) => Target::Entry { from: entry.at, to },
+            Ok(to) => Target::Entry {
+                from: entry.at(),
+                to,
+            },
             Err(fault) => {
-                note(least, TypeFault::Form(entry.at, fault));
+                note(least, TypeFault::Form(entry.at(), fault));
                 Target::Void
             }
         },
@@ -133,7 +135,7 @@ pub fn type_target(
 
 /// The offset in `.debug_info` of the type that an entry refers to, where it refers to one.
 pub fn target_said(ctx: &FormCtx<'_>, entry: &Entry<'_, '_>) -> Option<u128>
-    ensures { result ≡ (target_asked (sections ctx.now) (given_entry entry.now)).said }
+    ensures { result ≡ (target_asked (sections ctx.now) entry.now).said }
 {
     match attribute(entry, DW_AT_type) {
         None => None,
@@ -150,16 +152,16 @@ pub fn offset(
     name: u64,
     least: &mut Option<TypeFault>,
 ) -> Option<Option<i128>>
-    ensures said { result ≡ (offset_asked name (given_entry entry.now)).said }
+    ensures said { result ≡ (offset_asked name entry.now).said }
     ensures small { IfSome result (λ o. IfSome o Fits64) }
-    ensures noted { least.new ≡ noted least.old (offset_asked name (given_entry entry.now)).refused }
+    ensures noted { least.new ≡ noted least.old (offset_asked name entry.now).refused }
 {
     match attribute(entry, name) {
         None => None,
         Some(given) => match byte_offset_of(name, &given) {
             Ok(found) => Some(found),
             Err(fault) => {
-                note(least, TypeFault::Form(entry.at, fault));
+                note(least, TypeFault::Form(entry.at(), fault));
                 None
             }
         },
@@ -172,8 +174,8 @@ pub fn signed_constant(
     name: u64,
     least: &mut Option<TypeFault>,
 ) -> Option<Number>
-    ensures said { result ≡ number_said (constant_asked name (given_entry entry.now)) }
-    ensures noted { least.new ≡ noted least.old (constant_asked name (given_entry entry.now)).refused }
+    ensures said { result ≡ number_said (constant_asked name entry.now) }
+    ensures noted { least.new ≡ noted least.old (constant_asked name entry.now).refused }
 {
     match constant(entry, name, least) {
         Some(z) => Some(by_sign(z)),

@@ -2,7 +2,6 @@
 ghost use Rattle.std.specs.Prelude.{◌≡◌, ◌≤◌, IsTrue};
 ghost use Rattle.dwarf_forms.specs.Values.{IsContext};
 ghost use Rattle.dwarf_forms.specs.Meanings.{sections};
-ghost use Rattle.entry_tree.specs.Walks.{given_entry};
 ghost use Rattle.type_attributes.specs.Faults.{noted};
 ghost use Rattle.type_attributes.specs.BaseTypes.{is_integer, is_float, base_of, code_in, is_whole};
 ghost use Rattle.type_attributes.specs.BaseTypes.{is_signed, is_unsigned, int_word};
@@ -146,19 +145,19 @@ pub fn base_type<'a>(
     least: &mut Option<TypeFault>,
 ) -> SourceType<'a>
     requires { IsContext ctx.now }
-    ensures made { result ≡ (base_row (sections ctx.now) (given_entry entry.now)).made }
+    ensures made { result ≡ (base_row (sections ctx.now) entry.now).made }
     ensures noted { least.new
-        ≡ noted least.old (base_row (sections ctx.now) (given_entry entry.now)).refused }
+        ≡ noted least.old (base_row (sections ctx.now) entry.now).refused }
 {
     let name = name(ctx, entry, least);
-    note_if(least, is_unnamed(&name), TypeFault::MissingName(entry.at));
+    note_if(least, is_unnamed(&name), TypeFault::MissingName(entry.at()));
     let size = constant(entry, DW_AT_byte_size, least);
-    note_size(least, entry.at, size);
+    note_size(least, entry.at(), size);
     let encoding = signed_constant(entry, DW_AT_encoding, least);
     let bits = signed_constant(entry, DW_AT_bit_size, least);
     let size = given_size(size);
     SourceType {
-        at: entry.at,
+        at: entry.at(),
         label: base_type_label(alloc, name, size, base_from(size, encoding, bits)),
         targets: no_targets(alloc),
     }
@@ -172,13 +171,13 @@ pub fn unspecified_type<'a>(
     least: &mut Option<TypeFault>,
 ) -> SourceType<'a>
     requires { IsContext ctx.now }
-    ensures made { result ≡ (unspecified_row (sections ctx.now) (given_entry entry.now)).made }
+    ensures made { result ≡ (unspecified_row (sections ctx.now) entry.now).made }
     ensures noted { least.new
-        ≡ noted least.old (unspecified_row (sections ctx.now) (given_entry entry.now)).refused }
+        ≡ noted least.old (unspecified_row (sections ctx.now) entry.now).refused }
 {
     let name = name(ctx, entry, least);
     SourceType {
-        at: entry.at,
+        at: entry.at(),
         label: make_label(alloc, BTF_KIND_STRUCT, name, 0),
         targets: no_targets(alloc),
     }

@@ -4,7 +4,6 @@
 ghost use Rattle.std.specs.Prelude.{◌≡◌, ◌++◌, ◌<◌, OnOk, IfOk};
 ghost use Rattle.std.specs.List.Sorted.{IsNonDecreasingBy};
 ghost use Rattle.dwarf_forms.specs.Meanings.{sections};
-ghost use Rattle.entry_tree.specs.Walks.{given_entry};
 ghost use Rattle.type_attributes.specs.Extents.{stands_for_another, extent_of, bytes_after};
 ghost use Rattle.type_attributes.specs.Extents.{most_followed};
 ghost use Rattle.type_attributes.specs.Rows.{row_if, rows_of, extent_in};
@@ -60,7 +59,7 @@ fn is_followed(tag: u64) -> bool
 
 /// What an entry says.
 fn read_extent(form: &FormCtx<'_>, entry: &Entry<'_, '_>) -> Extent
-    ensures { result ≡ extent_of (sections form.now) (given_entry entry.now) }
+    ensures { result ≡ extent_of (sections form.now) entry.now }
 {
     if is_given(entry, DW_AT_byte_size) {
         // a value of the wrong class says nothing here
@@ -70,7 +69,7 @@ fn read_extent(form: &FormCtx<'_>, entry: &Entry<'_, '_>) -> Extent
             None => Extent::Unknown,
         };
     }
-    if !is_followed(entry.tag) {
+    if !is_followed(entry.tag()) {
         return Extent::Unknown;
     }
     match target_said(form, entry) {
@@ -104,7 +103,7 @@ pub fn read_extents(
     let mut rows = Vec::new(alloc);
     'entries: loop {
         match walk.next() {
-            Ok(Some(entry)) => push_row(&mut rows, entry.at, read_extent(form, &entry))?,
+            Ok(Some(entry)) => push_row(&mut rows, entry.at(), read_extent(form, &entry))?,
             _ => return Ok(Extents { rows }),
         }
     }

@@ -3,7 +3,6 @@ ghost use Rattle.std.specs.Prelude.{◌≡◌, ◌≤◌, ◌<ℤ◌, ◌≤ℤ�
 ghost use Rattle.std.specs.Prelude.{IfSome, false, true};
 ghost use Rattle.dwarf_forms.specs.Meanings.{Fits64};
 ghost use Rattle.entry_tree.specs.Rising.{Rises};
-ghost use Rattle.entry_tree.specs.Walks.{given_entry};
 ghost use Rattle.type_attributes.specs.Scopes.{scope};
 ghost use Rattle.type_attributes.specs.Faults.{noted};
 ghost use Rattle.type_attributes.specs.Attributes.{has, constant_asked, offset_asked};
@@ -77,7 +76,7 @@ fn place_by_bytes(
 
 /// Whether a member stands in a storage from which its bits are counted.
 fn stands_in_storage(ctx: &UnitCtx<'_, '_>, member: &Entry<'_, '_>) -> bool
-    ensures { result ≡ is_stored (scope ctx.now) (given_entry member.now) }
+    ensures { result ≡ is_stored (scope ctx.now) member.now }
 {
     ctx.version == 4 && is_given(member, DW_AT_bit_offset) && is_given(member, DW_AT_bit_size)
 }
@@ -95,8 +94,8 @@ fn constant_offset(bytes: Option<Option<i128>>) -> Option<Number>
 
 /// The bytes before the storage of a member; none where they are computed at run time.
 fn location(member: &Entry<'_, '_>, least: &mut Option<TypeFault>) -> Option<Number>
-    ensures said { result ≡ location_in (given_entry member.now) }
-    ensures noted { least.new ≡ noted least.old (offset_asked 0x38 (given_entry member.now)).refused }
+    ensures said { result ≡ location_in member.now }
+    ensures noted { least.new ≡ noted least.old (offset_asked 0x38 member.now).refused }
 {
     let bytes = offset(member, DW_AT_data_member_location, least);
     if is_given(member, DW_AT_data_member_location) {
@@ -126,10 +125,10 @@ fn storage(
     member: &Entry<'_, '_>,
     least: &mut Option<TypeFault>,
 ) -> Option<Number>
-    requires { has 0x0b (given_entry member.now) ≡ false
+    requires { has 0x0b member.now ≡ false
         → AreKnown (scope ctx.now) ctx.now.extents }
-    ensures said { result ≡ storage_in (scope ctx.now) (given_entry member.now) }
-    ensures noted { least.new ≡ noted least.old (constant_asked 0x0b (given_entry member.now)).refused }
+    ensures said { result ≡ storage_in (scope ctx.now) member.now }
+    ensures noted { least.new ≡ noted least.old (constant_asked 0x0b member.now).refused }
 {
     if is_given(member, DW_AT_byte_size) {
         return signed_constant(member, DW_AT_byte_size, least);
@@ -196,12 +195,12 @@ fn first_in_storage(
     member: &Entry<'_, '_>,
     least: &mut Option<TypeFault>,
 ) -> Option<i128>
-    requires { is_little ctx.now.form.order ≡ true → has 0x0b (given_entry member.now) ≡ false
+    requires { is_little ctx.now.form.order ≡ true → has 0x0b member.now ≡ false
         → AreKnown (scope ctx.now) ctx.now.extents }
-    ensures said { result ≡ first_bit ctx.now.form.order (scope ctx.now) (given_entry member.now) }
+    ensures said { result ≡ first_bit ctx.now.form.order (scope ctx.now) member.now }
     ensures noted { least.new ≡ noted least.old ((offset_asked 0x38
-        (given_entry member.now)).refused ++ ((constant_asked 0x0c (given_entry member.now)).refused
-        ++ storage_refused ctx.now.form.order (given_entry member.now))) }
+        member.now).refused ++ ((constant_asked 0x0c member.now).refused
+        ++ storage_refused ctx.now.form.order member.now)) }
 {
     let location = location(member, least);
     let offset = signed_constant(member, DW_AT_bit_offset, least);
@@ -224,23 +223,23 @@ pub fn position(
     member: &Entry<'_, '_>,
     least: &mut Option<TypeFault>,
 ) -> Option<u128>
-    requires member { (given_entry member.now).tag ≡ 0x0d }
-    requires ready { IsReady ctx.now (given_entry member.now) }
-    ensures said { result ≡ (position_of (scope ctx.now) (given_entry member.now)).said }
+    requires member { member.now.tag ≡ 0x0d }
+    requires ready { IsReady ctx.now member.now }
+    ensures said { result ≡ (position_of (scope ctx.now) member.now).said }
     ensures noted { least.new
-        ≡ noted least.old (position_of (scope ctx.now) (given_entry member.now)).refused }
+        ≡ noted least.old (position_of (scope ctx.now) member.now).refused }
 {
     if is_given(member, DW_AT_data_bit_offset) {
         let bits = signed_constant(member, DW_AT_data_bit_offset, least);
-        return place_by_bits(member.at, bits, least);
+        return place_by_bits(member.at(), bits, least);
     }
     if stands_in_storage(ctx, member) {
         let bits = first_in_storage(ctx, member, least);
-        return count(member.at, bits, least);
+        return count(member.at(), bits, least);
     }
     let bytes = offset(member, DW_AT_data_member_location, least);
     place_by_bytes(
-        member.at,
+        member.at(),
         is_given(member, DW_AT_data_member_location),
         bytes,
         least,
@@ -259,9 +258,9 @@ fn counts_back(order: Order) -> bool
 
 /// Whether the place of a member is found by what other entries say of their extents.
 fn needs_others(ctx: &UnitCtx<'_, '_>, member: &Entry<'_, '_>) -> bool
-    ensures { result ≡ needs_extents (scope ctx.now) (given_entry member.now) }
+    ensures { result ≡ needs_extents (scope ctx.now) member.now }
 {
-    member.tag == DW_TAG_member
+    member.tag() == DW_TAG_member
         && stands_in_storage(ctx, member)
         && !is_given(member, DW_AT_data_bit_offset)
         && !is_given(member, DW_AT_byte_size)
@@ -281,7 +280,7 @@ pub fn prepare(
     ensures version { OnOk result (ctx.new.version ≡ ctx.old.version) }
     ensures start { OnOk result (ctx.new.start ≡ ctx.old.start) }
     ensures known { OnOk result (IfSome ctx.new.extents (λ x. SayExtents (scope ctx.new) x.rows.items)) }
-    ensures ready { OnOk result (IsReady ctx.new (given_entry entry.now)) }
+    ensures ready { OnOk result (IsReady ctx.new entry.now) }
 {
     if ctx.extents.is_some() || !needs_others(ctx, entry) {
         return Ok(());

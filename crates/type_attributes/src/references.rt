@@ -2,7 +2,6 @@
 ghost use Rattle.std.specs.Prelude.{◌≡◌, IfOk, OnOk};
 ghost use Rattle.dwarf_forms.specs.Values.{IsContext};
 ghost use Rattle.dwarf_forms.specs.Meanings.{sections};
-ghost use Rattle.entry_tree.specs.Walks.{given_entry};
 ghost use Rattle.type_attributes.specs.Faults.{noted};
 ghost use Rattle.type_attributes.specs.References.{reference_row, typedef_row};
 
@@ -26,13 +25,13 @@ pub fn reference<'a>(
     least: &mut Option<TypeFault>,
 ) -> Result<SourceType<'a>, AllocError>
     ensures made { IfOk result
-        (λ t. t ≡ (reference_row kind name.entry (sections ctx.now) (given_entry entry.now)).made) }
+        (λ t. t ≡ (reference_row kind name.entry (sections ctx.now) entry.now).made) }
     ensures noted { OnOk result (least.new ≡ noted least.old
-        (reference_row kind name.entry (sections ctx.now) (given_entry entry.now)).refused) }
+        (reference_row kind name.entry (sections ctx.now) entry.now).refused) }
 {
     let target = type_target(ctx, entry, least);
     Ok(SourceType {
-        at: entry.at,
+        at: entry.at(),
         label: make_label(alloc, kind, name, 0),
         targets: Targets::one(target),
     })
@@ -47,15 +46,15 @@ pub fn typedef<'a>(
     least: &mut Option<TypeFault>,
 ) -> Result<SourceType<'a>, AllocError>
     requires { IsContext ctx.now }
-    ensures made { IfOk result (λ t. t ≡ (typedef_row (sections ctx.now) (given_entry entry.now)).made) }
+    ensures made { IfOk result (λ t. t ≡ (typedef_row (sections ctx.now) entry.now).made) }
     ensures noted { OnOk result (least.new
-        ≡ noted least.old (typedef_row (sections ctx.now) (given_entry entry.now)).refused) }
+        ≡ noted least.old (typedef_row (sections ctx.now) entry.now).refused) }
 {
     let name = name(ctx, entry, least);
-    note_if(least, is_unnamed(&name), TypeFault::MissingName(entry.at));
+    note_if(least, is_unnamed(&name), TypeFault::MissingName(entry.at()));
     let target = type_target(ctx, entry, least);
     Ok(SourceType {
-        at: entry.at,
+        at: entry.at(),
         label: make_label(alloc, BTF_KIND_TYPEDEF, name, 0),
         targets: Targets::one(target),
     })
