@@ -2,7 +2,6 @@
 ghost use Rattle.std.specs.Prelude.{◌≡◌, ◌*◌, ◌^◌, [], ◌∷◌, min, IfOk};
 ghost use Rattle.dwarf_forms.specs.Meanings.{sections};
 ghost use Rattle.entry_tree.specs.Reads.{value_with};
-ghost use Rattle.entry_tree.specs.Walks.{given_entry};
 ghost use Rattle.type_attributes.specs.Scopes.{scope};
 ghost use Rattle.c_types.specs.Taking.{made_if};
 ghost use Rattle.c_types.specs.Arrays.{bound_in, length_of_count, length_of_bound, subrange_length};
@@ -41,7 +40,7 @@ pub(crate) struct Lengths {
 
 /// A bound that is a constant.
 fn bound(entry: &Entry<'_, '_>, name: u64) -> Option<Number>
-    ensures { result ≡ bound_in name (value_with name (given_entry entry.now).values) }
+    ensures { result ≡ bound_in name (value_with name entry.now.values) }
 {
     match attribute(entry, name) {
         None => None,
@@ -82,7 +81,7 @@ fn bound_length(bound: Option<Number>) -> Option<u64>
 
 /// The length of a subrange; `None` where it is negative.
 fn length(entry: &Entry<'_, '_>) -> Option<u64>
-    ensures { result ≡ subrange_length (given_entry entry.now) }
+    ensures { result ≡ subrange_length entry.now }
 {
     if is_given(entry, DW_AT_count) {
         count_length(bound(entry, DW_AT_count))
@@ -123,9 +122,9 @@ fn with_length(lengths: Lengths, length: Option<u64>) -> Lengths
 
 /// One child more.
 fn with_child(lengths: Lengths, child: &Entry<'_, '_>) -> Lengths
-    ensures { result ≡ extended lengths (made_if 0x21 subrange_length (given_entry child.now)) }
+    ensures { result ≡ extended lengths (made_if 0x21 subrange_length child.now) }
 {
-    if child.tag == DW_TAG_subrange_type {
+    if child.tag() == DW_TAG_subrange_type {
         with_length(lengths, length(child))
     } else {
         lengths
@@ -165,7 +164,7 @@ fn two_targets(alloc: Global, target: Target) -> Result<Targets, AllocError>
 /// A child of an open array.
 pub(crate) fn meet_array(child: &Entry<'_, '_>, parent: &mut OpenArray)
     ensures lengths { parent.new.lengths
-        ≡ extended parent.old.lengths (made_if 0x21 subrange_length (given_entry child.now)) }
+        ≡ extended parent.old.lengths (made_if 0x21 subrange_length child.now) }
     ensures at { parent.new.at ≡ parent.old.at }
     ensures target { parent.new.target ≡ parent.old.target }
     ensures least { parent.new.least ≡ parent.old.least }
@@ -206,17 +205,18 @@ pub(crate) fn complete_array<'a>(
 #[tactic(auto, using(type_attributes::proofs::Noting::noted_append))]
 pub(crate) fn open_array(ctx: &UnitCtx<'_, '_>, entry: &Entry<'_, '_>) -> OpenArray
     ensures { ComesTo (scope ctx.now) (Array result)
-        (array_row (sections ctx.now.form) (given_entry entry.now)) }
+        (array_row (sections ctx.now.form) entry.now) }
 {
+    let at = entry.at();
     let mut found = None;
     let target = type_target(&ctx.form, entry, &mut found);
     note_if(
         &mut found,
         !is_given(entry, DW_AT_type),
-        TypeFault::MissingType(entry.at),
+        TypeFault::MissingType(at),
     );
     OpenArray {
-        at: entry.at,
+        at,
         target,
         lengths: Lengths {
             product: 1,

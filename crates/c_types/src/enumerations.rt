@@ -3,7 +3,6 @@ ghost use Rattle.std.specs.Prelude.{◌≡◌, ◌++◌, [], ◌∷◌, ◌||◌
 ghost use Rattle.std.specs.Prelude.{OnOk, IfSome};
 ghost use Rattle.dwarf_forms.specs.Values.{IsContext};
 ghost use Rattle.dwarf_forms.specs.Meanings.{Sections, sections, Fits64};
-ghost use Rattle.entry_tree.specs.Walks.{given_entry};
 ghost use Rattle.type_attributes.specs.Scopes.{scope};
 ghost use Rattle.type_attributes.specs.Faults.{noted};
 ghost use Rattle.type_attributes.specs.Labels.{is_empty};
@@ -122,13 +121,13 @@ fn meet_enumerator<'a>(
     requires { IsContext ctx.now }
     ensures has_some { OnOk result (parent.new.has_some ≡ true) }
     ensures has_negative { OnOk result (parent.new.has_negative
-        ≡ (parent.old.has_negative || is_negative (given_entry enumerator.now))) }
+        ≡ (parent.old.has_negative || is_negative enumerator.now)) }
     ensures parts { OnOk result (parent.new.parts.items ≡ parent.old.parts.items
-        ++ enumerator_part (sections ctx.now) parent.old.wide (given_entry enumerator.now) ∷ []) }
+        ++ enumerator_part (sections ctx.now) parent.old.wide enumerator.now ∷ []) }
     ensures unsigned { OnOk result (parent.new.unsigned ≡ noted parent.old.unsigned (enumerator_refused
-        (sections ctx.now) parent.old.wide false (given_entry enumerator.now))) }
+        (sections ctx.now) parent.old.wide false enumerator.now)) }
     ensures signed { OnOk result (parent.new.signed ≡ noted parent.old.signed
-        (enumerator_refused (sections ctx.now) parent.old.wide true (given_entry enumerator.now))) }
+        (enumerator_refused (sections ctx.now) parent.old.wide true enumerator.now)) }
     ensures bare { OnOk result (parent.new.bare ≡ parent.old.bare) }
     ensures at { OnOk result (parent.new.at ≡ parent.old.at) }
     ensures name { OnOk result (parent.new.name ≡ parent.old.name) }
@@ -140,14 +139,14 @@ fn meet_enumerator<'a>(
     note_if(
         &mut found,
         is_unnamed(&name),
-        TypeFault::MissingName(enumerator.at),
+        TypeFault::MissingName(enumerator.at()),
     );
     let value = signed_constant(enumerator, DW_AT_const_value, &mut found);
     let wide = parent.wide;
     parent.unsigned = join(parent.unsigned, found);
-    note_value(&mut parent.unsigned, enumerator.at, wide, false, value);
+    note_value(&mut parent.unsigned, enumerator.at(), wide, false, value);
     parent.signed = join(parent.signed, found);
-    note_value(&mut parent.signed, enumerator.at, wide, true, value);
+    note_value(&mut parent.signed, enumerator.at(), wide, true, value);
     parent.has_some = true;
     parent.has_negative = parent.has_negative || is_below_zero(value);
     parent.parts.push(Part {
@@ -165,9 +164,9 @@ pub(crate) fn meet_enumeration<'a>(
 ) -> Result<(), AllocError>
     requires { IsContext ctx.now }
     ensures { OnOk result
-        (GathersEnumerator (sections ctx.now) (given_entry child.now) parent.old parent.new) }
+        (GathersEnumerator (sections ctx.now) child.now parent.old parent.new) }
 {
-    if child.tag == DW_TAG_enumerator {
+    if child.tag() == DW_TAG_enumerator {
         return meet_enumerator(ctx, child, parent);
     }
     Ok(())
@@ -275,19 +274,20 @@ pub(crate) fn open_enumeration<'a>(
     declared: Option<TypeFault>,
 ) -> OpenEnumeration<'a>
     requires context { IsContext ctx.now.form }
-    requires defined { is_set (flag_asked 0x3c (given_entry entry.now)) ≡ false }
-    requires declared { declared ≡ noted None (flag_asked 0x3c (given_entry entry.now)).refused }
+    requires defined { is_set (flag_asked 0x3c entry.now) ≡ false }
+    requires declared { declared ≡ noted None (flag_asked 0x3c entry.now).refused }
     ensures { ComesTo (scope ctx.now) (Enumeration result)
-        (enumeration_row (sections ctx.now.form) (given_entry entry.now)) }
+        (enumeration_row (sections ctx.now.form) entry.now) }
 {
+    let at = entry.at();
     let mut bare = declared;
     let name = name(&ctx.form, entry, &mut bare);
     let mut found = bare;
     let size = constant(entry, DW_AT_byte_size, &mut found);
-    note_enum_size(&mut found, entry.at, size);
+    note_enum_size(&mut found, at, size);
     let size = given_size(size);
     OpenEnumeration {
-        at: entry.at,
+        at,
         name,
         size,
         wide: size == 8,
@@ -310,19 +310,19 @@ pub(crate) fn declared_enumeration<'a>(
 ) -> SourceType<'a>
     requires context { IsContext ctx.now }
     ensures made { result ≡ (bare_row (name_in_full (name_asked (sections ctx.now)
-        (given_entry entry.now))) (given_entry entry.now) true).made }
+        entry.now)) entry.now true).made }
     ensures noted { least.new ≡ noted least.old ((name_asked (sections ctx.now)
-        (given_entry entry.now)).refused ++ (bare_row (name_in_full (name_asked (sections ctx.now)
-        (given_entry entry.now))) (given_entry entry.now) true).refused) }
+        entry.now).refused ++ (bare_row (name_in_full (name_asked (sections ctx.now)
+        entry.now)) entry.now true).refused) }
 {
     let name = name(ctx, entry, least);
     note_if(
         least,
         is_unnamed(&name),
-        TypeFault::UnnamedForward(entry.at),
+        TypeFault::UnnamedForward(entry.at()),
     );
     SourceType {
-        at: entry.at,
+        at: entry.at(),
         label: make_enumeration(false, name, false, 4, Parts::new(Vec::new(alloc))),
         targets: no_targets(alloc),
     }

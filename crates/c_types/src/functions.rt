@@ -2,7 +2,6 @@
 ghost use Rattle.std.specs.Prelude.{◌≡◌, ◌++◌, [], ◌∷◌, ◌||◌, ◌==◌, OnOk, IfOk};
 ghost use Rattle.dwarf_forms.specs.Values.{IsContext};
 ghost use Rattle.dwarf_forms.specs.Meanings.{Sections, sections};
-ghost use Rattle.entry_tree.specs.Walks.{given_entry};
 ghost use Rattle.type_attributes.specs.Scopes.{scope};
 ghost use Rattle.type_attributes.specs.Faults.{noted};
 ghost use Rattle.c_types.specs.Functions.{parameter_part, parameter_target, parameter_refused};
@@ -33,12 +32,12 @@ fn meet_parameter<'a>(
 ) -> Result<(), AllocError>
     requires { IsContext ctx.now }
     ensures parts { OnOk result (parent.new.parts.items ≡ parent.old.parts.items
-        ++ parameter_part (sections ctx.now) (given_entry child.now) ∷ []) }
+        ++ parameter_part (sections ctx.now) child.now ∷ []) }
     ensures targets { OnOk result (parent.new.targets.items ≡ parent.old.targets.items
-        ++ parameter_target (sections ctx.now) (given_entry child.now) ∷ []) }
+        ++ parameter_target (sections ctx.now) child.now ∷ []) }
     ensures variadic { OnOk result (parent.new.variadic ≡ parent.old.variadic) }
     ensures least { OnOk result (parent.new.least
-        ≡ noted parent.old.least (parameter_refused (sections ctx.now) (given_entry child.now))) }
+        ≡ noted parent.old.least (parameter_refused (sections ctx.now) child.now)) }
     ensures at { OnOk result (parent.new.at ≡ parent.old.at) }
 {
     let name = name(ctx, child, &mut parent.least);
@@ -46,7 +45,7 @@ fn meet_parameter<'a>(
     note_if(
         &mut parent.least,
         !is_given(child, DW_AT_type),
-        TypeFault::MissingType(child.at),
+        TypeFault::MissingType(child.at()),
     );
     parent.parts.push(Part { name, value: 0 })?;
     parent.targets.push(target)?;
@@ -61,12 +60,12 @@ pub(crate) fn meet_function<'a>(
 ) -> Result<(), AllocError>
     requires { IsContext ctx.now }
     ensures { OnOk result
-        (GathersParameter (sections ctx.now) (given_entry child.now) parent.old parent.new) }
+        (GathersParameter (sections ctx.now) child.now parent.old parent.new) }
 {
-    if child.tag == DW_TAG_formal_parameter {
+    if child.tag() == DW_TAG_formal_parameter {
         return meet_parameter(ctx, child, parent);
     }
-    if child.tag == DW_TAG_unspecified_parameters {
+    if child.tag() == DW_TAG_unspecified_parameters {
         parent.variadic = true;
     }
     Ok(())
@@ -132,14 +131,14 @@ pub fn open_function<'a>(
 ) -> Result<OpenFunction<'a>, AllocError>
     requires { IsContext ctx.now.form }
     ensures { IfOk result (λ o. ComesTo (scope ctx.now) (Function o)
-        (function_row (sections ctx.now.form) (given_entry entry.now))) }
+        (function_row (sections ctx.now.form) entry.now)) }
 {
     let mut found = None;
     let target = type_target(&ctx.form, entry, &mut found);
     let mut targets = Vec::new(alloc);
     targets.push(target)?;
     Ok(OpenFunction {
-        at: entry.at,
+        at: entry.at(),
         parts: Vec::new(alloc),
         targets,
         variadic: false,

@@ -4,7 +4,6 @@ ghost use Rattle.std.specs.Prelude.{if◌then◌else◌};
 ghost use Rattle.std.specs.Str.{bytes_eq};
 ghost use Rattle.dwarf_forms.specs.Values.{IsContext};
 ghost use Rattle.dwarf_forms.specs.Meanings.{Sections, sections};
-ghost use Rattle.entry_tree.specs.Walks.{given_entry};
 ghost use Rattle.type_attributes.specs.Faults.{noted};
 ghost use Rattle.type_attributes.specs.Attributes.{name_asked, name_in_full};
 ghost use Rattle.c_types.specs.Pointers.{is_type_tag, tag_asked, tag_refused, annotation_refused};
@@ -93,19 +92,19 @@ fn read_tag<'a>(
     least: &mut Option<TypeFault>,
 ) -> Option<Name<'a>>
     requires context { IsContext ctx.now }
-    requires annotation { (given_entry entry.now).tag ≡ 0x6000 }
-    ensures tag { result ≡ (if is_type_tag (sections ctx.now) (given_entry entry.now)
-        then Some (name_in_full (tag_asked (sections ctx.now) (given_entry entry.now))) else None) }
-    ensures noted { least.new ≡ noted least.old ((name_asked (sections ctx.now) (given_entry
-        entry.now)).refused ++ (if is_type_tag (sections ctx.now) (given_entry entry.now)
-        then tag_refused (sections ctx.now) (given_entry entry.now) else [])) }
+    requires annotation { entry.now.tag ≡ 0x6000 }
+    ensures tag { result ≡ (if is_type_tag (sections ctx.now) entry.now
+        then Some (name_in_full (tag_asked (sections ctx.now) entry.now)) else None) }
+    ensures noted { least.new ≡ noted least.old ((name_asked (sections ctx.now)
+        entry.now).refused ++ (if is_type_tag (sections ctx.now) entry.now
+        then tag_refused (sections ctx.now) entry.now else [])) }
 {
     let name = name(ctx, entry, least);
     if !is_of_type_tags(&name) {
         return None;
     }
     let tag = text(ctx, entry, DW_AT_const_value, least);
-    note_if(least, is_unnamed(&tag), TypeFault::MissingName(entry.at));
+    note_if(least, is_unnamed(&tag), TypeFault::MissingName(entry.at()));
     Some(tag)
 }
 
@@ -118,16 +117,16 @@ pub(crate) fn type_tag<'a>(
 ) -> Option<Name<'a>>
     requires context { IsContext ctx.now }
     requires nested { AreNested opens.now }
-    requires above { AreAbove (given_entry entry.now).depth opens.now }
+    requires above { AreAbove entry.now.depth opens.now }
     ensures tag { result ≡ tag_in (sections ctx.now)
-        (pointed_at opens.now (given_entry entry.now).depth) (given_entry entry.now) }
+        (pointed_at opens.now entry.now.depth) entry.now }
     ensures noted { least.new ≡ noted least.old (annotation_refused (sections ctx.now)
-        (pointed_at opens.now (given_entry entry.now).depth) (given_entry entry.now)) }
+        (pointed_at opens.now entry.now.depth) entry.now) }
 {
-    if entry.tag != DW_TAG_GNU_annotation {
+    if entry.tag() != DW_TAG_GNU_annotation {
         return None;
     }
-    if !stands_in_pointer(opens, entry.depth) {
+    if !stands_in_pointer(opens, entry.depth()) {
         return None;
     }
     read_tag(ctx, entry, least)

@@ -1,5 +1,4 @@
 use Rattle.std.proofs.Common.{◌∙◌, refl}
-use Rattle.entry_tree.specs.Walks.{given_entry}
 use Rattle.type_attributes.specs.Scopes.{scope}
 use Rattle.type_attributes.proofs.Noting.{noted_append}
 use Rattle.c_types.proofs.OpenArrays.{array_comes}
@@ -7,11 +6,12 @@ use Rattle.c_types.proofs.arrays.open_array.Goals as goal
 
 pub returns : goal.returns
 returns c =
-    array_comes (scope c.args.ctx.now) (given_entry c.args.entry.now) _
+    array_comes (scope c.args.ctx.now) c.args.entry.now _
     (record {
-      at = refl;
+      at = c.at-at.ensures;
       target = c.type_target-target.ensures.said;
       lengths = refl;
       least = c.note_if.ensures
-          ∙ rw (c.type_target-target.ensures.noted, c.is_given.ensures) (simp noted_append);
+          ∙ rw (c.at-at.ensures, c.type_target-target.ensures.noted, c.is_given.ensures)
+          (simp noted_append);
     })

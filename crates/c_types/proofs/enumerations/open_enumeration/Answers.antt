@@ -1,5 +1,4 @@
 use Rattle.std.proofs.Common.{◌≡◌, ◌∙◌, ℤ, Option, refl, ap}
-use Rattle.entry_tree.specs.Walks.{given_entry}
 use Rattle.type_attributes.specs.Scopes.{scope}
 use Rattle.type_attributes.specs.Labels.{size_in}
 use Rattle.type_attributes.specs.Attributes.{constant_asked}
@@ -10,11 +9,11 @@ use Rattle.dwarf_abbrev.specs.declared.constants.TheConstants.{DW_AT_byte_size}
 pub returns : goal.returns
 returns c =
     let size : c.given_size-size.result
-    ≡ size_in (constant_asked DW_AT_byte_size (given_entry c.args.entry.now)).said =
+    ≡ size_in (constant_asked DW_AT_byte_size c.args.entry.now).said =
     c.given_size-size.ensures ∙ ap (λ (o : Option ℤ). size_in o) c.constant-size.ensures.said in
-    enumeration_comes (scope c.args.ctx.now) (given_entry c.args.entry.now) _
+    enumeration_comes (scope c.args.ctx.now) c.args.entry.now _
     (record {
-      at = refl;
+      at = c.at-at.ensures;
       name = c.name-name.ensures.said;
       size = size;
       wide = rw size refl;
@@ -23,8 +22,8 @@ returns c =
       parts = c.new.ensures.items;
       bare = c.name-name.ensures.noted ∙ rw c.requires.declared refl;
       unsigned = c.note_enum_size.ensures
-          ∙ rw (c.constant-size.ensures.said, c.constant-size.ensures.noted) refl;
+          ∙ rw (c.at-at.ensures, c.constant-size.ensures.said, c.constant-size.ensures.noted) refl;
       signed = c.note_enum_size.ensures
-          ∙ rw (c.constant-size.ensures.said, c.constant-size.ensures.noted) refl;
+          ∙ rw (c.at-at.ensures, c.constant-size.ensures.said, c.constant-size.ensures.noted) refl;
     })
     c.requires.defined

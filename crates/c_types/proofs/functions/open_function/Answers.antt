@@ -1,5 +1,4 @@
 use Rattle.std.proofs.Common.{◌∷◌, ◌++◌, [], ◌∙◌, List, refl, ap}
-use Rattle.entry_tree.specs.Walks.{given_entry}
 use Rattle.type_attributes.specs.Scopes.{scope}
 use Rattle.type_attributes.specs.declared.source.Target.{Target}
 use Rattle.c_types.proofs.OpenFunctions.{function_comes}
@@ -7,9 +6,9 @@ use Rattle.c_types.proofs.functions.open_function.Goals as goal
 
 pub returns : goal.returns
 returns c =
-    function_comes (scope c.args.ctx.now) (given_entry c.args.entry.now) _
+    function_comes (scope c.args.ctx.now) c.args.entry.now _
     (record {
-      at = refl;
+      at = c.at.ensures;
       parts = c.new.ensures.items;
       targets = c.in_ok-push.ensures.items ∙ ap
           (λ (ts : List Target). ts ++ c.type_target-target.result ∷ []) c.new-targets.ensures.items

@@ -1,5 +1,4 @@
 use Rattle.std.proofs.Common.{◌∙◌, ℤ, Option, refl, ap}
-use Rattle.entry_tree.specs.Walks.{given_entry}
 use Rattle.type_attributes.specs.Scopes.{scope}
 use Rattle.type_attributes.specs.Labels.{size_in}
 use Rattle.c_types.proofs.OpenStructures.{structure_comes}
@@ -7,9 +6,10 @@ use Rattle.c_types.proofs.structures.open_structure.Goals as goal
 
 pub returns : goal.returns
 returns c =
-    structure_comes (scope c.args.ctx.now) c.args.is_union (given_entry c.args.entry.now)
+    structure_comes (scope c.args.ctx.now) c.args.is_union c.args.entry.now
     c.args.declared c.note_size.new.least _ c.requires.defined c.requires.declared
     (c.note_size.ensures ∙ rw (
+      c.at-at.ensures,
       c.constant-size.ensures.said,
       c.constant-size.ensures.noted,
       c.name-name.ensures.noted,
@@ -18,7 +18,7 @@ returns c =
       members = c.new.ensures.items;
       targets = c.new-2.ensures.items;
       fields = refl;
-      at = refl;
+      at = c.at-at.ensures;
       is_union = refl;
       name = c.name-name.ensures.said;
       size = c.given_size.ensures ∙ ap (λ (o : Option ℤ). size_in o) c.constant-size.ensures.said;

@@ -1,13 +1,14 @@
 use Rattle.dwarf_forms.specs.Meanings.{sections}
-use Rattle.entry_tree.specs.Walks.{given_entry}
 use Rattle.type_attributes.specs.Scopes.{scope}
 use Rattle.c_types.specs.Arrays.{array_row}
 use Rattle.c_types.proofs.walking.take_array.Goals as goal
 
 pub returns-clause-types : goal.returns-clause-types
-returns-clause-types c = λ es. c.in_ok-begin.ensures.types (scope c.args.ctx.now) (array_row
-    (sections c.args.ctx.now.form) (given_entry c.args.entry.now)) es c.open_array.ensures
+returns-clause-types c = λ es. rw c.depth.ensures at
+    (c.in_ok-begin.ensures.types (scope c.args.ctx.now) (array_row
+    (sections c.args.ctx.now.form) c.args.entry.now) es c.open_array.ensures)
 
 pub returns-clause-least : goal.returns-clause-least
-returns-clause-least c = λ es later. c.in_ok-begin.ensures.least (scope c.args.ctx.now) (array_row
-    (sections c.args.ctx.now.form) (given_entry c.args.entry.now)) es later c.open_array.ensures
+returns-clause-least c = λ es later. rw c.depth.ensures at
+    (c.in_ok-begin.ensures.least (scope c.args.ctx.now) (array_row
+    (sections c.args.ctx.now.form) c.args.entry.now) es later c.open_array.ensures)

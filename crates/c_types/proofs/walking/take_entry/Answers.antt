@@ -3,7 +3,6 @@ use Rattle.std.proofs.Common.{if◌then◌else◌, refl, sym, ap, ◌∙◌, app
 use Rattle.std.proofs.lemmas.List.{append-nil}
 use Rattle.std.proofs.lemmas.Bool.{ne_eqb}
 use Rattle.dwarf_forms.specs.Meanings.{sections}
-use Rattle.entry_tree.specs.Walks.{given_entry}
 use Rattle.type_attributes.specs.Scopes.{scope}
 use Rattle.c_types.specs.declared.open.Open.{Open}
 use Rattle.type_attributes.specs.declared.source.SourceType.{SourceType}
@@ -21,15 +20,15 @@ use Rattle.type_attributes.specs.declared.tags.TheConstants.{DW_TAG_GNU_annotati
 pub returns-in_ok-take_tag-in-Some-clause-least : goal.returns-in_ok-take_tag-in-Some-clause-least
 returns-in_ok-take_tag-in-Some-clause-least c = λ es later.
     let s = scope c.args.ctx.now in
-    let e = given_entry c.args.entry.now in
+    let e = c.args.entry.now in
     let slice = c.as_slice.ensures.value in
     let own = pointed_at c.args.reading.now.opens.items c.args.entry.now.depth in
     let tag : tag_in (sections c.args.ctx.now.form) (pointed_at c.args.reading.now.opens.items
-    c.args.entry.now.depth) (given_entry c.args.entry.now) ≡ Some c.in-Some.tag =
+    c.args.entry.now.depth) c.args.entry.now ≡ Some c.in-Some.tag =
     ap (λ (os : List Open). tag_in (sections c.args.ctx.now.form)
-    (pointed_at os c.args.entry.now.depth) (given_entry c.args.entry.now)) (sym slice)
+    (pointed_at os c.args.entry.now.depth) c.args.entry.now) (sym slice)
     ∙ sym c.in-Some.ensures.tag in
-    let rowless : row_of (scope c.args.ctx.now) (given_entry c.args.entry.now) es ≡ None =
+    let rowless : row_of (scope c.args.ctx.now) c.args.entry.now es ≡ None =
     tag_rowless s e es (tag_is_annotation s.sections own e c.in-Some.tag tag) in
     let all : refused_of s own e es ≡ annotation_refused s.sections own e =
     ap (λ (o : Option Row). annotation_refused s.sections own e ++ refused_in o) rowless
@@ -45,12 +44,12 @@ pub returns-in_ok-take_tag-in-Some-clause-pointed :
     goal.returns-in_ok-take_tag-in-Some-clause-pointed
 returns-in_ok-take_tag-in-Some-clause-pointed c = λ d.
     let s = scope c.args.ctx.now in
-    let e = given_entry c.args.entry.now in
+    let e = c.args.entry.now in
     let own = pointed_at c.args.reading.now.opens.items c.args.entry.now.depth in
     let tag : tag_in (sections c.args.ctx.now.form) (pointed_at c.args.reading.now.opens.items
-    c.args.entry.now.depth) (given_entry c.args.entry.now) ≡ Some c.in-Some.tag =
+    c.args.entry.now.depth) c.args.entry.now ≡ Some c.in-Some.tag =
     ap (λ (os : List Open). tag_in (sections c.args.ctx.now.form)
-    (pointed_at os c.args.entry.now.depth) (given_entry c.args.entry.now))
+    (pointed_at os c.args.entry.now.depth) c.args.entry.now)
     (sym c.as_slice.ensures.value) ∙ sym c.in-Some.ensures.tag in
     let is : c.args.entry.now.tag ≡ DW_TAG_GNU_annotation =
     tag_is_annotation s.sections own e c.in-Some.tag tag in
@@ -63,20 +62,20 @@ returns-in_ok-take_tag-in-Some-clause-pointed c = λ d.
 pub returns-in_ok-last-in-None-clause-types : goal.returns-in_ok-last-in-None-clause-types
 returns-in_ok-last-in-None-clause-types c = λ es.
     let s = scope c.args.ctx.now in
-    let e = given_entry c.args.entry.now in
+    let e = c.args.entry.now in
     let types = c.args.reading.now.types.items in
     let own = pointed_at c.args.reading.now.opens.items c.args.entry.now.depth in
     let untold : None ≡ tag_in (sections c.args.ctx.now.form) (pointed_at
-    c.args.reading.now.opens.items c.args.entry.now.depth) (given_entry c.args.entry.now) =
+    c.args.reading.now.opens.items c.args.entry.now.depth) c.args.entry.now =
     c.in-None.ensures.tag ∙ ap (λ (os : List Open). tag_in (sections c.args.ctx.now.form)
-    (pointed_at os c.args.entry.now.depth) (given_entry c.args.entry.now))
+    (pointed_at os c.args.entry.now.depth) c.args.entry.now)
     c.as_slice.ensures.value in
     let untagged : is_tag_entry (sections c.args.ctx.now.form)
     (pointed_at c.args.reading.now.opens.items c.args.entry.now.depth)
-    (given_entry c.args.entry.now) ≡ false = no_tag_entry s.sections own e untold in
+    c.args.entry.now ≡ false = no_tag_entry s.sections own e untold in
     let made : made_of (scope c.args.ctx.now) (pointed_at c.args.reading.now.opens.items
-    c.args.entry.now.depth) (given_entry c.args.entry.now) es ≡ made_in
-    (row_of (scope c.args.ctx.now) (given_entry c.args.entry.now) es) = rw untagged refl in
+    c.args.entry.now.depth) c.args.entry.now es ≡ made_in
+    (row_of (scope c.args.ctx.now) c.args.entry.now es) = rw untagged refl in
     c.in_ok-last-in-None.ensures.types es ∙ ap (λ (ts : List SourceType).
     ts ++ listed (made_in (row_of s e es))) (c.in_ok-meet-in-None.ensures.types es types)
     ∙ ap (λ (o : Option SourceType).
@@ -85,7 +84,7 @@ returns-in_ok-last-in-None-clause-types c = λ es.
 pub returns-in_ok-last-in-None-clause-least : goal.returns-in_ok-last-in-None-clause-least
 returns-in_ok-last-in-None-clause-least c = λ es later.
     let s = scope c.args.ctx.now in
-    let e = given_entry c.args.entry.now in
+    let e = c.args.entry.now in
     let os = c.args.reading.now.opens.items in
     let current = c.args.reading.now.current in
     let own = pointed_at os c.args.entry.now.depth in

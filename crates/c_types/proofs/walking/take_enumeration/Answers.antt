@@ -1,6 +1,5 @@
 use Rattle.std.proofs.Common.{◌≡◌, ◌++◌, ◌∷◌, [], ◌∙◌, true, List, Option, sym, ap, append_assoc}
 use Rattle.dwarf_forms.specs.Meanings.{sections}
-use Rattle.entry_tree.specs.Walks.{given_entry}
 use Rattle.type_attributes.specs.Scopes.{scope}
 use Rattle.type_attributes.specs.declared.source.SourceType.{SourceType}
 use Rattle.type_attributes.specs.declared.fault.TypeFault.{TypeFault}
@@ -15,20 +14,21 @@ use Rattle.dwarf_abbrev.specs.declared.constants.TheConstants.{DW_AT_declaration
 
 pub returns-then-not-is_declared-clause-types : goal.returns-then-not-is_declared-clause-types
 returns-then-not-is_declared-clause-types c =
-    λ es. c.in_ok-begin.ensures.types (scope c.args.ctx.now) (enumeration_row
-    (sections c.args.ctx.now.form) (given_entry c.args.entry.now)) es c.open_enumeration.ensures
+    λ es. rw c.depth.ensures at (c.in_ok-begin.ensures.types (scope c.args.ctx.now)
+    (enumeration_row (sections c.args.ctx.now.form) c.args.entry.now) es
+    c.open_enumeration.ensures)
 
 pub returns-then-not-is_declared-clause-least : goal.returns-then-not-is_declared-clause-least
-returns-then-not-is_declared-clause-least c = λ es later. c.in_ok-begin.ensures.least
-    (scope c.args.ctx.now) (enumeration_row (sections c.args.ctx.now.form)
-    (given_entry c.args.entry.now)) es later c.open_enumeration.ensures
+returns-then-not-is_declared-clause-least c = λ es later. rw c.depth.ensures at
+    (c.in_ok-begin.ensures.least (scope c.args.ctx.now) (enumeration_row
+    (sections c.args.ctx.now.form) c.args.entry.now) es later c.open_enumeration.ensures)
 
 pub returns-clause-types : goal.returns-clause-types
 returns-clause-types c = λ es.
     let s = scope c.args.ctx.now in
-    let e = given_entry c.args.entry.now in
+    let e = c.args.entry.now in
     let kids = children_of c.args.entry.now.depth es in
-    let set : is_set (flag_asked DW_AT_declaration (given_entry c.args.entry.now)) ≡ true =
+    let set : is_set (flag_asked DW_AT_declaration c.args.entry.now) ≡ true =
     sym c.flag-is_declared.ensures.said ∙ c.if-not-is_declared.false in
     taken_filled s c.args.reading.now.opens.items es c.args.reading.now.types.items
     c.push.new.self.items ((enumeration_row s.sections e kids).made ∷ []) c.requires.placed
@@ -38,10 +38,10 @@ returns-clause-types c = λ es.
 pub returns-clause-least : goal.returns-clause-least
 returns-clause-least c = λ es later.
     let s = scope c.args.ctx.now in
-    let e = given_entry c.args.entry.now in
+    let e = c.args.entry.now in
     let kids = children_of c.args.entry.now.depth es in
     let bare = (bare_row (name_in_full (name_asked s.sections e)) e true).refused in
-    let set : is_set (flag_asked DW_AT_declaration (given_entry c.args.entry.now)) ≡ true =
+    let set : is_set (flag_asked DW_AT_declaration c.args.entry.now) ≡ true =
     sym c.flag-is_declared.ensures.said ∙ c.if-not-is_declared.false in
     taken_least s c.args.reading.now.opens.items es c.args.reading.now.current c.join-reading.result
     (enumeration_row s.sections e kids).refused later

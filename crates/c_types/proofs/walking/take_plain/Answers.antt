@@ -1,6 +1,5 @@
 use Rattle.std.proofs.Common.{◌++◌, ◌∙◌, Option, ap}
 use Rattle.dwarf_forms.specs.Meanings.{sections}
-use Rattle.entry_tree.specs.Walks.{given_entry}
 use Rattle.type_attributes.specs.Scopes.{scope}
 use Rattle.type_attributes.specs.declared.source.SourceType.{SourceType}
 use Rattle.c_types.specs.Types.{plain_row_of, made_in, listed, refused_in}
@@ -12,7 +11,7 @@ pub returns-clause-types : goal.returns-clause-types
 returns-clause-types c = λ es.
     taken_filled (scope c.args.ctx.now) c.args.reading.now.opens.items es
     c.args.reading.now.types.items c.take_type.new.types.items (listed (made_in (plain_row_of
-    (sections c.args.ctx.now.form) (given_entry c.args.entry.now)))) c.requires.placed
+    (sections c.args.ctx.now.form) c.args.entry.now))) c.requires.placed
     (c.in_ok-take_type.ensures ∙ ap (λ (o : Option SourceType).
     c.args.reading.now.types.items ++ listed o) c.in_ok-one.ensures.made)
 
@@ -20,7 +19,7 @@ pub returns-clause-least : goal.returns-clause-least
 returns-clause-least c = λ es later.
     taken_least (scope c.args.ctx.now) c.args.reading.now.opens.items es c.args.reading.now.current
     c.read_plain_type.new.least (refused_in (plain_row_of (sections c.args.ctx.now.form)
-    (given_entry c.args.entry.now))) later c.in_ok-one.ensures.noted
+    c.args.entry.now)) later c.in_ok-one.ensures.noted
 
 pub returns-clause-pointed : goal.returns-clause-pointed
 returns-clause-pointed c =

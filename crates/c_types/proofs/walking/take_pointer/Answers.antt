@@ -1,6 +1,5 @@
 use Rattle.std.proofs.Common.{◌≡◌, ◌+◌, ◌==◌, ◌∙◌, ℕ, List, length, Some, if◌then◌else◌, refl, sym}
 use Rattle.std.proofs.Common.{ap, rules}
-use Rattle.entry_tree.specs.Walks.{given_entry}
 use Rattle.type_attributes.specs.Scopes.{scope}
 use Rattle.c_types.specs.declared.open.LastPointer.{LastPointer}
 use Rattle.type_attributes.specs.declared.source.Target.{Target}
@@ -17,50 +16,51 @@ use Rattle.c_types.proofs.walking.take_pointer.Goals as goal
 pub returns-clause-types : goal.returns-clause-types
 returns-clause-types c = λ es.
     let p : LastPointer = record {
-      depth = c.args.entry.now.depth;
+      depth = c.depth.result;
       index = c.len-index.result;
-      at = c.args.entry.now.at;
+      at = c.at-at.result;
       own = c.type_target-own.result;
     } in
     let index : c.len-index.result ≡ length c.args.reading.now.types.items = search rules in
     let s = scope c.args.ctx.now in
-    let e = given_entry c.args.entry.now in
-    let kids = children_of c.args.entry.now.depth es in
-    begun_filled s c.args.reading.now.opens.items
+    let e = c.args.entry.now in
+    let kids = children_of c.depth.result es in
+    rw (← c.depth.ensures) (begun_filled s c.args.reading.now.opens.items
     (opened_pointer p) es c.args.reading.now.types.items c.push.new.self.items _
     (pointer_row s.sections e kids).made c.requires.placed index c.in_ok-push.ensures.items
-    (pointer_comes s e p kids refl c.type_target-own.ensures.said)
+    (pointer_comes s e p kids c.at-at.ensures c.type_target-own.ensures.said))
 
 pub returns-clause-least : goal.returns-clause-least
 returns-clause-least c = λ es later.
     let p : LastPointer = record {
-      depth = c.args.entry.now.depth;
+      depth = c.depth.result;
       index = c.len-index.result;
-      at = c.args.entry.now.at;
+      at = c.at-at.result;
       own = c.type_target-own.result;
     } in
     let s = scope c.args.ctx.now in
     sym (last_least s c.args.reading.now.opens.items p es c.type_target-own.new.least later)
     ∙ taken_least s c.args.reading.now.opens.items es c.args.reading.now.current
-    c.type_target-own.new.least (target_asked s.sections (given_entry c.args.entry.now)).refused
+    c.type_target-own.new.least (target_asked s.sections c.args.entry.now).refused
     later c.type_target-own.ensures.noted
 
 pub returns-clause-nested : goal.returns-clause-nested
 returns-clause-nested c =
     let p : LastPointer = record {
-      depth = c.args.entry.now.depth;
+      depth = c.depth.result;
       index = c.len-index.result;
-      at = c.args.entry.now.at;
+      at = c.at-at.result;
       own = c.type_target-own.result;
     } in
-    nested_push c.args.reading.now.opens.items (opened_pointer p) c.requires.nested c.requires.above
+    nested_push c.args.reading.now.opens.items (opened_pointer p) c.requires.nested
+    (rw c.depth.ensures c.requires.above)
 
 pub returns-clause-placed : goal.returns-clause-placed
 returns-clause-placed c =
     let p : LastPointer = record {
-      depth = c.args.entry.now.depth;
+      depth = c.depth.result;
       index = c.len-index.result;
-      at = c.args.entry.now.at;
+      at = c.at-at.result;
       own = c.type_target-own.result;
     } in
     let index : c.len-index.result ≡ length c.args.reading.now.types.items = search rules in
@@ -70,16 +70,16 @@ returns-clause-placed c =
 pub returns-clause-complete : goal.returns-clause-complete
 returns-clause-complete c = λ s.
     let p : LastPointer = record {
-      depth = c.args.entry.now.depth;
+      depth = c.depth.result;
       index = c.len-index.result;
-      at = c.args.entry.now.at;
+      at = c.at-at.result;
       own = c.type_target-own.result;
     } in
     let index : c.len-index.result ≡ length c.args.reading.now.types.items = search rules in
     pointer_complete s c.args.reading.now.types.items c.push.new.self.items p _
     c.in_ok-push.ensures.items index (pointer_alone s p
     ∙ ap (λ (n : List ℕ). pointer_by (record {
-      at = c.args.entry.now.at;
+      at = c.at-at.result;
       kind = 2;
       name = n;
       own = c.type_target-own.result;
@@ -89,11 +89,12 @@ returns-clause-complete c = λ s.
 pub returns-clause-pointed : goal.returns-clause-pointed
 returns-clause-pointed c = λ d.
     let p : LastPointer = record {
-      depth = c.args.entry.now.depth;
+      depth = c.depth.result;
       index = c.len-index.result;
-      at = c.args.entry.now.at;
+      at = c.at-at.result;
       own = c.type_target-own.result;
     } in
-    pointed_push c.args.reading.now.opens.items (opened_pointer p) d c.requires.above
-    ∙ ap (λ (t : Target). if c.args.entry.now.depth + 1 == d then Some t
-    else pointed_at c.args.reading.now.opens.items d) c.type_target-own.ensures.said
+    rw (← c.depth.ensures) (pointed_push c.args.reading.now.opens.items (opened_pointer p) d
+    (rw c.depth.ensures c.requires.above)
+    ∙ ap (λ (t : Target). if c.depth.result + 1 == d then Some t
+    else pointed_at c.args.reading.now.opens.items d) c.type_target-own.ensures.said)

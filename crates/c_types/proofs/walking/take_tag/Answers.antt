@@ -2,7 +2,6 @@ use Rattle.std.proofs.Common.{◌+◌, ◌<◌, ◌==◌, ◌∷◌, ◌++◌, i
 use Rattle.std.proofs.Common.{refl, sym, ap, ◌∙◌, subst}
 use Rattle.std.specs.Prelude.{slice_set}
 use Rattle.std.proofs.lemmas.List.Elements.{All-pop}
-use Rattle.entry_tree.specs.Walks.{given_entry}
 use Rattle.c_types.specs.declared.open.Open.{Open}
 use Rattle.type_attributes.specs.declared.source.Target.TheVariants.{Entry}
 use Rattle.c_types.specs.Opened.{pointer_by}
@@ -26,7 +25,7 @@ returns-in_default-kept_pointer-clause-types c = λ s es tag.
     ∙ stands_out c.pop.new.self.items c.in-Some.last c.args.entry.now.depth
     (subst AreNested items c.requires.nested) lt (unkept c.in-Some.last.kept
     c.kept_pointer.result c.kept_pointer.ensures c.in_default-kept_pointer.not-Some) in
-    absurd (tag_untold s.sections (given_entry c.args.entry.now) c.args.tag
+    absurd (tag_untold s.sections c.args.entry.now c.args.tag
     (pointed_at c.args.reading.now.opens.items c.args.entry.now.depth) none tag)
 
 pub returns-in_default-kept_pointer-clause-least : goal.returns-in_default-kept_pointer-clause-least
@@ -39,7 +38,7 @@ returns-in_default-kept_pointer-clause-least c = λ s es later tag.
     ∙ stands_out c.pop.new.self.items c.in-Some.last c.args.entry.now.depth
     (subst AreNested items c.requires.nested) lt (unkept c.in-Some.last.kept
     c.kept_pointer.result c.kept_pointer.ensures c.in_default-kept_pointer.not-Some) in
-    absurd (tag_untold s.sections (given_entry c.args.entry.now) c.args.tag
+    absurd (tag_untold s.sections c.args.entry.now c.args.tag
     (pointed_at c.args.reading.now.opens.items c.args.entry.now.depth) none tag)
 
 pub returns-in_default-kept_pointer-clause-nested :
@@ -64,7 +63,7 @@ returns-in_default-kept_pointer-clause-pointed c = λ s d tag.
     ∙ stands_out c.pop.new.self.items c.in-Some.last c.args.entry.now.depth
     (subst AreNested items c.requires.nested) lt (unkept c.in-Some.last.kept
     c.kept_pointer.result c.kept_pointer.ensures c.in_default-kept_pointer.not-Some) in
-    absurd (tag_untold s.sections (given_entry c.args.entry.now) c.args.tag
+    absurd (tag_untold s.sections c.args.entry.now c.args.tag
     (pointed_at c.args.reading.now.opens.items c.args.entry.now.depth) none tag)
 
 -- it is one
@@ -87,7 +86,7 @@ begin-requires-clause-placed c =
 pub returns-clause-types : goal.returns-clause-types
 returns-clause-types c = λ s es tag.
     let items = c.in-Some.ensures.items in
-    let e = given_entry c.args.entry.now in
+    let e = c.args.entry.now in
     let q = c.in-Some-kept_pointer.pointer in
     let lt =
     (All-pop (λ (o : Open). o.depth < c.args.entry.now.depth) c.args.reading.now.opens.items
@@ -95,22 +94,22 @@ returns-clause-types c = λ s es tag.
     tag_filled s c.pop.new.self.items c.in-Some.last q e c.args.tag (is_pointer c.in-Some.last.kept
     q (sym c.in-Some-kept_pointer.ensures)) (subst AreNested items c.requires.nested) lt
     (ap (λ (os : List Open). tag_in s.sections (pointed_at os c.args.entry.now.depth)
-    (given_entry c.args.entry.now)) (sym items) ∙ tag)
+    c.args.entry.now) (sym items) ∙ tag)
     es c.begin.new.reading.opens.items c.args.reading.now.types.items
     (slice_set c.args.reading.now.types.items c.in-Some.last.index c.pointing-made.result)
     c.begin.new.reading.types.items c.pointing-made.result
     (c.pointing-made.ensures ∙ ap (λ (to : ℕ). pointer_by c.in-Some-kept_pointer.pointer
-    (Entry c.in-Some-kept_pointer.pointer.at to)) c.from.ensures) refl
-    (c.in_ok-begin.ensures.types s (tag_row s.sections c.args.entry.now.at c.args.tag q.own) es
-    (tag_comes s c.args.entry.now.at c.args.tag q.own))
-    ∙ ap (λ (os : List Open). filled s os (given_entry c.args.entry.now ∷ es)
+    (Entry c.in-Some-kept_pointer.pointer.at to)) (c.from.ensures ∙ c.at-at.ensures)) refl
+    (rw c.at-at.ensures at (c.in_ok-begin.ensures.types s (tag_row s.sections c.at-at.result
+    c.args.tag q.own) es (tag_comes s c.at-at.result c.args.tag q.own)))
+    ∙ ap (λ (os : List Open). filled s os (c.args.entry.now ∷ es)
     c.args.reading.now.types.items ++ listed (tag_made s.sections
-    (pointed_at os c.args.entry.now.depth) (given_entry c.args.entry.now) es)) (sym items)
+    (pointed_at os c.args.entry.now.depth) c.args.entry.now es)) (sym items)
 
 pub returns-clause-least : goal.returns-clause-least
 returns-clause-least c = λ s es later tag.
     let items = c.in-Some.ensures.items in
-    let e = given_entry c.args.entry.now in
+    let e = c.args.entry.now in
     let q = c.in-Some-kept_pointer.pointer in
     let lt =
     (All-pop (λ (o : Open). o.depth < c.args.entry.now.depth) c.args.reading.now.opens.items
@@ -118,18 +117,18 @@ returns-clause-least c = λ s es later tag.
     tag_least s c.pop.new.self.items c.in-Some.last q e c.args.tag (is_pointer c.in-Some.last.kept q
     (sym c.in-Some-kept_pointer.ensures)) (subst AreNested items c.requires.nested) lt
     (ap (λ (os : List Open). tag_in s.sections (pointed_at os c.args.entry.now.depth)
-    (given_entry c.args.entry.now)) (sym items) ∙ tag)
+    c.args.entry.now) (sym items) ∙ tag)
     es c.begin.new.reading.opens.items c.args.reading.now.current c.join-reading.result
     c.begin.new.reading.current later c.join-reading.ensures
-    (c.in_ok-begin.ensures.least s (tag_row s.sections c.args.entry.now.at c.args.tag q.own) es
-    later (tag_comes s c.args.entry.now.at c.args.tag q.own))
+    (c.in_ok-begin.ensures.least s (tag_row s.sections c.at-at.result c.args.tag q.own) es
+    later (tag_comes s c.at-at.result c.args.tag q.own))
     ∙ ap (λ (os : List Open). least_of s os
-    (given_entry c.args.entry.now ∷ es) c.args.reading.now.current later) (sym items)
+    (c.args.entry.now ∷ es) c.args.reading.now.current later) (sym items)
 
 pub returns-clause-pointed : goal.returns-clause-pointed
 returns-clause-pointed c = λ s d tag.
     let items = c.in-Some.ensures.items in
-    let e = given_entry c.args.entry.now in
+    let e = c.args.entry.now in
     let q = c.in-Some-kept_pointer.pointer in
     let lt =
     (All-pop (λ (o : Open). o.depth < c.args.entry.now.depth) c.args.reading.now.opens.items
@@ -137,7 +136,7 @@ returns-clause-pointed c = λ s d tag.
     tag_pointed s c.pop.new.self.items c.in-Some.last q e c.args.tag (is_pointer c.in-Some.last.kept
     q (sym c.in-Some-kept_pointer.ensures)) (subst AreNested items c.requires.nested) lt
     (ap (λ (os : List Open). tag_in s.sections (pointed_at os c.args.entry.now.depth)
-    (given_entry c.args.entry.now)) (sym items) ∙ tag)
+    c.args.entry.now) (sym items) ∙ tag)
     d (pointed_at c.begin.new.reading.opens.items d) (subst
     (AreAbove c.args.entry.now.depth) items c.requires.above) (c.in_ok-begin.ensures.pointed d)
     ∙ ap (λ (os : List Open). if c.args.entry.now.depth + 1 == d then None else pointed_at os d)
