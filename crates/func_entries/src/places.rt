@@ -3,7 +3,6 @@ ghost use Rattle.std.specs.Prelude.{◌≡◌, ◌++◌, ◌∷◌, [], ◌||◌
 ghost use Rattle.std.specs.Prelude.{true, if◌then◌else◌};
 ghost use Rattle.dwarf_forms.specs.Values.{IsContext};
 ghost use Rattle.dwarf_forms.specs.Meanings.{sections};
-ghost use Rattle.entry_tree.specs.Walks.{given_entry};
 ghost use Rattle.c_types.specs.Pointers.{is_type_tag as names_type_tag};
 ghost use Rattle.func_entries.specs.Walking.{has_row as tag_has_row, is_type as entry_is_type};
 ghost use Rattle.func_entries.specs.Walking.{place_of, stands_in, AreDeepening, AllAbove};
@@ -52,9 +51,9 @@ fn has_row(tag: u64) -> bool
 /// Whether an entry is an annotation with the name of type tags.
 fn is_type_tag(ctx: &FormCtx<'_>, entry: &Entry<'_, '_>) -> bool
     requires { IsContext ctx.now }
-    ensures { result ≡ names_type_tag (sections ctx.now) (given_entry entry.now) }
+    ensures { result ≡ names_type_tag (sections ctx.now) entry.now }
 {
-    if entry.tag != DW_TAG_GNU_annotation {
+    if entry.tag() != DW_TAG_GNU_annotation {
         return false;
     }
     // where the name is refused, it is none
@@ -79,11 +78,11 @@ fn is_below(depths: &[u32], depth: u32) -> bool
 fn is_type(ctx: &FormCtx<'_>, entry: &Entry<'_, '_>, pointers: &[u32]) -> bool
     requires context { IsContext ctx.now }
     requires deepening { AreDeepening pointers.now }
-    requires above { AllAbove (given_entry entry.now).depth pointers.now }
+    requires above { AllAbove entry.now.depth pointers.now }
     ensures { result ≡ entry_is_type (sections ctx.now)
-        (stands_in pointers.now (given_entry entry.now).depth) (given_entry entry.now) }
+        (stands_in pointers.now entry.now.depth) entry.now }
 {
-    has_row(entry.tag) || (is_below(pointers, entry.depth) && is_type_tag(ctx, entry))
+    has_row(entry.tag()) || (is_below(pointers, entry.depth()) && is_type_tag(ctx, entry))
 }
 
 /// Whether the last of some depths is not above another.
@@ -147,20 +146,21 @@ pub(crate) fn place(
     requires context { IsContext ctx.now }
     requires deepening { AreDeepening placing.old.pointers.items }
     ensures places { OnOk result (placing.new.places.items ≡ placing.old.places.items ++ place_of
-        (sections ctx.now) (stands_in placing.old.pointers.items (given_entry entry.now).depth)
-        (given_entry entry.now)) }
+        (sections ctx.now) (stands_in placing.old.pointers.items entry.now.depth)
+        entry.now) }
     ensures arrays { OnOk result
-        (placing.new.has_array ≡ (placing.old.has_array || (given_entry entry.now).tag == 0x01)) }
+        (placing.new.has_array ≡ (placing.old.has_array || entry.now.tag == 0x01)) }
     ensures deepening { OnOk result (AreDeepening placing.new.pointers.items) }
-    ensures standing { OnOk result ((d : ℕ) → d ≤ (given_entry entry.now).depth + 1
-        → stands_in placing.new.pointers.items d ≡ (if (given_entry entry.now).depth + 1 == d
-        then (given_entry entry.now).tag == 0x0f else stands_in placing.old.pointers.items d)) }
+    ensures standing { OnOk result ((d : ℕ) → d ≤ entry.now.depth + 1
+        → stands_in placing.new.pointers.items d ≡ (if entry.now.depth + 1 == d
+        then entry.now.tag == 0x0f else stands_in placing.old.pointers.items d)) }
 {
-    leave(&mut placing.pointers, entry.depth);
+    let depth = entry.depth();
+    leave(&mut placing.pointers, depth);
     let is_type = is_type(ctx, entry, placing.pointers.as_slice());
-    keep(&mut placing.places, entry.at, is_type)?;
-    let is_pointer = entry.tag == DW_TAG_pointer_type;
-    enter(&mut placing.pointers, entry.depth, is_pointer)?;
-    placing.has_array = placing.has_array || entry.tag == DW_TAG_array_type;
+    keep(&mut placing.places, entry.at(), is_type)?;
+    let is_pointer = entry.tag() == DW_TAG_pointer_type;
+    enter(&mut placing.pointers, depth, is_pointer)?;
+    placing.has_array = placing.has_array || entry.tag() == DW_TAG_array_type;
     Ok(())
 }

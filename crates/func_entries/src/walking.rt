@@ -4,7 +4,6 @@ ghost use Rattle.std.specs.Prelude.{[], OnOk, IfOk, length, is_some, if◌then�
 ghost use Rattle.dwarf_forms.specs.Values.{IsContext};
 ghost use Rattle.dwarf_forms.specs.Meanings.{sections};
 ghost use Rattle.entry_tree.specs.Items.{Given};
-ghost use Rattle.entry_tree.specs.Walks.{given_entry};
 ghost use Rattle.type_attributes.specs.Faults.{noted};
 ghost use Rattle.c_types.specs.Parents.{Descends};
 ghost use Rattle.type_attributes.specs.Scopes.{Scope, scope};
@@ -57,10 +56,10 @@ fn read_head<'a>(
     least: &mut Option<TypeFault>,
 ) -> Option<Head<'a>>
     requires { IsContext ctx.now }
-    ensures head { result ≡ head_at (sections ctx.now) (given_entry entry.now) }
-    ensures noted { least.new ≡ noted least.old (head_refused (sections ctx.now) (given_entry entry.now)) }
+    ensures head { result ≡ head_at (sections ctx.now) entry.now }
+    ensures noted { least.new ≡ noted least.old (head_refused (sections ctx.now) entry.now) }
 {
-    if entry.tag != DW_TAG_subprogram {
+    if entry.tag() != DW_TAG_subprogram {
         return None;
     }
     let mut found = None;
@@ -85,18 +84,18 @@ fn take_function<'a>(
 ) -> Result<(), AllocError>
     requires context { IsContext ctx.now.form }
     requires nested { AreNested gathering.old.reading.opens.items }
-    requires above { AreAbove (given_entry entry.now).depth gathering.old.reading.opens.items }
+    requires above { AreAbove entry.now.depth gathering.old.reading.opens.items }
     requires placed { ArePlaced (length gathering.old.reading.types.items) gathering.old.reading.opens.items }
     ensures heads { OnOk result (gathering.new.heads.items ≡ gathering.old.heads.items
-        ++ head_listed (head_at (sections ctx.now.form) (given_entry entry.now))) }
+        ++ head_listed (head_at (sections ctx.now.form) entry.now)) }
     ensures types { OnOk result ((es : List Given) → filled (scope ctx.now)
         gathering.new.reading.opens.items es gathering.new.reading.types.items ≡ filled
         (scope ctx.now) gathering.old.reading.opens.items es gathering.old.reading.types.items
-        ++ prototypes_at (sections ctx.now.form) (given_entry entry.now) es) }
+        ++ prototypes_at (sections ctx.now.form) entry.now es) }
     ensures least { OnOk result ((es : List Given) (later : List TypeFault) → least_of (scope
         ctx.now) gathering.new.reading.opens.items es gathering.new.reading.current later ≡ least_of
         (scope ctx.now) gathering.old.reading.opens.items es gathering.old.reading.current
-        (refused_at (sections ctx.now.form) (given_entry entry.now) es ++ later)) }
+        (refused_at (sections ctx.now.form) entry.now es ++ later)) }
     ensures nested { OnOk result (AreNested gathering.new.reading.opens.items) }
     ensures placed { OnOk result
         (ArePlaced (length gathering.new.reading.types.items) gathering.new.reading.opens.items) }
@@ -107,7 +106,13 @@ fn take_function<'a>(
         return Ok(());
     };
     let kept = Kept::Function(open_function(alloc, ctx, entry)?);
-    begin(alloc, entry.at, entry.depth, kept, &mut gathering.reading)?;
+    begin(
+        alloc,
+        entry.at(),
+        entry.depth(),
+        kept,
+        &mut gathering.reading,
+    )?;
     gathering.heads.push(head)?;
     Ok(())
 }
@@ -123,27 +128,27 @@ fn take<'a>(
     requires version { ctx.now.version ≡ 5 }
     requires nested { AreNested gathering.old.reading.opens.items }
     requires placed { ArePlaced (length gathering.old.reading.types.items) gathering.old.reading.opens.items }
-    requires pointed { (d : ℕ) → d ≤ (given_entry entry.now).depth
+    requires pointed { (d : ℕ) → d ≤ entry.now.depth
         → pointed_at gathering.old.reading.opens.items d ≡ None }
     ensures heads { OnOk result (gathering.new.heads.items ≡ gathering.old.heads.items
-        ++ head_listed (head_at (sections ctx.now.form) (given_entry entry.now))) }
+        ++ head_listed (head_at (sections ctx.now.form) entry.now)) }
     ensures types { OnOk result ((es : List Given)
         → filled (scope ctx.now) gathering.new.reading.opens.items es
         gathering.new.reading.types.items ≡ filled (scope ctx.now) gathering.old.reading.opens.items
-        (given_entry entry.now ∷ es) gathering.old.reading.types.items
-        ++ prototypes_at (sections ctx.now.form) (given_entry entry.now) es) }
+        (entry.now ∷ es) gathering.old.reading.types.items
+        ++ prototypes_at (sections ctx.now.form) entry.now es) }
     ensures least { OnOk result ((es : List Given) (later : List TypeFault) → least_of
         (scope ctx.now) gathering.new.reading.opens.items es gathering.new.reading.current later
         ≡ least_of (scope ctx.now) gathering.old.reading.opens.items
-        (given_entry entry.now ∷ es) gathering.old.reading.current
-        (refused_at (sections ctx.now.form) (given_entry entry.now) es ++ later)) }
+        (entry.now ∷ es) gathering.old.reading.current
+        (refused_at (sections ctx.now.form) entry.now es ++ later)) }
     ensures nested { OnOk result (AreNested gathering.new.reading.opens.items) }
     ensures placed { OnOk result
         (ArePlaced (length gathering.new.reading.types.items) gathering.new.reading.opens.items) }
-    ensures pointed { OnOk result ((d : ℕ) → d ≤ (given_entry entry.now).depth + 1
+    ensures pointed { OnOk result ((d : ℕ) → d ≤ entry.now.depth + 1
         → pointed_at gathering.new.reading.opens.items d ≡ None) }
 {
-    close(alloc, &mut gathering.reading, entry.depth)?;
+    close(alloc, &mut gathering.reading, entry.depth())?;
     meet(ctx, entry, &mut gathering.reading.opens)?;
     take_function(alloc, ctx, entry, gathering)?;
     Ok(())

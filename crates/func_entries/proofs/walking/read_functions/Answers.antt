@@ -3,7 +3,6 @@ use Rattle.std.proofs.lemmas.List.Elements.{All-nil}
 use Rattle.c_types.specs.declared.open.Open.{Open}
 use Rattle.type_attributes.specs.Scopes.{scope}
 use Rattle.entry_tree.specs.Items.{Coming, with_first}
-use Rattle.entry_tree.specs.Walks.{given_entry}
 use Rattle.c_types.specs.Walking.{AreNested, ArePlaced}
 use Rattle.func_entries.specs.Units.{Gives}
 use Rattle.func_entries.specs.Walking.{AreDeepening, of_version}
@@ -13,16 +12,16 @@ use Rattle.func_entries.proofs.walking.read_functions.Goals as goal
 
 pub take-requires-clause-pointed : goal.take-requires-clause-pointed
 take-requires-clause-pointed c = λ d le.
-    let step : c.entries.walk ≡ with_first (given_entry c.in-Ok-Some.entry) c.next.new.self =
+    let step : c.entries.walk ≡ with_first c.in-Ok-Some.entry c.next.new.self =
     rw c.in-Ok-Some.field-0-is at c.in-Ok-Some.ensures in
     none_pointed (scope c.args.ctx.now) c.args.ctx.now.start.ending c.entries.gathering.heads.items
     c.entries.gathering.reading.opens.items c.entries.gathering.reading.types.items
     c.entries.gathering.reading.current c.entries.walk c.next.new.self
-    (given_entry c.in-Ok-Some.entry) step c.entries.invariant.reading d le
+    c.in-Ok-Some.entry step c.entries.invariant.reading d le
 
 pub entries-preserved : goal.entries-preserved
 entries-preserved c =
-    let step : c.entries.walk ≡ with_first (given_entry c.in-Ok-Some.entry) c.next.new.self =
+    let step : c.entries.walk ≡ with_first c.in-Ok-Some.entry c.next.new.self =
     rw c.in-Ok-Some.field-0-is at c.in-Ok-Some.ensures in
     let done = c.in_ok-take-in-Ok-Some.ensures in
     let put = c.in_ok-place-in-Ok-Some.ensures in
@@ -33,14 +32,14 @@ entries-preserved c =
           c.entries.gathering.reading.opens.items c.take.new.gathering.reading.opens.items
           c.entries.gathering.reading.types.items c.take.new.gathering.reading.types.items
           c.entries.gathering.reading.current c.take.new.gathering.reading.current
-          c.entries.walk c.next.new.self (given_entry c.in-Ok-Some.entry)
+          c.entries.walk c.next.new.self c.in-Ok-Some.entry
           step c.entries.invariant.reading done.heads (done.types es) (done.least es) done.pointed;
       placing = λ (version : ℕ).
           placing_more (of_version version (scope c.args.ctx.now)) c.args.ctx.now.start.ending
           c.entries.placing.places.items c.place.new.placing.places.items
           c.entries.placing.pointers.items c.place.new.placing.pointers.items
           c.entries.placing.has_array c.place.new.placing.has_array c.entries.walk c.next.new.self
-          (given_entry c.in-Ok-Some.entry)
+          c.in-Ok-Some.entry
           step (c.entries.invariant.placing version) put.places put.arrays put.standing;
       nested = done.nested;
       placed = done.placed;

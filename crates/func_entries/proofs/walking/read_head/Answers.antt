@@ -1,9 +1,8 @@
-use Rattle.std.proofs.Common.{◌≡◌, ◌==◌, ◌++◌, ◌∙◌, ℕ, [], Bool, true, false, not, List}
-use Rattle.std.proofs.Common.{if◌then◌else◌, refl, sym, ap}
+use Rattle.std.proofs.Common.{◌≡◌, ◌++◌, ◌∙◌, ℕ, [], Bool, true, false, not, List}
+use Rattle.std.proofs.Common.{if◌then◌else◌, sym, ap}
 use Rattle.std.proofs.lemmas.Bool.{eq-eqb}
 use Rattle.dwarf_forms.specs.Meanings.{sections}
-use Rattle.entry_tree.specs.Walks.{given_entry}
-use Rattle.type_attributes.specs.Attributes.{name_asked, flag_asked, is_set}
+use Rattle.type_attributes.specs.Attributes.{name_asked, flag_asked}
 use Rattle.type_attributes.specs.Faults.{noted}
 use Rattle.type_attributes.specs.Labels.{is_empty}
 use Rattle.func_entries.specs.Functions.{has_name, is_function}
@@ -17,13 +16,13 @@ use Rattle.dwarf_abbrev.specs.declared.constants.TheConstants.{DW_TAG_subprogram
 pub returns-clause-noted : goal.returns-clause-noted
 returns-clause-noted c =
     let s = sections c.args.ctx.now in
-    let e = given_entry c.args.entry.now in
+    let e = c.args.entry.now in
     let name = name_asked s e in
     let names = name.refused in
     let declarations = (flag_asked DW_AT_declaration e).refused in
     let externals = (flag_asked DW_AT_external e).refused in
     let named : has_name
-    (name_asked (sections c.args.ctx.now) (given_entry c.args.entry.now)) ≡ true =
+    (name_asked (sections c.args.ctx.now) c.args.entry.now) ≡ true =
     elim c.else-is_none.branch [
       | else-is_none-via-then-is_none+else-is_unnamed w ↦ named_by_name name
           (ap (λ (n : List ℕ). is_empty n) (sym c.name-name.ensures.said) ∙ sym w.is_unnamed.ensures
@@ -32,9 +31,10 @@ returns-clause-noted c =
           c.name-name.ensures.noted
           (c.is_none.ensures ∙ ap (λ (b : Bool). not b) w.if-is_none.false)
     ] in
-    let is : is_function (sections c.args.ctx.now) (given_entry c.args.entry.now) ≡ true =
+    let is : is_function (sections c.args.ctx.now) c.args.entry.now ≡ true =
     function_by s e true true false
-    (eq-eqb e.tag DW_TAG_subprogram c.if-entry-ne-DW_TAG_subprogram.false)
+    (eq-eqb e.tag DW_TAG_subprogram
+    (rw c.tag.ensures at c.if-tag-ne-DW_TAG_subprogram.false))
     named (sym c.if-flag.ensures.said) in
     c.join.ensures
     ∙ values_noted c.args.least.now c.name-name.new.least c.flag.new.least

@@ -1,6 +1,5 @@
-use Rattle.std.proofs.Common.{◌≡◌, ◌≤◌, ◌+◌, ◌++◌, ◌∷◌, ◌∙◌, ℕ, List, None, sym, ap}
+use Rattle.std.proofs.Common.{◌≤◌, ◌++◌, ◌∷◌, ◌∙◌, ℕ, List, ap}
 use Rattle.dwarf_forms.specs.Meanings.{sections}
-use Rattle.entry_tree.specs.Walks.{given_entry}
 use Rattle.type_attributes.specs.declared.source.SourceType.{SourceType}
 use Rattle.type_attributes.specs.Scopes.{scope}
 use Rattle.func_entries.specs.Walking.{prototypes_at}
@@ -10,11 +9,12 @@ use Rattle.func_entries.proofs.walking.take.Goals as goal
 pub returns-clause-types : goal.returns-clause-types
 returns-clause-types c = λ es.
     let s = sections c.args.ctx.now.form in
-    let e = given_entry c.args.entry.now in
+    let e = c.args.entry.now in
     c.in_ok-take_function.ensures.types es
     ∙ ap (λ (ts : List SourceType). ts ++ prototypes_at s e es)
     (c.in_ok-meet.ensures.types es c.close.new.reading.types.items
-    ∙ c.in_ok-close.ensures.types (scope c.args.ctx.now) (e ∷ es) (shallow_first e es))
+    ∙ c.in_ok-close.ensures.types (scope c.args.ctx.now) (e ∷ es)
+    (rw c.depth.ensures (shallow_first e es)))
 
 pub returns-clause-pointed : goal.returns-clause-pointed
 returns-clause-pointed c = λ d le.
@@ -22,9 +22,10 @@ returns-clause-pointed c = λ d le.
     let k = c.args.entry.now.depth in
     c.in_ok-take_function.ensures.pointed d
     (c.in_ok-meet.ensures.pointed d
-    ∙ low_pointed os k d (λ (j : ℕ) (low : j ≤ k). c.in_ok-close.ensures.pointed j low
-    ∙ c.requires.pointed j low) c.in_ok-close.ensures.above le)
+    ∙ low_pointed os k d (λ (j : ℕ) (low : j ≤ k). c.in_ok-close.ensures.pointed j
+    (rw c.depth.ensures low)
+    ∙ c.requires.pointed j low) (rw c.depth.ensures at c.in_ok-close.ensures.above) le)
 
 pub meet-requires-clause-ready : goal.meet-requires-clause-ready
 meet-requires-clause-ready c =
-    λ needed. never (scope c.args.ctx.now) (given_entry c.args.entry.now) c.requires.version needed
+    λ needed. never (scope c.args.ctx.now) c.args.entry.now c.requires.version needed
