@@ -1,4 +1,4 @@
-use Rattle.std.proofs.Common.{◌≡◌, ◌+◌, ◌==◌, ◌∙◌, ℕ, List, length, Some, if◌then◌else◌, refl, sym}
+use Rattle.std.proofs.Common.{◌≡◌, ◌+◌, ◌==◌, ◌∙◌, ℕ, List, length, Some, if◌then◌else◌, sym}
 use Rattle.std.proofs.Common.{ap, rules}
 use Rattle.type_attributes.specs.Scopes.{scope}
 use Rattle.c_types.specs.declared.open.LastPointer.{LastPointer}
