@@ -23,8 +23,8 @@ fn tag_in_walk(walk: Walk<'_, '_>, to: u128) -> Option<u64>
     'entries: loop {
         match walk.next() {
             Ok(Some(entry)) => {
-                if u128::from(entry.at) == to {
-                    return Some(entry.tag);
+                if u128::from(entry.at()) == to {
+                    return Some(entry.tag());
                 }
             }
             _ => return None,
