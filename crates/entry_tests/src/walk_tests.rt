@@ -233,7 +233,7 @@ fn push_told(
     requires { IsContext ctx.now }
 {
     let text = text_of(alloc, ctx, entry, asked)?;
-    let (at, depth, tag) = (entry.at, entry.depth, entry.tag);
+    let (at, depth, tag) = (entry.at(), entry.depth(), entry.tag());
     entries
         .push(Told {
             at,
