@@ -31,6 +31,7 @@ use Rattle.type_attributes.specs.Labels.{Row}
 use Rattle.type_attributes.specs.Parts.{some_tagged}
 use Rattle.type_attributes.specs.BaseTypes.{base_row, unspecified_row}
 use Rattle.type_attributes.specs.References.{atomic_name, reference_row, typedef_row}
+use Rattle.c_types.specs.declared.taker.UnitHead.{UnitHead}
 use Rattle.c_types.specs.Pointers.{pointer_row, pointed_in, is_tag_entry, tag_made}
 use Rattle.c_types.specs.Pointers.{annotation_refused}
 use Rattle.c_types.specs.Arrays.{array_row}
@@ -172,6 +173,12 @@ after_table file unit (Ok declarations) =
 abbrev pub types_of_unit_of : List ℕ → Unit → Result UnitTypes TypeFault
 types_of_unit_of file unit =
     after_table file unit (table_at (section_bytes AbbrevSection file) unit.abbrev_at)
+
+-- what is said of a unit whose types were taken, with these types
+abbrev pub with_types : Result UnitHead TypeFault → List SourceType → Result UnitTypes TypeFault
+with_types (Ok head) types =
+    Ok (record { read = head.read; has_array = head.has_array; types = types })
+with_types (Err f) types = Err f
 
 -- what a reader answers, unless memory ran out
 abbrev pub Gives : Result UnitTypes TypeFault → Result UnitTypes TypeFault → Type 0

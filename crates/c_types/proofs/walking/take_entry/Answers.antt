@@ -18,12 +18,12 @@ use Rattle.c_types.proofs.walking.take_entry.Goals as goal
 use Rattle.type_attributes.specs.declared.tags.TheConstants.{DW_TAG_GNU_annotation}
 
 pub returns-in_ok-take_tag-in-Some-clause-least : goal.returns-in_ok-take_tag-in-Some-clause-least
-returns-in_ok-take_tag-in-Some-clause-least c = λ es later.
+returns-in_ok-take_tag-in-Some-clause-least g c = λ es later.
     let s = scope c.args.ctx.now in
     let e = c.args.entry.now in
     let slice = c.as_slice.ensures.value in
-    let own = pointed_at c.args.reading.now.opens.items c.args.entry.now.depth in
-    let tag : tag_in (sections c.args.ctx.now.form) (pointed_at c.args.reading.now.opens.items
+    let own = pointed_at c.args.opens.now.items c.args.entry.now.depth in
+    let tag : tag_in (sections c.args.ctx.now.form) (pointed_at c.args.opens.now.items
     c.args.entry.now.depth) c.args.entry.now ≡ Some c.in-Some.tag =
     ap (λ (os : List Open). tag_in (sections c.args.ctx.now.form)
     (pointed_at os c.args.entry.now.depth) c.args.entry.now) (sym slice)
@@ -34,19 +34,19 @@ returns-in_ok-take_tag-in-Some-clause-least c = λ es later.
     ap (λ (o : Option Row). annotation_refused s.sections own e ++ refused_in o) rowless
     ∙ append-nil (annotation_refused s.sections own e) in
     c.in_ok-take_tag-in-Some.ensures.least s es later tag
-    ∙ taken_least s c.args.reading.now.opens.items
-    (e ∷ es) c.args.reading.now.current c.type_tag.new.least (refused_of s own e es) later
-    (c.type_tag.ensures.noted ∙ ap (λ (os : List Open). noted c.args.reading.now.current
+    ∙ taken_least s c.args.opens.now.items
+    (e ∷ es) c.args.current.now c.type_tag.new.least (refused_of s own e es) later
+    (c.type_tag.ensures.noted ∙ ap (λ (os : List Open). noted c.args.current.now
     (annotation_refused s.sections (pointed_at os c.args.entry.now.depth) e)) slice
-    ∙ ap (λ (fs : List TypeFault). noted c.args.reading.now.current fs) (sym all))
+    ∙ ap (λ (fs : List TypeFault). noted c.args.current.now fs) (sym all))
 
 pub returns-in_ok-take_tag-in-Some-clause-pointed :
     goal.returns-in_ok-take_tag-in-Some-clause-pointed
-returns-in_ok-take_tag-in-Some-clause-pointed c = λ d.
+returns-in_ok-take_tag-in-Some-clause-pointed g c = λ d.
     let s = scope c.args.ctx.now in
     let e = c.args.entry.now in
-    let own = pointed_at c.args.reading.now.opens.items c.args.entry.now.depth in
-    let tag : tag_in (sections c.args.ctx.now.form) (pointed_at c.args.reading.now.opens.items
+    let own = pointed_at c.args.opens.now.items c.args.entry.now.depth in
+    let tag : tag_in (sections c.args.ctx.now.form) (pointed_at c.args.opens.now.items
     c.args.entry.now.depth) c.args.entry.now ≡ Some c.in-Some.tag =
     ap (λ (os : List Open). tag_in (sections c.args.ctx.now.form)
     (pointed_at os c.args.entry.now.depth) c.args.entry.now)
@@ -57,36 +57,36 @@ returns-in_ok-take_tag-in-Some-clause-pointed c = λ d.
     ne_eqb c.args.entry.now.tag 15 (λ (p : c.args.entry.now.tag ≡ 15). omega (arith, p, is)) in
     c.in_ok-take_tag-in-Some.ensures.pointed s d tag
     ∙ ap (λ (b : Bool). if c.args.entry.now.depth + 1 == d then (if b then Some (own_target
-    s.sections e) else None) else pointed_at c.args.reading.now.opens.items d) (sym other)
+    s.sections e) else None) else pointed_at c.args.opens.now.items d) (sym other)
 
 pub returns-in_ok-last-in-None-clause-types : goal.returns-in_ok-last-in-None-clause-types
-returns-in_ok-last-in-None-clause-types c = λ es.
+returns-in_ok-last-in-None-clause-types g c = λ es.
     let s = scope c.args.ctx.now in
     let e = c.args.entry.now in
-    let types = c.args.reading.now.types.items in
-    let own = pointed_at c.args.reading.now.opens.items c.args.entry.now.depth in
+    let types = (g.T.Taker.types c.args.types.now) in
+    let own = pointed_at c.args.opens.now.items c.args.entry.now.depth in
     let untold : None ≡ tag_in (sections c.args.ctx.now.form) (pointed_at
-    c.args.reading.now.opens.items c.args.entry.now.depth) c.args.entry.now =
+    c.args.opens.now.items c.args.entry.now.depth) c.args.entry.now =
     c.in-None.ensures.tag ∙ ap (λ (os : List Open). tag_in (sections c.args.ctx.now.form)
     (pointed_at os c.args.entry.now.depth) c.args.entry.now)
     c.as_slice.ensures.value in
     let untagged : is_tag_entry (sections c.args.ctx.now.form)
-    (pointed_at c.args.reading.now.opens.items c.args.entry.now.depth)
+    (pointed_at c.args.opens.now.items c.args.entry.now.depth)
     c.args.entry.now ≡ false = no_tag_entry s.sections own e untold in
-    let made : made_of (scope c.args.ctx.now) (pointed_at c.args.reading.now.opens.items
+    let made : made_of (scope c.args.ctx.now) (pointed_at c.args.opens.now.items
     c.args.entry.now.depth) c.args.entry.now es ≡ made_in
     (row_of (scope c.args.ctx.now) c.args.entry.now es) = rw untagged refl in
     c.in_ok-last-in-None.ensures.types es ∙ ap (λ (ts : List SourceType).
     ts ++ listed (made_in (row_of s e es))) (c.in_ok-meet-in-None.ensures.types es types)
     ∙ ap (λ (o : Option SourceType).
-    filled s c.args.reading.now.opens.items (e ∷ es) types ++ listed o) (sym made)
+    filled s c.args.opens.now.items (e ∷ es) types ++ listed o) (sym made)
 
 pub returns-in_ok-last-in-None-clause-least : goal.returns-in_ok-last-in-None-clause-least
-returns-in_ok-last-in-None-clause-least c = λ es later.
+returns-in_ok-last-in-None-clause-least g c = λ es later.
     let s = scope c.args.ctx.now in
     let e = c.args.entry.now in
-    let os = c.args.reading.now.opens.items in
-    let current = c.args.reading.now.current in
+    let os = c.args.opens.now.items in
+    let current = c.args.current.now in
     let own = pointed_at os c.args.entry.now.depth in
     let rest = refused_in (row_of s e es) in
     c.in_ok-last-in-None.ensures.least es later

@@ -1,14 +1,14 @@
 use Rattle.dwarf_forms.specs.Meanings.{sections}
 use Rattle.type_attributes.specs.Scopes.{scope}
 use Rattle.c_types.specs.Arrays.{array_row}
-use Rattle.c_types.proofs.walking.take_array.Goals as goal
+use Rattle.c_types.proofs.rows.take_array.Goals as goal
 
 pub returns-clause-types : goal.returns-clause-types
-returns-clause-types c = λ es. rw c.depth.ensures at
-    (c.in_ok-begin.ensures.types (scope c.args.ctx.now) (array_row
+returns-clause-types g c = λ es. rw c.depth.ensures at
+    (c.in_ok-begin_to.ensures.types (scope c.args.ctx.now) (array_row
     (sections c.args.ctx.now.form) c.args.entry.now) es c.open_array.ensures)
 
 pub returns-clause-least : goal.returns-clause-least
-returns-clause-least c = λ es later. rw c.depth.ensures at
-    (c.in_ok-begin.ensures.least (scope c.args.ctx.now) (array_row
+returns-clause-least g c = λ es later. rw c.depth.ensures at
+    (c.in_ok-begin_to.ensures.least (scope c.args.ctx.now) (array_row
     (sections c.args.ctx.now.form) c.args.entry.now) es later c.open_array.ensures)
