@@ -27,7 +27,8 @@ pub fn close<'a>(alloc: Global, reading: &mut Reading<'a>, depth: u32) -> Result
         ≡ least_of s reading.old.opens.items rest reading.old.current later) }
     ensures nested { OnOk result (AreNested reading.new.opens.items) }
     ensures above { OnOk result (AreAbove depth reading.new.opens.items) }
-    ensures placed { OnOk result (ArePlaced (length reading.new.types.items) reading.new.opens.items) }
+    ensures placed { OnOk result
+        (ArePlaced (length reading.new.types.items) reading.new.opens.items) }
     ensures arrays { OnOk result (reading.new.has_array ≡ reading.old.has_array) }
     ensures pointed { OnOk result ((d : ℕ) → d ≤ depth
         → pointed_at reading.new.opens.items d ≡ pointed_at reading.old.opens.items d) }
@@ -61,7 +62,8 @@ pub fn begin<'a>(
         reading.new.current later ≡ least_of s reading.old.opens.items es reading.old.current
         ((row (children_of depth es)).refused ++ later)) }
     ensures nested { OnOk result (AreNested reading.new.opens.items) }
-    ensures placed { OnOk result (ArePlaced (length reading.new.types.items) reading.new.opens.items) }
+    ensures placed { OnOk result
+        (ArePlaced (length reading.new.types.items) reading.new.opens.items) }
     ensures arrays { OnOk result (reading.new.has_array ≡ reading.old.has_array) }
     ensures pointed { OnOk result ((d : ℕ) → pointed_at reading.new.opens.items d
         ≡ (if depth + 1 == d then own_of kept.entry else pointed_at reading.old.opens.items d)) }

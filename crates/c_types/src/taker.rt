@@ -9,7 +9,9 @@ use type_attributes::labels::{make_label, no_targets};
 use type_attributes::source::SourceType;
 
 /// What takes the types of a unit. Each has a place, which is taken when its entry begins, so the
-/// places are in the order of the entries; it is put there when all of its children have come.
+/// places are in the order of the entries. A type that needs its children is put in its place when
+/// they have come. A pointer is taken whole, and put once more where entries stand in it, since one
+/// of them may be a type tag.
 ///
 /// A taker refuses nothing: each call fails only where memory can't be found.
 pub trait Taker<'a> {

@@ -31,7 +31,8 @@ returns-clause-types g c = λ es.
     let set : is_set (flag_asked DW_AT_declaration c.args.entry.now) ≡ true =
     sym c.flag-is_declared.ensures.said ∙ c.if-not-is_declared.false in
     taken_filled s c.args.opens.now.items es (g.T.Taker.types c.args.types.now)
-    (g.T.Taker.types c.push.new.self) ((enumeration_row s.sections e kids).made ∷ []) c.requires.placed
+    (g.T.Taker.types c.push.new.self) ((enumeration_row s.sections e kids).made ∷ [])
+    c.requires.placed
     (c.in_ok-push.ensures ∙ ap (λ (t : SourceType). (g.T.Taker.types c.args.types.now) ++ t ∷ [])
     (c.declared_enumeration-made.ensures.made ∙ sym (row_declared s.sections e kids set).0))
 

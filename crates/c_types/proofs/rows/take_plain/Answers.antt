@@ -9,11 +9,13 @@ use Rattle.c_types.proofs.rows.take_plain.Goals as goal
 
 pub returns-clause-types : goal.returns-clause-types
 returns-clause-types g c = λ es.
-    taken_filled (scope c.args.ctx.now) c.args.opens.now.items es
-    (g.T.Taker.types c.args.types.now) (g.T.Taker.types c.take_type.new.types) (listed (made_in (plain_row_of
-    (sections c.args.ctx.now.form) c.args.entry.now))) c.requires.placed
-    (c.in_ok-take_type.ensures ∙ ap (λ (o : Option SourceType).
-    (g.T.Taker.types c.args.types.now) ++ listed o) c.in_ok-one.ensures.made)
+    let types = g.T.Taker.types c.args.types.now in
+    taken_filled (scope c.args.ctx.now) c.args.opens.now.items es types
+    (g.T.Taker.types c.take_type.new.types)
+    (listed (made_in (plain_row_of (sections c.args.ctx.now.form) c.args.entry.now)))
+    c.requires.placed
+    (c.in_ok-take_type.ensures ∙ ap (λ (o : Option SourceType). types ++ listed o)
+    c.in_ok-one.ensures.made)
 
 pub returns-clause-least : goal.returns-clause-least
 returns-clause-least g c = λ es later.

@@ -93,7 +93,8 @@ returns-clause-types g c = λ s es tag.
     (g.T.Taker.types c.put.new.self)
     (g.T.Taker.types c.begin_to.new.types) c.pointing-made.result
     (c.pointing-made.ensures ∙ ap (λ (to : ℕ). pointer_by c.in-Some-kept_pointer.pointer
-    (Entry c.in-Some-kept_pointer.pointer.at to)) (c.from.ensures ∙ c.at-at.ensures)) c.in_ok-put.ensures
+    (Entry c.in-Some-kept_pointer.pointer.at to)) (c.from.ensures ∙ c.at-at.ensures))
+    c.in_ok-put.ensures
     (rw c.at-at.ensures at (c.in_ok-begin_to.ensures.types s (tag_row s.sections c.at-at.result
     c.args.tag q.own) es (tag_comes s c.at-at.result c.args.tag q.own)))
     ∙ ap (λ (os : List Open). filled s os (c.args.entry.now ∷ es)
