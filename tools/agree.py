@@ -17,10 +17,13 @@ from described import Described
 PEER = ["pahole", "--skip_encoding_btf_vars", "--btf_gen_floats", "--btf_encode_detached=o"]
 DECLARABLE = ("STRUCT", "UNION")
 INDEX, ATOMIC, DECLARED = "the type of indices", "`_Atomic`", "declarations beside several definitions"
+ODD = "integers of sizes that BTF has none of"
 # the type of indices there, also where a file has no `int`
 INDEX_THERE = "INT int 4 0x1000020"
+# integers of 3 or 6 bytes, which clang names so in expressions of places: a structure of that size here, and one integer for all of them there
+ODD_HERE, ODD_THERE = re.compile(r"STRUCT DW_ATE_\w+ \d+ 0 \{\}"), "INT __SANITIZED_FAKE_INT__ "
 # what differs on purpose, and what shows a fault of one of the two
-MEANT, BITS = (INDEX, ATOMIC, DECLARED), "places of bit fields"
+MEANT, BITS = (INDEX, ATOMIC, DECLARED, ODD), "places of bit fields"
 # how many types that differ are shown, and how many names of functions
 SHOWN, FEW = 20, 8
 
@@ -37,6 +40,8 @@ def cause(where, told, often):
         return INDEX
     if "_Atomic" in told:
         return ATOMIC
+    if ODD_HERE.fullmatch(told) or told.startswith(ODD_THERE):
+        return ODD
     if told.startswith("FWD "):
         _, name, _, is_union, _ = told.split(" ")
         return DECLARED if (DECLARABLE[int(is_union)], name) in often else None
