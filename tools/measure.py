@@ -295,6 +295,14 @@ def made_inputs(program, root, folder, runs):
         os.remove(path)
 
 
+def phases(program, root, named):
+    """What each phase takes over a kernel with one worker."""
+    found = [named] if named else sorted(glob.glob(KERNELS))
+    if found:
+        print(flush=True)
+        subprocess.run([sys.executable, "-B", f"{root}/tools/phases.py", program, found[-1]], check=False)
+
+
 def main():
     program, root, folder, runs = os.path.abspath(sys.argv[1]), *sys.argv[2:4], int(sys.argv[4])
     machine(program, runs)
@@ -306,6 +314,7 @@ def main():
     made_inputs(program, root, folder, runs)
     if ours and funcs and theirs:
         compare(ours, funcs, theirs)
+    phases(program, root, sys.argv[5] if len(sys.argv) > 5 else None)
     return any(line.startswith("failed ") for line in said)
 
 
