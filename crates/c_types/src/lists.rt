@@ -7,6 +7,7 @@ ghost use Rattle.type_attributes.specs.Children.{children_of};
 ghost use Rattle.type_attributes.specs.Labels.{Row};
 ghost use Rattle.type_attributes.specs.declared.fault.TypeFault.{TypeFault};
 ghost use Rattle.c_types.specs.Opened.{ComesTo};
+ghost use Rattle.c_types.specs.Places.{reserved};
 ghost use Rattle.c_types.specs.Walking.{filled, least_of, AreNested, ArePlaced, AreAbove};
 ghost use Rattle.c_types.specs.Walking.{IsShallow, own_of, pointed_at};
 
@@ -29,7 +30,6 @@ pub fn close<'a>(alloc: Global, reading: &mut Reading<'a>, depth: u32) -> Result
     ensures above { OnOk result (AreAbove depth reading.new.opens.items) }
     ensures placed { OnOk result
         (ArePlaced (length reading.new.types.items) reading.new.opens.items) }
-    ensures arrays { OnOk result (reading.new.has_array ≡ reading.old.has_array) }
     ensures pointed { OnOk result ((d : ℕ) → d ≤ depth
         → pointed_at reading.new.opens.items d ≡ pointed_at reading.old.opens.items d) }
 {
@@ -42,7 +42,8 @@ pub fn close<'a>(alloc: Global, reading: &mut Reading<'a>, depth: u32) -> Result
     )
 }
 
-/// A type begins: its place is taken, and it is open from here on.
+/// A type begins, with the entry at this offset of `.debug_info`: its place is taken, and it is
+/// open from here on.
 pub fn begin<'a>(
     alloc: Global,
     at: u64,
@@ -53,6 +54,8 @@ pub fn begin<'a>(
     requires nested { AreNested reading.old.opens.items }
     requires above { AreAbove depth reading.old.opens.items }
     requires placed { ArePlaced (length reading.old.types.items) reading.old.opens.items }
+    ensures place { OnOk result
+        (reading.new.types.items ≡ reading.old.types.items ++ reserved at ∷ []) }
     ensures types { OnOk result ((s : Scope) (row : List Given → Row) (es : List Given)
         → ComesTo s kept.entry row → filled s reading.new.opens.items es reading.new.types.items
         ≡ filled s reading.old.opens.items es reading.old.types.items
@@ -64,7 +67,6 @@ pub fn begin<'a>(
     ensures nested { OnOk result (AreNested reading.new.opens.items) }
     ensures placed { OnOk result
         (ArePlaced (length reading.new.types.items) reading.new.opens.items) }
-    ensures arrays { OnOk result (reading.new.has_array ≡ reading.old.has_array) }
     ensures pointed { OnOk result ((d : ℕ) → pointed_at reading.new.opens.items d
         ≡ (if depth + 1 == d then own_of kept.entry else pointed_at reading.old.opens.items d)) }
 {

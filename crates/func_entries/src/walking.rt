@@ -228,7 +228,6 @@ pub(crate) fn read_functions<'a>(
             types: Vec::new(alloc),
             opens: Vec::new(alloc),
             current: None,
-            has_array: false,
         },
     };
     'entries: loop {
