@@ -1,5 +1,6 @@
 //! Tests of the crates that read bytes, words and the world: numbers, abbreviations, sections and
-//! relocations of objects, the words of a command line, and worlds in memory and of the host.
+//! relocations of objects, strings of BTF, the words of a command line, and worlds in memory and of
+//! the host.
 #![tactic(auto)]
 
 #[cfg(test)]
@@ -7,9 +8,13 @@ mod abbreviation_tests;
 #[cfg(test)]
 mod number_tests;
 #[cfg(test)]
+mod objects;
+#[cfg(test)]
 mod relocation_tests;
 #[cfg(test)]
 mod section_tests;
+#[cfg(test)]
+mod string_tests;
 #[cfg(test)]
 mod word_tests;
 #[cfg(test)]

@@ -1,7 +1,7 @@
 //! Texts of small tables: worked rows, and each form of a declaration written out by hand; sizes,
 //! places of members, and long chains of typedefs.
 use crate::fitting::{is_structure, is_table};
-use crate::rows::{PartRow, Row, Rows, table_of, type_of, types_of};
+use crate::rows::{PartRow, Row, Rows, push, push_typedefs, table_of, types_of};
 use btf_codec::Table;
 use c_model::{CType, Ref};
 use dw_base::Bytes;
@@ -347,25 +347,47 @@ const WIDE_BY_128: &[u8] = b"struct s {\n\
     };\n";
 
 /// What it is, the rows of its table, the type's id, that of its structure, how many bytes a cache
-/// line has, and its text.
-type Printed = (&'static str, Rows, u32, u32, u32, &'static [u8]);
+/// line has, and its text; where nothing is said of cache lines, its line of sizes.
+type Printed = (&'static str, Rows, u32, u32, Option<u32>, &'static [u8]);
 
-const PRINTED: [Printed; 8] = [
+const PRINTED: [Printed; 9] = [
     (
         "a typedef of a structure",
         REGISTRY,
         8,
         2,
-        64,
+        Some(64),
         REGISTRY_TEXT,
     ),
-    ("a structure", LIST_HEAD, 1, 1, 64, LIST_HEAD_TEXT),
-    ("each form of a declaration", FORMS, 30, 30, 64, FORMS_TEXT),
-    ("type tags", TAGGED, 27, 27, 64, TAGGED_TEXT),
-    ("holes in bits and lines", BITS, 2, 2, 16, BITS_TEXT),
-    ("cache lines of 16 bytes", WIDE, 4, 4, 16, WIDE_BY_16),
-    ("cache lines of 64 bytes", WIDE, 4, 4, 64, WIDE_BY_64),
-    ("cache lines of 128 bytes", WIDE, 4, 4, 128, WIDE_BY_128),
+    (
+        "a line of sizes",
+        REGISTRY,
+        8,
+        2,
+        None,
+        b"registry\t72\t1\n",
+    ),
+    ("a structure", LIST_HEAD, 1, 1, Some(64), LIST_HEAD_TEXT),
+    (
+        "each form of a declaration",
+        FORMS,
+        30,
+        30,
+        Some(64),
+        FORMS_TEXT,
+    ),
+    ("type tags", TAGGED, 27, 27, Some(64), TAGGED_TEXT),
+    ("holes in bits and lines", BITS, 2, 2, Some(16), BITS_TEXT),
+    ("cache lines of 16 bytes", WIDE, 4, 4, Some(16), WIDE_BY_16),
+    ("cache lines of 64 bytes", WIDE, 4, 4, Some(64), WIDE_BY_64),
+    (
+        "cache lines of 128 bytes",
+        WIDE,
+        4,
+        4,
+        Some(128),
+        WIDE_BY_128,
+    ),
 ];
 
 /// The table of rows.
@@ -373,7 +395,8 @@ fn table_by(alloc: Global, rows: &[Row<'static, '_>]) -> Result<Table<'static>, 
     Ok(table_of(0, types_of(alloc, rows)?))
 }
 
-/// The layout of a structure, if the table is as `layout` asks.
+/// The layout of a structure, if the table is as `layout` asks. No type of these tables tells how
+/// many bytes a pointer has.
 fn placed(
     alloc: Global,
     table: &Table<'_>,
@@ -383,18 +406,36 @@ fn placed(
     if !is_table(types) || !is_structure(types, id) {
         return Err(Fail::from("no structure"));
     }
-    let sizes = sizes_of(alloc, table, 8)?;
+    let sizes = sizes_of(alloc, table, pointer_of(table))?;
     Ok(layout(alloc, table, &sizes, id))
 }
 
-/// The text of a type, where a cache line has `line` bytes.
-fn text_by(alloc: Global, rows: Rows, id: u32, structure: u32, line: u32) -> Result<Bytes, Fail> {
-    if line == 0 {
-        return Err(Fail::from("no cache line"));
+/// The text of a type, where a cache line has `line` bytes, or its line of sizes.
+fn text_in(
+    alloc: Global,
+    table: &Table<'_>,
+    id: u32,
+    structure: u32,
+    line: Option<u32>,
+) -> Result<Bytes, Fail> {
+    let placed = placed(alloc, table, structure)??;
+    match line {
+        None => Ok(sizes_line(alloc, table, id, &placed)?),
+        Some(0) => Err(Fail::from("no cache line")),
+        Some(line) => Ok(text(alloc, table, id, &placed, line)?),
     }
+}
+
+/// The same of the table of rows.
+fn text_by(
+    alloc: Global,
+    rows: Rows,
+    id: u32,
+    structure: u32,
+    line: Option<u32>,
+) -> Result<Bytes, Fail> {
     let table = table_by(alloc, rows)?;
-    let placed = placed(alloc, &table, structure)??;
-    Ok(text(alloc, &table, id, &placed, line)?)
+    text_in(alloc, &table, id, structure, line)
 }
 
 /// The first type with another text.
@@ -407,30 +448,120 @@ fn first_other_text(alloc: Global) -> Result<Option<&'static str>, Fail> {
     Ok(None)
 }
 
-#[test]
-fn texts(rt: HostRuntime) -> Result<(), Fail> {
-    assert_eq!(rt; first_other_text(rt.alloc())?, None);
-    Ok(())
+/// Where a member lies: its first bit, its bits, whether it is a bit field, and the hole before it.
+type Place = (u64, u64, bool, u64);
+
+/// An `int`.
+const INT: Row<'static, 'static> = Row(1, b"int", false, 4, 0, &[], &[]);
+
+/// A structure of two members of `int`: its flag, its size, the offset words of its members, the
+/// places of these, and the padding.
+type Placed = (bool, u32, (u64, u64), &'static [Place], u64);
+
+const PLACED: &[Placed] = &[
+    // In order, with a hole and padding.
+    (
+        false,
+        16,
+        (0, 64),
+        &[(0, 32, false, 0), (64, 32, false, 32)],
+        32,
+    ),
+    // Out of order: the second is before the first, and no hole.
+    (
+        false,
+        16,
+        (64, 0),
+        &[(64, 32, false, 64), (0, 32, false, 0)],
+        32,
+    ),
+    // They overlap.
+    (
+        false,
+        8,
+        (0, 16),
+        &[(0, 32, false, 0), (16, 32, false, 0)],
+        16,
+    ),
+    // The size is smaller than where they end.
+    (
+        false,
+        4,
+        (0, 32),
+        &[(0, 32, false, 0), (32, 32, false, 0)],
+        0,
+    ),
+    // A bit field ends in a byte, and the next member is none.
+    (
+        true,
+        8,
+        (0x0300_0000, 32),
+        &[(0, 3, true, 0), (32, 32, false, 29)],
+        0,
+    ),
+    // The last bit field that an offset word has.
+    (
+        true,
+        4,
+        (0, 0xffff_ffff),
+        &[(0, 32, false, 0), (0xff_ffff, 255, true, 0xff_ffdf)],
+        0,
+    ),
+    // Without the flag the whole word is the first bit.
+    (
+        false,
+        4,
+        (0, 0xffff_ffff),
+        &[(0, 32, false, 0), (0xffff_ffff, 32, false, 0xffff_ffdf)],
+        0,
+    ),
+];
+
+/// The layout of such a structure.
+fn placed_members(alloc: Global, row: &Placed) -> Result<Result<TypeLayout, LayoutFault>, Fail> {
+    let (flag, size, (first, second), _, _) = *row;
+    let members = [(b"a".as_slice(), first), (b"b".as_slice(), second)];
+    let mut types = Vec::new(alloc);
+    push(alloc, &mut types, INT)?;
+    push(
+        alloc,
+        &mut types,
+        Row(4, b"s", flag, size, 0, &members, &[1, 1]),
+    )?;
+    placed(alloc, &table_of(0, types), 2)
 }
 
-/// The line of sizes of the typedef of a structure.
-fn line_of_sizes(alloc: Global) -> Result<Bytes, Fail> {
-    let table = table_by(alloc, REGISTRY)?;
-    let placed = placed(alloc, &table, 2)??;
-    Ok(sizes_line(alloc, &table, 8, &placed)?)
+/// Whether a slot is at a place.
+fn is_at(slot: &Slot, place: &Place) -> bool {
+    (slot.start, slot.bits, slot.field, slot.hole) == *place
 }
 
-#[test]
-fn a_line_of_sizes(rt: HostRuntime) -> Result<(), Fail> {
-    let line = line_of_sizes(rt.alloc())?;
-    assert!(rt; line.items() == b"registry\t72\t1\n".as_slice());
-    Ok(())
+/// Whether members have these places, and there is no other.
+fn are_at(slots: &[Slot], places: &[Place]) -> bool {
+    for (slot, place) in slots.iter().zip(places) {
+        if !is_at(slot, place) {
+            return false;
+        }
+    }
+    slots.len() == places.len()
 }
 
-#[test]
-fn no_type_tells_of_pointers(rt: HostRuntime) -> Result<(), Fail> {
-    assert_eq!(rt; pointer_of(&table_by(rt.alloc(), LIST_HEAD)?), 8);
-    Ok(())
+/// Whether a structure is laid out as its row says.
+fn is_placed(found: &Result<TypeLayout, LayoutFault>, row: &Placed) -> bool {
+    match found {
+        Ok(found) => found.padding == row.4 && are_at(found.slots.items(), row.3),
+        Err(_) => false,
+    }
+}
+
+/// The first structure with another layout, by its place in the list.
+fn first_other_layout(alloc: Global, rows: &[Placed]) -> Result<Option<usize>, Fail> {
+    for (k, row) in rows.iter().enumerate() {
+        if !is_placed(&placed_members(alloc, row)?, row) {
+            return Ok(Some(k));
+        }
+    }
+    Ok(None)
 }
 
 /// A structure with a pointer, and a member of a type that has no size.
@@ -440,11 +571,18 @@ const UNSIZED: Rows = &[
     Row(2, b"", false, 0, 0, &[], &[2]),
 ];
 
+/// Whether that structure has no layout, since this type has no size.
+fn lacks_a_size(alloc: Global) -> Result<bool, Fail> {
+    let table = table_by(alloc, UNSIZED)?;
+    let found = placed(alloc, &table, 1)?;
+    Ok(found.err() == Some(LayoutFault::NoSize(2)))
+}
+
 #[test]
-fn a_member_without_a_size(rt: HostRuntime) -> Result<(), Fail> {
-    let table = table_by(rt.alloc(), UNSIZED)?;
-    let refused = matches!(&placed(rt.alloc(), &table, 1)?, Err(LayoutFault::NoSize(2)));
-    assert!(rt; refused);
+fn texts_and_layouts(rt: HostRuntime) -> Result<(), Fail> {
+    assert_eq!(rt; first_other_text(rt.alloc())?, None);
+    assert_eq!(rt; first_other_layout(rt.alloc(), PLACED)?, None);
+    assert!(rt; lacks_a_size(rt.alloc())?);
     Ok(())
 }
 
@@ -487,13 +625,18 @@ const SIZED: &[(Row<'static, 'static>, Option<u64>)] = &[
     (Row(8, b"d", false, 0, 0, &[], &[3000]), None),
 ];
 
-/// The sizes of these types.
-fn known_sizes(alloc: Global) -> Result<Sizes, Fail> {
+/// These types.
+fn sized_types(alloc: Global) -> Result<Vec<CType<'static>>, AllocError> {
     let mut types = Vec::new(alloc);
     for (row, _) in SIZED {
-        types.push(type_of(alloc, *row)?)?;
+        push(alloc, &mut types, *row)?;
     }
-    let table = table_of(0, types);
+    Ok(types)
+}
+
+/// The sizes of these types.
+fn known_sizes(alloc: Global) -> Result<Sizes, Fail> {
+    let table = table_of(0, sized_types(alloc)?);
     if table.types.items().len() > 1000 {
         return Err(Fail::from("many types"));
     }
@@ -510,118 +653,18 @@ fn first_other_size(sizes: &[Option<u64>]) -> Option<usize> {
     None
 }
 
+/// Whether these are the sizes of these types, and void has none.
+fn are_known(sizes: &Sizes) -> bool {
+    sizes.items.len() == SIZED.len()
+        && sizes.of(Ref::Void).is_none()
+        && sizes.of(Ref::Node(2)) == Some(40)
+}
+
 #[test]
 fn sizes_of_each_kind(rt: HostRuntime) -> Result<(), Fail> {
     let sizes = known_sizes(rt.alloc())?;
-    assert_eq!(rt; sizes.items.len(), SIZED.len());
     assert_eq!(rt; first_other_size(&sizes.items), None);
-    assert!(rt; sizes.of(Ref::Void).is_none() && sizes.of(Ref::Node(2)) == Some(40));
-    Ok(())
-}
-
-/// Where a member lies: its first bit, its bits, whether it is a bit field, and the hole before it.
-type Place = (u64, u64, bool, u64);
-
-/// An `int`.
-const INT: Row<'static, 'static> = Row(1, b"int", false, 4, 0, &[], &[]);
-
-/// A structure of two members of `int`, their places, and the padding.
-const PLACED: &[(Row<'static, 'static>, [Place; 2], u64)] = &[
-    // In order, with a hole and padding.
-    (
-        Row(4, b"s", false, 16, 0, &[(b"a", 0), (b"b", 64)], &[1, 1]),
-        [(0, 32, false, 0), (64, 32, false, 32)],
-        32,
-    ),
-    // Out of order: the second is before the first, and no hole.
-    (
-        Row(4, b"s", false, 16, 0, &[(b"a", 64), (b"b", 0)], &[1, 1]),
-        [(64, 32, false, 64), (0, 32, false, 0)],
-        32,
-    ),
-    // They overlap.
-    (
-        Row(4, b"s", false, 8, 0, &[(b"a", 0), (b"b", 16)], &[1, 1]),
-        [(0, 32, false, 0), (16, 32, false, 0)],
-        16,
-    ),
-    // The size is smaller than where they end.
-    (
-        Row(4, b"s", false, 4, 0, &[(b"a", 0), (b"b", 32)], &[1, 1]),
-        [(0, 32, false, 0), (32, 32, false, 0)],
-        0,
-    ),
-    // A bit field ends in a byte, and the next member is none.
-    (
-        Row(
-            4,
-            b"s",
-            true,
-            8,
-            0,
-            &[(b"a", 0x0300_0000), (b"b", 32)],
-            &[1, 1],
-        ),
-        [(0, 3, true, 0), (32, 32, false, 29)],
-        0,
-    ),
-    // The last bit field that an offset word has.
-    (
-        Row(
-            4,
-            b"s",
-            true,
-            4,
-            0,
-            &[(b"a", 0), (b"b", 0xffff_ffff)],
-            &[1, 1],
-        ),
-        [(0, 32, false, 0), (0xff_ffff, 255, true, 0xff_ffdf)],
-        0,
-    ),
-    // Without the flag the whole word is the first bit.
-    (
-        Row(
-            4,
-            b"s",
-            false,
-            4,
-            0,
-            &[(b"a", 0), (b"b", 0xffff_ffff)],
-            &[1, 1],
-        ),
-        [(0, 32, false, 0), (0xffff_ffff, 32, false, 0xffff_ffdf)],
-        0,
-    ),
-];
-
-/// Whether a slot is at a place.
-fn is_at(slot: &Slot, place: &Place) -> bool {
-    (slot.start, slot.bits, slot.field, slot.hole) == *place
-}
-
-/// Whether two members have these places, and there is no other.
-fn are_at(slots: &[Slot], places: &[Place; 2]) -> bool {
-    match slots {
-        [first, second] => is_at(first, &places[0]) && is_at(second, &places[1]),
-        _ => false,
-    }
-}
-
-/// The first structure with another layout, by its place in the list.
-fn first_other_layout(alloc: Global) -> Result<Option<usize>, Fail> {
-    for (k, (row, places, padding)) in PLACED.iter().enumerate() {
-        let placed = placed(alloc, &table_by(alloc, &[INT, *row])?, 2)??;
-        if !are_at(placed.slots.items(), places) || placed.padding != *padding {
-            return Ok(Some(k));
-        }
-    }
-    Ok(None)
-}
-
-#[test]
-fn members_in_any_order(rt: HostRuntime) -> Result<(), Fail> {
-    assert_eq!(rt; first_other_layout(rt.alloc())?, None);
+    assert!(rt; are_known(&sizes));
     Ok(())
 }
 
@@ -635,23 +678,25 @@ fn members<'a>(alloc: Global) -> Result<Vec<PartRow<'a>>, AllocError> {
 }
 
 /// Adds 1,000 structures of 100 members of the type with the id 100,001.
-fn push_structures<'a>(alloc: Global, types: &mut Vec<CType<'a>>) -> Result<(), AllocError> {
-    let members = members(alloc)?;
-    let structure = Row(4, b"t", false, 400, 0, &members, &[100_001; 100]);
+fn push_structures<'a>(
+    alloc: Global,
+    types: &mut Vec<CType<'a>>,
+    members: &[PartRow<'a>],
+) -> Result<(), AllocError> {
+    let structure = Row(4, b"t", false, 400, 0, members, &[100_001; 100]);
     for _ in 0..1_000 {
-        types.push(type_of(alloc, structure)?)?;
+        push(alloc, types, structure)?;
     }
     Ok(())
 }
 
 /// A type, 100,000 typedefs of it behind each other, and 1,000 structures with members of the last.
 fn long_chain<'a>(alloc: Global, first: Row<'a, '_>) -> Result<Table<'a>, AllocError> {
+    let members = members(alloc)?;
     let mut types = Vec::new(alloc);
-    types.push(type_of(alloc, first)?)?;
-    for id in 1..100_001 {
-        types.push(type_of(alloc, Row(8, b"t", false, 0, 0, &[], &[id]))?)?;
-    }
-    push_structures(alloc, &mut types)?;
+    push(alloc, &mut types, first)?;
+    push_typedefs(alloc, &mut types, 1, 100_001)?;
+    push_structures(alloc, &mut types, &members)?;
     Ok(table_of(0, types))
 }
 
@@ -682,21 +727,26 @@ fn is_whole(placed: Result<TypeLayout, LayoutFault>) -> Result<bool, Fail> {
     }
 }
 
-/// An `int`, and a typedef of the last typedef of a long chain.
-const FIRST: [(Row<'static, 'static>, bool); 2] = [
+/// An `int`, and a typedef of the last typedef of a long chain, and whether all structures behind
+/// the chain have a layout.
+const FIRST: &[(Row<'static, 'static>, bool)] = &[
     (Row(1, b"t", false, 4, 0, &[], &[0]), true),
     (Row(8, b"t", false, 0, 0, &[], &[100_001]), false),
 ];
 
-/// Whether all structures behind a long chain of typedefs of a type have a layout.
-fn are_whole_behind(alloc: Global, first: Row<'static, '_>) -> Result<bool, Fail> {
-    are_whole(alloc, &long_chain(alloc, first)?)
+/// The first type behind which it is otherwise, by its place in the list.
+fn first_other_chain(alloc: Global) -> Result<Option<usize>, Fail> {
+    for (k, (first, wanted)) in FIRST.iter().enumerate() {
+        let table = long_chain(alloc, *first)?;
+        if are_whole(alloc, &table)? != *wanted {
+            return Ok(Some(k));
+        }
+    }
+    Ok(None)
 }
 
 #[test]
 fn long_chains_and_many_members(rt: HostRuntime) -> Result<(), Fail> {
-    for (first, wanted) in FIRST {
-        assert!(rt; are_whole_behind(rt.alloc(), first)? == wanted, "{wanted}");
-    }
+    assert_eq!(rt; first_other_chain(rt.alloc())?, None);
     Ok(())
 }

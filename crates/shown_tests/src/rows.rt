@@ -52,7 +52,7 @@ fn parts_of<'a>(alloc: Global, rows: &[PartRow<'a>]) -> Result<Parts<'a>, AllocE
 }
 
 /// The type of a row.
-pub fn type_of<'a>(alloc: Global, row: Row<'a, '_>) -> Result<CType<'a>, AllocError> {
+fn type_of<'a>(alloc: Global, row: Row<'a, '_>) -> Result<CType<'a>, AllocError> {
     let Row(kind, name, flag, size, extra, parts, targets) = row;
     let label = Label {
         kind,
@@ -68,11 +68,34 @@ pub fn type_of<'a>(alloc: Global, row: Row<'a, '_>) -> Result<CType<'a>, AllocEr
     })
 }
 
+/// Adds the type of a row.
+pub fn push<'a>(
+    alloc: Global,
+    types: &mut Vec<CType<'a>>,
+    row: Row<'a, '_>,
+) -> Result<(), AllocError> {
+    types.push(type_of(alloc, row)?)?;
+    Ok(())
+}
+
+/// Adds a typedef by the name `t` of each type from the id `first` on, before the id `end`.
+pub fn push_typedefs(
+    alloc: Global,
+    types: &mut Vec<CType<'_>>,
+    first: u32,
+    end: u32,
+) -> Result<(), AllocError> {
+    for id in first..end {
+        push(alloc, types, Row(8, b"t", false, 0, 0, &[], &[id]))?;
+    }
+    Ok(())
+}
+
 /// The types of rows.
 pub fn types_of<'a>(alloc: Global, rows: &[Row<'a, '_>]) -> Result<Vec<CType<'a>>, AllocError> {
     let mut types = Vec::new(alloc);
     for row in rows {
-        types.push(type_of(alloc, *row)?)?;
+        push(alloc, &mut types, *row)?;
     }
     Ok(types)
 }

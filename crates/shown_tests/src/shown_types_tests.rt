@@ -68,12 +68,6 @@ const EVERY_KIND: Rows = &[
     Row(8, b"t", false, 0, 0, &[], &[24, 0, 0]),
 ];
 
-const LINES: Style = Style {
-    sizes: true,
-    holes: 0,
-    line: 64,
-};
-
 fn name(alloc: Global, text: &str) -> Result<Text, AllocError> {
     Ok(Text::new(String::from_str(alloc, text)?))
 }
@@ -96,11 +90,14 @@ fn shown(
     }
 }
 
+/// Words, or none.
+type Words = Option<&'static [&'static str]>;
+
 /// The same by words.
 fn shown_by(
     alloc: Global,
     table: &Table<'_>,
-    words: Option<&[&str]>,
+    words: Words,
     style: Style,
 ) -> Result<Result<Bytes, ShowFault>, Fail> {
     let Some(words) = words else {
@@ -113,131 +110,173 @@ fn shown_by(
     shown(alloc, table, Some(names.as_slice()), style)
 }
 
-/// Words, or none.
-type Words = Option<&'static [&'static str]>;
+/// Whether these bytes are shown, or nothing is for this fault.
+fn is_answer(shown: &Result<Bytes, ShowFault>, wanted: Result<&[u8], ShowFault>) -> bool {
+    match (shown, wanted) {
+        (Ok(found), Ok(bytes)) => *found.items() == *bytes,
+        (Err(fault), Err(other)) => *fault == other,
+        _ => false,
+    }
+}
 
-/// A table, of which so many types are a base's, names, the least number of holes, and the lines.
-const SHOWN: [(Rows, u32, Words, u32, &str); 12] = [
-    (SMALL, 0, None, 0, "a\t12\t1\nt\t4\t0\n"),
-    (SMALL, 0, None, 1, "a\t12\t1\n"),
+/// A table, of which so many types are a base's, names, the least number of holes, and what is
+/// shown, or why nothing is.
+type Case = (Rows, u32, Words, u32, Result<&'static [u8], ShowFault>);
+
+/// What is shown in lines of sizes.
+const LINES: &[Case] = &[
+    (SMALL, 0, None, 0, Ok(b"a\t12\t1\nt\t4\t0\n")),
+    (SMALL, 0, None, 1, Ok(b"a\t12\t1\n")),
     (
         SMALL,
         0,
         Some(&["t", "a", "t"]),
         0,
-        "t\t4\t0\na\t12\t1\nt\t4\t0\n",
+        Ok(b"t\t4\t0\na\t12\t1\nt\t4\t0\n"),
     ),
     (
         EVERY_KIND,
         0,
         None,
         0,
-        "a\t12\t1\nt\t4\t0\na\t16\t0\ntwo\t20\t2\nu\t4\t0\nt\t4\t0\n",
+        Ok(b"a\t12\t1\nt\t4\t0\na\t16\t0\ntwo\t20\t2\nu\t4\t0\nt\t4\t0\n"),
     ),
-    (EVERY_KIND, 0, None, 1, "a\t12\t1\ntwo\t20\t2\n"),
-    (EVERY_KIND, 0, None, 2, "two\t20\t2\n"),
-    (EVERY_KIND, 0, None, 3, ""),
+    (EVERY_KIND, 0, None, 1, Ok(b"a\t12\t1\ntwo\t20\t2\n")),
+    (EVERY_KIND, 0, None, 2, Ok(b"two\t20\t2\n")),
+    (EVERY_KIND, 0, None, 3, Ok(b"")),
     // The types of a base are shown by name alone.
     (
         EVERY_KIND,
         4,
         None,
         0,
-        "a\t16\t0\ntwo\t20\t2\nu\t4\t0\nt\t4\t0\n",
+        Ok(b"a\t16\t0\ntwo\t20\t2\nu\t4\t0\nt\t4\t0\n"),
     ),
-    (EVERY_KIND, 4, Some(&["a"]), 0, "a\t12\t1\na\t16\t0\n"),
+    (EVERY_KIND, 4, Some(&["a"]), 0, Ok(b"a\t12\t1\na\t16\t0\n")),
     // Names that two types have, repeated ones, and all of them with a hole.
-    (EVERY_KIND, 0, Some(&["t"]), 0, "t\t4\t0\nt\t4\t0\n"),
+    (EVERY_KIND, 0, Some(&["t"]), 0, Ok(b"t\t4\t0\nt\t4\t0\n")),
     (
         EVERY_KIND,
         0,
         Some(&["two", "a", "two"]),
         0,
-        "two\t20\t2\na\t12\t1\na\t16\t0\ntwo\t20\t2\n",
+        Ok(b"two\t20\t2\na\t12\t1\na\t16\t0\ntwo\t20\t2\n"),
     ),
-    (EVERY_KIND, 0, Some(&["u", "a"]), 1, "a\t12\t1\n"),
+    (EVERY_KIND, 0, Some(&["u", "a"]), 1, Ok(b"a\t12\t1\n")),
+    // The structure without a hole is refused too where holes are asked for.
+    (LACKING, 0, Some(&["t", "b"]), 0, Err(ShowFault::NoName(1))),
+    (LACKING, 0, None, 1, Err(ShowFault::NoSize(0))),
+    (
+        EVERY_KIND,
+        0,
+        Some(&["int", "a"]),
+        0,
+        Err(ShowFault::NoName(0)),
+    ),
+    (
+        EVERY_KIND,
+        0,
+        Some(&["a", "e"]),
+        0,
+        Err(ShowFault::NoName(1)),
+    ),
+    (
+        EVERY_KIND,
+        0,
+        Some(&["two", "f"]),
+        0,
+        Err(ShowFault::NoName(1)),
+    ),
+    (
+        EVERY_KIND,
+        0,
+        Some(&["t", "call"]),
+        0,
+        Err(ShowFault::NoName(1)),
+    ),
+    (
+        EVERY_KIND,
+        0,
+        Some(&["v", "w"]),
+        0,
+        Err(ShowFault::NoName(0)),
+    ),
+    (
+        EVERY_KIND,
+        0,
+        Some(&["a", "A"]),
+        0,
+        Err(ShowFault::NoName(1)),
+    ),
+    (
+        EVERY_KIND,
+        0,
+        Some(&["a", "a "]),
+        0,
+        Err(ShowFault::NoName(1)),
+    ),
+    (
+        EVERY_KIND,
+        0,
+        Some(&["tw", "two"]),
+        0,
+        Err(ShowFault::NoName(0)),
+    ),
 ];
 
-/// What is shown of a table in lines.
-fn lines_of(
-    alloc: Global,
-    rows: Rows,
-    base: u32,
-    words: Words,
-    holes: u32,
-) -> Result<Result<Bytes, ShowFault>, Fail> {
+/// What is shown in texts: an empty line is between two.
+const TEXTS: &[Case] = &[
+    (SMALL, 0, Some(&["t"]), 0, Ok(T_TEXT)),
+    (SMALL, 0, Some(&["t", "t"]), 0, Ok(T_TEXT_TWICE)),
+];
+
+const T_TEXT: &[u8] = b"typedef struct {\n\
+    \tint                        z;                    /*     0     4 */\n\
+    \n\
+    \t/* size: 4, cachelines: 1, members: 1 */\n\
+    \t/* last cacheline: 4 bytes */\n\
+    } t;\n";
+
+const T_TEXT_TWICE: &[u8] = b"typedef struct {\n\
+    \tint                        z;                    /*     0     4 */\n\
+    \n\
+    \t/* size: 4, cachelines: 1, members: 1 */\n\
+    \t/* last cacheline: 4 bytes */\n\
+    } t;\n\
+    \n\
+    typedef struct {\n\
+    \tint                        z;                    /*     0     4 */\n\
+    \n\
+    \t/* size: 4, cachelines: 1, members: 1 */\n\
+    \t/* last cacheline: 4 bytes */\n\
+    } t;\n";
+
+/// Whether what is shown of a table is what its case says, in lines of sizes or in texts.
+fn is_shown(alloc: Global, case: &Case, sizes: bool) -> Result<bool, Fail> {
+    let (rows, base, words, holes, wanted) = *case;
     let table = table_of(base, types_of(alloc, rows)?);
-    shown_by(alloc, &table, words, Style { holes, ..LINES })
-}
-
-/// Whether this text is shown.
-fn is_text(shown: Result<Bytes, ShowFault>, text: &[u8]) -> bool {
-    match shown {
-        Ok(shown) => shown.items() == text,
-        Err(_) => false,
-    }
-}
-
-#[test]
-fn lines_of_sizes(rt: HostRuntime) -> Result<(), Fail> {
-    for (rows, base, words, holes, text) in SHOWN {
-        let shown = lines_of(rt.alloc(), rows, base, words, holes)?;
-        assert!(rt; is_text(shown, text.as_bytes()), "{text}");
-    }
-    Ok(())
-}
-
-/// A table, names, the least number of holes, and the fault. The structure without a hole is
-/// refused too where holes are asked for.
-const REFUSED: [(Rows, Words, u32, ShowFault); 10] = [
-    (LACKING, Some(&["t", "b"]), 0, ShowFault::NoName(1)),
-    (LACKING, None, 1, ShowFault::NoSize(0)),
-    (EVERY_KIND, Some(&["int", "a"]), 0, ShowFault::NoName(0)),
-    (EVERY_KIND, Some(&["a", "e"]), 0, ShowFault::NoName(1)),
-    (EVERY_KIND, Some(&["two", "f"]), 0, ShowFault::NoName(1)),
-    (EVERY_KIND, Some(&["t", "call"]), 0, ShowFault::NoName(1)),
-    (EVERY_KIND, Some(&["v", "w"]), 0, ShowFault::NoName(0)),
-    (EVERY_KIND, Some(&["a", "A"]), 0, ShowFault::NoName(1)),
-    (EVERY_KIND, Some(&["a", "a "]), 0, ShowFault::NoName(1)),
-    (EVERY_KIND, Some(&["tw", "two"]), 0, ShowFault::NoName(0)),
-];
-
-#[test]
-fn refusals(rt: HostRuntime) -> Result<(), Fail> {
-    for (rows, words, holes, fault) in REFUSED {
-        let shown = lines_of(rt.alloc(), rows, 0, words, holes)?;
-        assert_eq!(rt; shown.err(), Some(fault), "{words:?}");
-    }
-    Ok(())
-}
-
-/// The texts of types of the small table.
-fn texts_of(alloc: Global, words: &[&str]) -> Result<Bytes, Fail> {
-    let table = table_of(0, types_of(alloc, SMALL)?);
     let style = Style {
-        sizes: false,
-        ..LINES
+        sizes,
+        holes,
+        line: 64,
     };
-    Ok(shown_by(alloc, &table, Some(words), style)??)
+    let shown = shown_by(alloc, &table, words, style)?;
+    Ok(is_answer(&shown, wanted))
 }
 
-/// A text twice, with an empty line between.
-fn twice(alloc: Global, text: &[u8]) -> Result<Vec<u8>, AllocError> {
-    let mut both = Vec::from_slice(alloc, text)?;
-    both.push(b'\n')?;
-    both.extend_from_slice(text)?;
-    Ok(both)
-}
-
-/// Whether the texts of two names are that of one, an empty line, and the same again.
-fn are_parted(alloc: Global) -> Result<bool, Fail> {
-    let one = texts_of(alloc, &["t"])?;
-    let wanted = twice(alloc, one.items())?;
-    Ok(texts_of(alloc, &["t", "t"])?.items() == wanted.as_slice())
+/// The first case that is shown otherwise, by its place in the list.
+fn first_other(alloc: Global, cases: &[Case], sizes: bool) -> Result<Option<usize>, Fail> {
+    for (k, case) in cases.iter().enumerate() {
+        if !is_shown(alloc, case, sizes)? {
+            return Ok(Some(k));
+        }
+    }
+    Ok(None)
 }
 
 #[test]
-fn an_empty_line_between_texts(rt: HostRuntime) -> Result<(), Fail> {
-    assert!(rt; are_parted(rt.alloc())?);
+fn lines_and_texts(rt: HostRuntime) -> Result<(), Fail> {
+    assert_eq!(rt; first_other(rt.alloc(), LINES, true)?, None);
+    assert_eq!(rt; first_other(rt.alloc(), TEXTS, false)?, None);
     Ok(())
 }
