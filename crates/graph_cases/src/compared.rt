@@ -15,18 +15,6 @@ fn is_relation(numbers: &[u32], relation: &Relation) -> bool {
     true
 }
 
-/// Whether two lists of numbers are equal at the same pairs of places.
-pub fn is_one_relation(p: &[u32], q: &[u32]) -> bool {
-    for x in 0..p.len() {
-        for y in 0..x {
-            if (p.get(x) == p.get(y)) != (q.get(x) == q.get(y)) {
-                return false;
-            }
-        }
-    }
-    p.len() == q.len()
-}
-
 /// How many different numbers there are.
 pub fn class_count(alloc: Global, numbers: &[u32]) -> Result<usize, AllocError> {
     let mut sorted = Vec::from_slice(alloc, numbers)?;

@@ -4,7 +4,6 @@
 
 mod compared;
 mod fault;
-mod fitting;
 mod limits;
 mod made;
 mod merged;

@@ -1,7 +1,9 @@
 //! Packed lists of types: labels that differ in one thing alone, and lists that follow one another.
-use crate::rows::{Head, Piece, STRUCT, UNION, label_of};
+use crate::rows::{STRUCT, UNION};
 use c_model::Ref;
 use packed_graph::PackedNodes;
+use small_graphs::packed::refer_to;
+use small_graphs::rows::{Head, Piece, label_of};
 use std::alloc::{AllocError, Global};
 
 const A: Piece = Piece {
@@ -155,22 +157,6 @@ fn push_pair(
     Ok(())
 }
 
-/// Whether each type of a list refers to one node alone, to these in order.
-fn refer_to(nodes: &PackedNodes<'_>, wanted: &[u32]) -> bool {
-    for (place, node) in wanted.iter().enumerate() {
-        let Ok(x) = u32::try_from(place) else {
-            return false;
-        };
-        if place >= nodes.len()
-            || nodes.target_count(x) != 1
-            || nodes.target(x, 0) != Ref::Node(*node)
-        {
-            return false;
-        }
-    }
-    nodes.len() == wanted.len()
-}
-
 /// Puts two types of a name into an empty list, or nothing where there is no name.
 fn push_list(
     alloc: Global,
@@ -187,6 +173,9 @@ fn push_list(
 /// before, between and behind them.
 const LISTS: [Option<&[u8]>; 5] = [None, Some(b"first"), None, Some(b"second"), None];
 
+/// What the types of the lists refer to when they are one list.
+const CROSSED: [Ref; 4] = [Ref::Node(1), Ref::Node(0), Ref::Node(3), Ref::Node(2)];
+
 /// Whether lists that follow one another are one list, with the references moved.
 pub fn lists_follow(alloc: Global) -> Result<bool, AllocError> {
     let mut all = PackedNodes::new(alloc)?;
@@ -195,5 +184,5 @@ pub fn lists_follow(alloc: Global) -> Result<bool, AllocError> {
         push_list(alloc, &mut next, *name)?;
         all = all.followed_by(alloc, &next)?;
     }
-    Ok(refer_to(&all, &[1, 0, 3, 2]) && all.numbers() == [0, 0, 1, 1].as_slice())
+    Ok(refer_to(&all, &CROSSED) && all.numbers() == [0, 0, 1, 1].as_slice())
 }

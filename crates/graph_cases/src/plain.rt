@@ -1,8 +1,9 @@
 //! The coarsest agreeing partition of a small graph, straight from its definition: all pairs are
 //! related at first, and a pair that has no licence is taken away, until none is. It works on the
 //! rows of a table alone.
-use crate::rows::{ENUM, ENUM64, FWD, Head, Piece, Row, STRUCT, Table, UNION};
+use crate::rows::{ENUM, ENUM64, FWD, Row, STRUCT, Table, UNION};
 use c_model::Ref;
+use small_graphs::rows::{Head, Piece};
 use std::alloc::{AllocError, Global};
 
 /// A relation between the rows of a table.
@@ -167,7 +168,7 @@ impl View<'_> {
         let (Some(a), Some(b)) = (self.rows.get(x), self.rows.get(y)) else {
             return false;
         };
-        is_same_head(&a.head, &b.head) && are_related(relation, &a.targets, &b.targets)
+        is_same_head(&a.head, &b.head) && are_related(relation, a.targets(), b.targets())
     }
 
     /// The definitions of a row; none where it is no open forward.

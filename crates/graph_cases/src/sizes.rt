@@ -1,11 +1,13 @@
 //! Graphs at the limits of size.
-use crate::compared::{class_count, is_one_relation};
+use crate::compared::class_count;
 use crate::fault::Fault;
 use crate::merged::{Found, merged};
-use crate::rows::{FWD, INT, PTR, Piece, Row, STRUCT, bare, parted, push_row, types_of};
+use crate::rows::{FWD, INT, PTR, Row, STRUCT, bare, parted, push_row, types_of};
 use crate::tables::built;
-use c_model::{CType, Label, Parts, Ref, Refs};
+use c_model::{CType, Label, Parts, Refs};
 use dw_base::Name;
+use small_graphs::rows::Piece;
+use small_graphs::same::is_one_relation;
 use split_base::TableFault;
 use std::alloc::{AllocError, Global};
 use std::thread::Threads;
@@ -36,7 +38,7 @@ fn ring_rows(alloc: Global, count: u32) -> Result<Vec<Row>, AllocError> {
             bare(PTR, b"", 0)
         };
         let next = x.saturating_add(1) % count;
-        push_row(alloc, &mut rows, head, &[Ref::Node(next)])?;
+        push_row(&mut rows, head, &[next])?;
     }
     Ok(rows)
 }
@@ -78,27 +80,34 @@ const DECLARED: u32 = 20;
 /// Four rows: a structure that refers to a pointer; the pointer, to a declaration of the structure;
 /// that, or behind the first few a pointer to the structure, as the one before; and an INT of a
 /// size of its own. They begin at number `x`.
-fn push_four(alloc: Global, rows: &mut Vec<Row>, x: u32) -> Result<(), AllocError> {
-    let structure = parted(STRUCT, b"ring", 8, NEXT);
-    push_row(alloc, rows, structure, &[Ref::Node(x.saturating_add(1))])?;
+fn push_four(rows: &mut Vec<Row>, x: u32) -> Result<(), AllocError> {
     let pointer = bare(PTR, b"", 0);
-    if x < 4 * DECLARED {
-        push_row(alloc, rows, pointer, &[Ref::Node(x.saturating_add(2))])?;
-        push_row(alloc, rows, bare(FWD, b"ring", 0), &[])?;
+    let (declared, third) = if x < 4 * DECLARED {
+        (x.saturating_add(2), Row::new(bare(FWD, b"ring", 0), &[]))
     } else {
-        push_row(alloc, rows, pointer, &[Ref::Node(x)])?;
-        push_row(alloc, rows, pointer, &[Ref::Node(x)])?;
-    }
-    push_row(alloc, rows, bare(INT, b"int", x), &[])
+        (x, Row::new(pointer, &[x]))
+    };
+    rows.extend_from_slice(&[
+        Row::new(parted(STRUCT, b"ring", 8, NEXT), &[x.saturating_add(1)]),
+        Row::new(pointer, &[declared]),
+        third,
+        Row::new(bare(INT, b"int", x), &[]),
+    ])
 }
 
 /// So many times four rows.
 fn four_rows(alloc: Global, fours: u32) -> Result<Vec<Row>, AllocError> {
     let mut rows = Vec::new(alloc);
     for number in 0..fours {
-        push_four(alloc, &mut rows, number.saturating_mul(4))?;
+        push_four(&mut rows, number.saturating_mul(4))?;
     }
     Ok(rows)
+}
+
+/// How many classes the types of these rows have.
+fn classes_of_rows<R: Threads + Sync>(rt: &R, alloc: Global, rows: &[Row]) -> Result<usize, Fault> {
+    let found = merged_rows(rt, alloc, rows)?;
+    Ok(class_count(alloc, found.refined.classes.numbers())?)
 }
 
 /// How many classes so many times four such types have, which are so many that workers share them.
@@ -107,9 +116,7 @@ pub fn classes_of_fours<R: Threads + Sync>(
     alloc: Global,
     fours: u32,
 ) -> Result<usize, Fault> {
-    let rows = four_rows(alloc, fours)?;
-    let found = merged_rows(rt, alloc, &rows)?;
-    Ok(class_count(alloc, found.refined.classes.numbers())?)
+    classes_of_rows(rt, alloc, &four_rows(alloc, fours)?)
 }
 
 /// An INT of a name and a size.

@@ -2,12 +2,13 @@
 ghost use Rattle.std.specs.Prelude.{◌≡◌};
 
 use crate::fault::Fault;
-use crate::fitting::{are_formed, graph_from, is_base, refer_below};
 use crate::rows::types_of;
 use crate::worked::{DECLARED, DEFINED, DEFINED_OVER_DECLARED, Entry, Worked, table_of};
 use btf_codec::{Table, TableOut};
-use c_model::{CType, Classes, Graph, Nodes, is_same_label};
+use c_model::{CType, Classes, Graph, Nodes};
 use dw_base::Order;
+use small_graphs::fitting::{are_formed, graph_from, is_base, refer_below};
+use small_graphs::same::are_same;
 use split_base::{TableFault, build, with_base};
 use std::alloc::{AllocError, Global};
 
@@ -30,16 +31,6 @@ pub fn built<'a>(
 /// The types of these entries.
 fn listed(alloc: Global, entries: &[Entry]) -> Result<Vec<CType<'static>>, AllocError> {
     types_of(alloc, &table_of(alloc, 0, entries)?.rows)
-}
-
-/// Whether types are the same, one by one.
-fn are_same(types: &[CType<'_>], others: &[CType<'_>]) -> bool {
-    for (t, u) in types.iter().zip(others) {
-        if !is_same_label(&t.label, &u.label) || t.targets.items() != u.targets.items() {
-            return false;
-        }
-    }
-    types.len() == others.len()
 }
 
 /// Whether types are those of these entries.

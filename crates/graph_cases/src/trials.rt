@@ -1,5 +1,5 @@
 //! The graphs that both programs decide: worked ones, shapes, and made ones.
-use crate::compared::{Tally, agrees, class_count, is_one_relation};
+use crate::compared::{Tally, agrees, class_count};
 use crate::fault::Fault;
 use crate::made::{Draws, made_table};
 use crate::merged::{Found, merged_table};
@@ -8,6 +8,7 @@ use crate::tables::{built, is_table};
 use crate::told::{tell_differs, tell_graphs, tell_made_differs, tell_number};
 use crate::worked::{Worked, based_graphs, forward_graphs, plain_graphs, table_of};
 use btf_codec::TableOut;
+use small_graphs::same::is_one_relation;
 use std::alloc::Global;
 use std::thread::Threads;
 

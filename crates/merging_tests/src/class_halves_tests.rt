@@ -2,12 +2,12 @@
 //! chains, trees and forwards are compared with the plain program in `graph_cases`.
 ghost use Rattle.std.specs.Prelude.{◌≡◌, ◌<◌, ◌≤◌, ◌∷◌, [], length, IfOk, OnOk};
 
-use crate::fitting::is_fitting;
 use crate::rows::{Named, Row, btf, graph_of};
 use c_model::{Classes, Graph, Nodes, Numbers};
 use class_halves::{Incoming, Members, classes_by_halves, split_by_halves};
 use dw_base::Steps;
 use forward_rule::FwdIndex;
+use small_graphs::fitting::is_fitting;
 use std::alloc::{AllocError, Global};
 use std::marker::Brand;
 use std::sync::ledger::{Blank, Ledger};

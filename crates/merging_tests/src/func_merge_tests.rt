@@ -3,7 +3,7 @@ ghost use Rattle.std.specs.Prelude.{◌≡◌, All, IfSome};
 ghost use Rattle.base_merge.specs.Merging.{CanBeBase};
 ghost use Rattle.c_model.specs.Kinds.{IsWellFormed};
 
-use crate::fitting::{are_named, have_protos, is_fitting, refer_below};
+use crate::fitting::{are_named, have_protos};
 use crate::functions::{Function, GLOBAL, LOCAL, entries, has_funcs};
 use crate::rows::{Row, btf, graph_of, table_of};
 use btf_codec::Table;
@@ -11,6 +11,7 @@ use c_model::Graph;
 use func_merge::{Chosen, choose_over};
 use func_types::{Funcs, Protos};
 use packed_graph::packed;
+use small_graphs::fitting::{is_fitting, refer_below};
 use split_base::TableFault;
 use std::alloc::Global;
 use std::test::Fail;

@@ -1,10 +1,11 @@
 //! Which names of a list of function entries are chosen. Each prototype is told from the others by
 //! the number of its parameters.
-use crate::fitting::{have_protos, refer_below};
+use crate::fitting::have_protos;
 use crate::functions::{Function, GLOBAL, LOCAL, entries, has_funcs};
 use crate::rows::{Named, Row, btf, graph_of};
 use c_model::{Classes, Numbers};
 use func_types::{Funcs, Protos, chosen};
+use small_graphs::fitting::refer_below;
 use std::alloc::Global;
 use std::test::Fail;
 

@@ -1,11 +1,8 @@
 //! Tables of small graphs and partitions: of declarations beside definitions, and beside a base.
-ghost use Rattle.std.specs.Prelude.{IfSome, IsTrue};
-ghost use Rattle.std.specs.Option.{option_copied};
-ghost use Rattle.btf_strings.specs.Kept.{IsSection};
-
 use crate::rows::{Named, Row, are_of, btf, graph_of};
 use btf_codec::TableOut;
 use c_model::{Classes, Numbers};
+use small_graphs::fitting::is_base;
 use split_base::build;
 use std::alloc::Global;
 use std::test::Fail;
@@ -141,16 +138,6 @@ const CASES: [Case; 6] = [
         strings: b"lh\0",
     },
 ];
-
-/// Whether strings are those of a base, where there is one.
-fn is_base(names: Option<&[u8]>) -> bool
-    ensures { IsTrue result → IfSome (option_copied names.entry) IsSection }
-{
-    match names {
-        None => true,
-        Some(section) => section.len() < 100 && section.first().copied() == Some(0),
-    }
-}
 
 /// Whether the own types and the own strings are these.
 fn has_own(table: &TableOut<'_>, own: &[Row], strings: &[u8]) -> bool {
