@@ -82,6 +82,33 @@ impl Tally {
     }
 }
 
+/// Counts what occurs in a table that the plain program has decided.
+fn count_all(
+    alloc: Global,
+    view: &View<'_>,
+    relation: &Relation,
+    tally: &mut Tally,
+) -> Result<(), AllocError> {
+    for x in 0..view.len() {
+        tally.take_pairs(relation, x);
+        tally.take_row(alloc, view, relation, x)?;
+    }
+    Ok(())
+}
+
+/// Whether the plain program finds the relation of these numbers for a table with its open
+/// forwards. Counts what occurs in it.
+fn agrees_opened(
+    alloc: Global,
+    view: &View<'_>,
+    numbers: &[u32],
+    tally: &mut Tally,
+) -> Result<bool, AllocError> {
+    let relation = view.coarsest(alloc)?;
+    count_all(alloc, view, &relation, tally)?;
+    Ok(numbers.len() == view.len() && is_relation(numbers, &relation))
+}
+
 /// Whether the plain program finds the relation of these numbers for a table. Counts what occurs in
 /// it.
 pub fn agrees(
@@ -91,10 +118,5 @@ pub fn agrees(
     tally: &mut Tally,
 ) -> Result<bool, AllocError> {
     let view = opened(alloc, table)?;
-    let relation = view.coarsest(alloc)?;
-    for x in 0..table.rows.len() {
-        tally.take_pairs(&relation, x);
-        tally.take_row(alloc, &view, &relation, x)?;
-    }
-    Ok(numbers.len() == table.rows.len() && is_relation(numbers, &relation))
+    agrees_opened(alloc, &view, numbers, tally)
 }

@@ -245,6 +245,20 @@ fn found_over<'a, R: Threads + Sync, L: Ledger>(
     Ok(Found { graph, refined })
 }
 
+/// The coarsest partition of a base's graph and of types behind it.
+fn merged_behind<'a, R: Threads + Sync, L: Ledger>(
+    rt: &R,
+    alloc: Global,
+    alone: Graph<'a>,
+    own: Vec<CType<'a>>,
+    steps: &mut Steps<L>,
+) -> Result<Found<'a>, Fault>
+    requires { HasFittingForwards alone }
+{
+    let kept = plain_classes(rt, alloc, &alone, steps)?;
+    found_over(rt, alloc, joined(alone, own)?, &kept, steps)
+}
+
 /// The coarsest partition of a table's graph.
 pub fn merged_table<R: Threads + Sync>(
     rt: &R,
@@ -281,7 +295,5 @@ fn merged_over<'a, R: Threads + Sync, L: Ledger>(
     requires some { 0 < L.parts }
 {
     let mut steps = Steps::<L>::new(blank);
-    let alone = base_graph(base)?;
-    let kept = plain_classes(rt, alloc, &alone, &mut steps)?;
-    found_over(rt, alloc, joined(alone, own)?, &kept, &mut steps)
+    merged_behind(rt, alloc, base_graph(base)?, own, &mut steps)
 }

@@ -145,6 +145,11 @@ pub struct View<'t> {
 }
 
 impl View<'_> {
+    /// How many rows there are.
+    pub fn len(&self) -> usize {
+        self.rows.len()
+    }
+
     /// The sort of the tag of a forward. Types of the base are none.
     pub fn forward(&self, x: usize) -> Option<Sort> {
         if x < self.base {

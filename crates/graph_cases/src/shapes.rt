@@ -22,8 +22,11 @@ pub enum Shape {
     },
 }
 
-/// Shapes, what they are called, and how many classes they have.
-pub const SHAPES: &[(&str, Shape, usize)] = &[
+/// What a shape is called, the shape, and how many classes it has.
+pub type Shaped = (&'static str, Shape, usize);
+
+/// The shapes that are tried.
+pub const SHAPES: &[Shaped] = &[
     ("a ring of equal nodes", Shape::Rings(&["aaaaaaaaa"]), 1),
     (
         "rings of two lengths",

@@ -5,6 +5,7 @@ use crate::merged::{Found, merged};
 use crate::rows::{FWD, INT, PTR, Row, STRUCT, bare, parted, push_row, types_of};
 use crate::tables::built;
 use c_model::{CType, Label, Parts, Refs};
+use class_refine::Refined;
 use dw_base::Name;
 use small_graphs::rows::Piece;
 use small_graphs::same::is_one_relation;
@@ -12,15 +13,19 @@ use split_base::TableFault;
 use std::alloc::{AllocError, Global};
 use std::thread::Threads;
 
+/// The number of rounds, where there are no classes.
+fn rounds_of_nothing(refined: &Refined) -> Option<u32> {
+    if refined.classes.numbers().is_empty() {
+        Some(refined.rounds())
+    } else {
+        None
+    }
+}
+
 /// The number of rounds of the empty graph, which has no classes.
 pub fn empty_rounds<R: Threads + Sync>(rt: &R, alloc: Global) -> Result<Option<u32>, Fault> {
     let found = merged(rt, alloc, Vec::new(alloc), Vec::new(alloc))?;
-    let rounds = found.refined.rounds();
-    Ok(if found.refined.classes.numbers().is_empty() {
-        Some(rounds)
-    } else {
-        None
-    })
+    Ok(rounds_of_nothing(&found.refined))
 }
 
 const NEXT: &[Piece] = &[Piece {
@@ -61,6 +66,17 @@ fn merged_rows<R: Threads + Sync>(
     merged(rt, alloc, Vec::new(alloc), types_of(alloc, rows)?)
 }
 
+/// Whether the types of these rows have the classes of these numbers.
+fn are_classes<R: Threads + Sync>(
+    rt: &R,
+    alloc: Global,
+    rows: &[Row],
+    wanted: &[u32],
+) -> Result<bool, Fault> {
+    let found = merged_rows(rt, alloc, rows)?;
+    Ok(is_one_relation(found.refined.classes.numbers(), wanted))
+}
+
 /// Whether a ring of so many pointers among equal structures has two classes.
 pub fn ring_has_two_classes<R: Threads + Sync>(
     rt: &R,
@@ -69,9 +85,7 @@ pub fn ring_has_two_classes<R: Threads + Sync>(
 ) -> Result<bool, Fault> {
     let count = pointers.saturating_mul(2);
     let rows = ring_rows(alloc, count)?;
-    let found = merged_rows(rt, alloc, &rows)?;
-    let want = parities(alloc, count)?;
-    Ok(is_one_relation(found.refined.classes.numbers(), &want))
+    are_classes(rt, alloc, &rows, &parities(alloc, count)?)
 }
 
 /// How many of the structures below are declared.
@@ -173,13 +187,12 @@ fn two_ints<'a>(alloc: Global, name: &'a [u8]) -> Result<Vec<CType<'a>>, AllocEr
     Ok(types)
 }
 
-/// The number of types of the table of two INTs, the first of this name, or why there is none.
-fn named_table<R: Threads + Sync>(
+/// The number of types of the table of these types, or why there is none.
+fn table_of_types<R: Threads + Sync>(
     rt: &R,
     alloc: Global,
-    name: &[u8],
+    types: Vec<CType<'_>>,
 ) -> Result<Result<usize, TableFault>, Fault> {
-    let types = two_ints(alloc, name)?;
     let found = merged(rt, alloc, Vec::new(alloc), types)?;
     let table = table_len(alloc, &found)?;
     Ok(table)
@@ -192,6 +205,6 @@ pub fn long_name_table<R: Threads + Sync>(
     bytes: usize,
 ) -> Result<Result<usize, TableFault>, Fault> {
     let name = vec![in alloc; b'n'; bytes]?;
-    let table = named_table(rt, alloc, name.as_slice())?;
+    let table = table_of_types(rt, alloc, two_ints(alloc, name.as_slice())?)?;
     Ok(table)
 }

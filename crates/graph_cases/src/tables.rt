@@ -1,5 +1,6 @@
 //! Tables of merged graphs, and graphs with the types of a base.
-ghost use Rattle.std.specs.Prelude.{◌≡◌};
+ghost use Rattle.std.specs.Prelude.{◌≡◌, ◌<◌, ◌^◌, IfSome, length};
+ghost use Rattle.c_model.specs.Graph.{RefersWithin};
 
 use crate::fault::Fault;
 use crate::rows::types_of;
@@ -60,29 +61,40 @@ fn is_joined(alloc: Global, graph: &Graph<'_>) -> Result<bool, AllocError> {
     Ok(graph.base() == 2 && are_types(alloc, graph.nodes(), DEFINED_OVER_DECLARED)?)
 }
 
-/// Whether the graph of a base of these types and of a file, of at most so many nodes, is what it
-/// should be; or why there is none.
+/// Whether the graph of a base and of a file, of at most so many nodes, is what it should be; or why
+/// there is none.
 fn joined_over(
     alloc: Global,
-    types: Vec<CType<'static>>,
+    base: &Table<'static>,
     most: u32,
     file: Graph<'static>,
-) -> Result<Result<bool, TableFault>, Fault>
-    requires { file.base ≡ 0 }
+) -> Result<Result<bool, TableFault>, AllocError>
+    requires alone { base.now.base ≡ 0 }
+    requires few { length base.now.types < 2 ^ 32 }
+    requires within { RefersWithin (length base.now.types) base.now.types }
+    requires files { file.base ≡ 0 }
+{
+    match with_base(alloc, base, most, file) {
+        Ok(graph) => Ok(Ok(is_joined(alloc, &graph)?)),
+        Err(fault) => Ok(Err(fault)),
+    }
+}
+
+/// The table of a base of these types, where they refer to one another alone.
+fn base_table(types: Vec<CType<'static>>) -> Option<Table<'static>>
+    ensures alone { IfSome result (λ t. t.base ≡ 0) }
+    ensures few { IfSome result (λ t. length t.types < 2 ^ 32) }
+    ensures within { IfSome result (λ t. RefersWithin (length t.types) t.types) }
 {
     if types.len() > 1000 || !refer_below(types.len() as u32, &types) {
-        return Err(Fault::Unfit);
+        return None;
     }
-    let table = Table {
+    Some(Table {
         order: Order::Little,
         base: 0,
         types: Nodes::new(types),
         names: b"\0foo\0",
-    };
-    match with_base(alloc, &table, most, file) {
-        Ok(graph) => Ok(Ok(is_joined(alloc, &graph)?)),
-        Err(fault) => Ok(Err(fault)),
-    }
+    })
 }
 
 /// Whether the graph of a declaring base and a defining file, of at most so many nodes, is what it
@@ -91,5 +103,8 @@ pub fn joined(alloc: Global, most: u32) -> Result<Result<bool, TableFault>, Faul
     let Some(file) = graph_from(0, listed(alloc, DEFINED)?) else {
         return Err(Fault::Unfit);
     };
-    joined_over(alloc, listed(alloc, DECLARED)?, most, file)
+    match base_table(listed(alloc, DECLARED)?) {
+        Some(base) => Ok(joined_over(alloc, &base, most, file)?),
+        None => Err(Fault::Unfit),
+    }
 }

@@ -12,7 +12,7 @@ use std::alloc::{AllocError, Global};
 pub type Row = (u8, &'static [u8], u32, &'static [Piece], &'static [Ref]);
 
 /// What the type of a row says of itself.
-pub fn head_of(row: &Row) -> Head {
+fn head_of(row: &Row) -> Head {
     Head {
         kind: row.0,
         name: row.1,

@@ -1,9 +1,11 @@
 //! What the choice asks of function entries, tested.
-ghost use Rattle.std.specs.Prelude.{◌<◌, All, IsTrue};
+ghost use Rattle.std.specs.Prelude.{◌<◌, ◌≤◌, All, IsTrue, length};
+ghost use Rattle.c_model.specs.Graph.{RefersWithin};
 ghost use Rattle.c_model.specs.Kinds.{HasNoNul};
 
+use c_model::Graph;
 use func_types::Func;
-use small_graphs::fitting::is_text;
+use small_graphs::fitting::{is_text, refer_below};
 
 /// Whether no name of these entries has a byte NUL.
 pub fn are_named(funcs: &[Func<'_>]) -> bool
@@ -18,7 +20,7 @@ pub fn are_named(funcs: &[Func<'_>]) -> bool
 }
 
 /// Whether each prototype is one of the first nodes.
-pub fn have_protos(limit: u32, funcs: &[Func<'_>]) -> bool
+fn have_protos(limit: u32, funcs: &[Func<'_>]) -> bool
     ensures { IsTrue result → All (λ f. f.proto < limit) funcs.now }
 {
     for func in funcs {
@@ -27,4 +29,20 @@ pub fn have_protos(limit: u32, funcs: &[Func<'_>]) -> bool
         }
     }
     true
+}
+
+/// Whether the first `plain` nodes refer to one another alone, each entry's prototype is a node, and
+/// there are few of all.
+pub fn are_protos(graph: &Graph<'_>, plain: u32, funcs: &[Func<'_>]) -> bool
+    ensures few { IsTrue result → length graph.now.nodes ≤ 100 }
+    ensures entries { IsTrue result → length funcs.now ≤ 100 }
+    ensures plain { IsTrue result → plain ≤ length graph.now.nodes }
+    ensures within { IsTrue result → RefersWithin plain graph.now.nodes }
+    ensures protos { IsTrue result → All (λ f. f.proto < length graph.now.nodes) funcs.now }
+{
+    graph.len() <= 100
+        && funcs.len() <= 100
+        && plain <= graph.len()
+        && refer_below(plain, graph.nodes())
+        && have_protos(graph.len(), funcs)
 }
