@@ -99,8 +99,15 @@ const COMPARED_AT_MOST: u32 = 4_096;
 /// numbers of workers.
 const SHARED_AT_MOST: u32 = 100_000;
 
-/// Whether so many workers find classes of the same numbers by halves, behind a guess. Where a graph
-/// has fewer than 2^d nodes, it takes at most 2 d steps for each reference.
+/// Whether classes have the same numbers, or are few and the same.
+fn are_same_classes(numbers: &[u32], wanted: &[u32]) -> bool {
+    numbers == wanted
+        || (numbers.len() <= COMPARED_AT_MOST as usize && is_one_relation(numbers, wanted))
+}
+
+/// Whether so many workers find the same classes by halves, behind a guess, and in a large graph of
+/// the same numbers. Where a graph has fewer than 2^d nodes, it takes at most 2 d steps for each
+/// reference.
 fn is_found_by<R: Threads + Sync, L: Ledger>(
     rt: &R,
     alloc: Global,
@@ -116,7 +123,7 @@ fn is_found_by<R: Threads + Sync, L: Ledger>(
         → steps.new ≤ steps.old + 2 * (references graph.now.nodes * d)) }
 {
     let found = classes_by_halves(rt, alloc, workers, graph, forwards, steps)?;
-    Ok(found.numbers() == wanted.numbers())
+    Ok(are_same_classes(found.numbers(), wanted.numbers()))
 }
 
 /// Whether classes by halves that are split from labels on are the same. Where a graph has fewer

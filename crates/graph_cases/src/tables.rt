@@ -3,12 +3,13 @@ ghost use Rattle.std.specs.Prelude.{◌≡◌, ◌<◌, ◌^◌, IfSome, length}
 ghost use Rattle.c_model.specs.Graph.{RefersWithin};
 
 use crate::fault::Fault;
-use crate::rows::types_of;
-use crate::worked::{DECLARED, DEFINED, DEFINED_OVER_DECLARED, Entry, Worked, table_of};
+use crate::rows::Row;
+use crate::worked::{DECLARED, DEFINED, DEFINED_OVER_DECLARED, Entry, Worked};
 use btf_codec::{Table, TableOut};
 use c_model::{CType, Classes, Graph, Nodes};
 use dw_base::Order;
 use small_graphs::fitting::{are_formed, graph_from, is_base, refer_below};
+use small_graphs::rows::type_of;
 use small_graphs::same::are_same;
 use split_base::{TableFault, build, with_base};
 use std::alloc::{AllocError, Global};
@@ -29,36 +30,46 @@ pub fn built<'a>(
     Ok(build(alloc, graph, classes, base_names))
 }
 
+/// Appends the types of these entries.
+fn push_listed(
+    alloc: Global,
+    types: &mut Vec<CType<'static>>,
+    entries: &[Entry],
+) -> Result<(), AllocError> {
+    for (head, numbers) in entries {
+        types.push(type_of(alloc, head, Row::new(**head, numbers).targets())?)?;
+    }
+    Ok(())
+}
+
 /// The types of these entries.
 fn listed(alloc: Global, entries: &[Entry]) -> Result<Vec<CType<'static>>, AllocError> {
-    types_of(alloc, &table_of(alloc, 0, entries)?.rows)
+    let mut types: Vec<CType<'static>> = Vec::new(alloc);
+    push_listed(alloc, &mut types, entries)?;
+    Ok(types)
 }
 
-/// Whether types are those of these entries.
-fn are_types(alloc: Global, types: &[CType<'_>], entries: &[Entry]) -> Result<bool, AllocError> {
-    let want = listed(alloc, entries)?;
-    Ok(are_same(types, &want))
+/// The types of the table that is written beside a graph, those of the base first.
+pub fn written(alloc: Global, worked: &Worked) -> Result<Vec<CType<'static>>, AllocError> {
+    let mut types: Vec<CType<'static>> = listed(
+        alloc,
+        worked.types.get(..worked.base).unwrap_or(&[]),
+    )?;
+    push_listed(alloc, &mut types, worked.own)?;
+    Ok(types)
 }
 
-/// Whether a table is the one that is written beside a graph.
-pub fn is_table(alloc: Global, table: &TableOut<'_>, worked: &Worked) -> Result<bool, AllocError> {
-    let (kept, own) = table
-        .types
-        .items()
-        .split_at_checked(worked.base)
-        .unwrap_or((&[], &[]));
-    let before = worked.types.get(..worked.base).unwrap_or(&[]);
-    Ok(
-        table.base as usize == worked.base
-            && are_types(alloc, kept, before)?
-            && are_types(alloc, own, worked.own)?
-            && table.strings.bytes() == worked.names,
-    )
+/// Whether a table is the one that is written beside a graph, with these types.
+pub fn is_table(table: &TableOut<'_>, types: &[CType<'_>], worked: &Worked) -> bool {
+    table.base as usize == worked.base
+        && are_same(table.types.items(), types)
+        && table.strings.bytes() == worked.names
 }
 
 /// Whether a graph is the one of a declaring base and a defining file.
 fn is_joined(alloc: Global, graph: &Graph<'_>) -> Result<bool, AllocError> {
-    Ok(graph.base() == 2 && are_types(alloc, graph.nodes(), DEFINED_OVER_DECLARED)?)
+    let wanted = listed(alloc, DEFINED_OVER_DECLARED)?;
+    Ok(graph.base() == 2 && are_same(graph.nodes(), &wanted))
 }
 
 /// Whether the graph of a base and of a file, of at most so many nodes, is what it should be; or why

@@ -5,7 +5,7 @@ use crate::made::{Draws, made_table};
 use crate::merged::{Found, merged_table};
 use crate::rows::Table;
 use crate::shapes::{SHAPES, Shape, Shaped, shaped};
-use crate::tables::{built, is_table};
+use crate::tables::{built, is_table, written};
 use crate::told::{tell, tell_number};
 use crate::worked::{Worked, based_graphs, forward_graphs, plain_graphs, table_of};
 use btf_codec::TableOut;
@@ -52,9 +52,12 @@ fn table_over<'a>(
 
 /// Whether the classes and the table of a graph are those that are written beside it.
 fn is_as_written(alloc: Global, found: &Found<'static>, worked: &Worked) -> Result<bool, Fault> {
-    let are_wanted = is_one_relation(found.refined.classes.numbers(), worked.classes);
+    if !is_one_relation(found.refined.classes.numbers(), worked.classes) {
+        return Ok(false);
+    }
+    let types = written(alloc, worked)?;
     let table = table_over(alloc, found, worked.base_names)?;
-    Ok(is_table(alloc, &table, worked)? && are_wanted)
+    Ok(is_table(&table, &types, worked))
 }
 
 /// What is wanted of a graph beside that both programs find one relation.
