@@ -27,17 +27,28 @@ pub fn class_count(alloc: Global, numbers: &[u32]) -> Result<usize, AllocError> 
 #[derive(Clone, Copy, Default)]
 pub struct Tally {
     /// Pairs of different types that are related.
-    pub pairs: u64,
+    pairs: u64,
     /// Forwards without a definition.
-    pub undefined: u64,
+    undefined: u64,
     /// Forwards that the base closes.
-    pub closed: u64,
+    closed: u64,
     /// Open forwards with one definition.
-    pub of_one: u64,
+    of_one: u64,
     /// Open forwards whose definitions are several and of one class.
-    pub of_equals: u64,
+    of_equals: u64,
     /// Open forwards whose definitions are of several classes.
-    pub apart: u64,
+    apart: u64,
+}
+
+/// What a tally counts.
+#[derive(Clone, Copy)]
+pub enum Occurs {
+    Pairs,
+    Undefined,
+    Closed,
+    OfOne,
+    OfEquals,
+    Apart,
 }
 
 fn count(number: &mut u64) {
@@ -45,6 +56,18 @@ fn count(number: &mut u64) {
 }
 
 impl Tally {
+    /// How often something occurs.
+    pub fn of(&self, occurs: Occurs) -> u64 {
+        match occurs {
+            Occurs::Pairs => self.pairs,
+            Occurs::Undefined => self.undefined,
+            Occurs::Closed => self.closed,
+            Occurs::OfOne => self.of_one,
+            Occurs::OfEquals => self.of_equals,
+            Occurs::Apart => self.apart,
+        }
+    }
+
     /// Counts a forward.
     fn take_forward(&mut self, view: &View<'_>, relation: &Relation, x: usize, defined: bool) {
         let found = view.opened_to(x);

@@ -2,7 +2,7 @@
 use crate::fault::Fault;
 use crate::merged::Found;
 use crate::sizes::{
-    all_differ, classes_of_fours, empty_rounds, ints_of_sizes, long_name_table,
+    Large, all_differ, classes_of_fours, empty_rounds, long_name_table, merged_large,
     ring_has_two_classes, table_len,
 };
 use crate::told::{tell, tell_holds, tell_number, tell_table};
@@ -49,7 +49,7 @@ fn are_apart<R: Print>(rt: &R, alloc: Global, ints: &Found<'_>) -> Result<bool, 
 
 /// A graph of more types than a table can have, no two of one class.
 pub fn ints_hold<R: Print + Threads + Sync>(rt: &R, alloc: Global) -> Result<bool, Fault> {
-    let ints = ints_of_sizes(rt, alloc, 1 << 20)?;
+    let ints = merged_large(rt, alloc, Large::Ints, 1 << 20)?;
     are_apart(rt, alloc, &ints)
 }
 

@@ -1,5 +1,5 @@
 //! The graphs that both programs decide: worked ones, shapes, and made ones.
-use crate::compared::{Tally, agrees, class_count};
+use crate::compared::{Occurs, Tally, agrees, class_count};
 use crate::fault::Fault;
 use crate::made::{Draws, made_table};
 use crate::merged::{Found, merged_table};
@@ -222,27 +222,25 @@ pub fn made_agree<R: Print + Threads + Sync>(rt: &R, alloc: Global) -> Result<bo
 }
 
 /// What occurs in the tables of made graphs.
-const OCCURS: [&str; 6] = [
-    "  pairs of different types that are related",
-    "  forwards without a definition",
-    "  forwards that the base closes",
-    "  open forwards of one definition",
-    "  open forwards of several definitions, all of one class",
-    "  open forwards of several classes of definitions",
+const OCCURS: &[(&str, Occurs)] = &[
+    ("  pairs of different types that are related", Occurs::Pairs),
+    ("  forwards without a definition", Occurs::Undefined),
+    ("  forwards that the base closes", Occurs::Closed),
+    ("  open forwards of one definition", Occurs::OfOne),
+    (
+        "  open forwards of several definitions, all of one class",
+        Occurs::OfEquals,
+    ),
+    (
+        "  open forwards of several classes of definitions",
+        Occurs::Apart,
+    ),
 ];
 
 /// Tells what occurs in tables.
 fn tell_tally<R: Print>(rt: &R, tally: &Tally) -> Result<(), Fault> {
-    let numbers = [
-        tally.pairs,
-        tally.undefined,
-        tally.closed,
-        tally.of_one,
-        tally.of_equals,
-        tally.apart,
-    ];
-    for (what, number) in OCCURS.iter().zip(&numbers) {
-        tell_number(rt, what, *number, "")?;
+    for (what, occurs) in OCCURS {
+        tell_number(rt, what, tally.of(*occurs), "")?;
     }
     Ok(())
 }
