@@ -144,7 +144,8 @@ fn is_split_to<L: Ledger>(
     Ok(is_one_relation(split.numbers(), wanted.numbers()))
 }
 
-/// Whether the classes of a large graph have the same numbers whatever number of workers finds them.
+/// Whether the classes of a large graph have the same numbers whatever number of workers finds
+/// them.
 fn workers_agree<R: Threads + Sync, L: Ledger>(
     rt: &R,
     alloc: Global,

@@ -39,8 +39,8 @@ pub enum Large {
     /// A ring of pointers among equal structures.
     Ring,
     /// Four types again and again: a structure that refers to a pointer; the pointer, to a
-    /// declaration of the structure; that, or behind the first few a pointer to the structure, as the
-    /// one before; and an INT of a size of its own.
+    /// declaration of the structure; that, or behind the first few a pointer to the structure, as
+    /// the one before; and an INT of a size of its own.
     Fours,
     /// INTs of sizes from 0 on.
     Ints,

@@ -72,8 +72,8 @@ fn is_joined(alloc: Global, graph: &Graph<'_>) -> Result<bool, AllocError> {
     Ok(graph.base() == 2 && are_same(graph.nodes(), &wanted))
 }
 
-/// Whether the graph of a base and of a file, of at most so many nodes, is what it should be; or why
-/// there is none.
+/// Whether the graph of a base and of a file, of at most so many nodes, is what it should be; or
+/// why there is none.
 fn joined_over(
     alloc: Global,
     base: &Table<'static>,

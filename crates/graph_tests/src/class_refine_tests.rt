@@ -159,7 +159,8 @@ fn classes_of<R: Threads + Sync, L: Ledger>(
     Ok(refined.classes)
 }
 
-/// Whether the coarsest partition of a graph relates exactly the nodes that `want` gives one number.
+/// Whether the coarsest partition of a graph relates exactly the nodes that `want` gives one
+/// number.
 fn is_related<R: Threads + Sync>(
     rt: &R,
     alloc: Global,

@@ -7,8 +7,8 @@ use forward_rule::FwdIndex;
 use small_graphs::rows::{Head, Piece, type_of};
 use std::alloc::{AllocError, Global};
 
-/// A type: its kind, as `c_model::kinds` numbers it, its name, its size in bytes, its parts, and what
-/// it refers to.
+/// A type: its kind, as `c_model::kinds` numbers it, its name, its size in bytes, its parts, and
+/// what it refers to.
 pub type Row = (u8, &'static [u8], u32, &'static [Piece], &'static [Ref]);
 
 /// What the type of a row says of itself.

@@ -31,8 +31,8 @@ fn have_protos(limit: u32, funcs: &[Func<'_>]) -> bool
     true
 }
 
-/// Whether the first `plain` nodes refer to one another alone, each entry's prototype is a node, and
-/// there are few of all.
+/// Whether the first `plain` nodes refer to one another alone, each entry's prototype is a node,
+/// and there are few of all.
 pub fn are_protos(graph: &Graph<'_>, plain: u32, funcs: &[Func<'_>]) -> bool
     ensures few { IsTrue result → length graph.now.nodes ≤ 100 }
     ensures entries { IsTrue result → length funcs.now ≤ 100 }

@@ -175,8 +175,8 @@ fn choose<'a, R: Threads + Sync>(
     Ok(choose_over(rt, alloc, 2, base, case.most, protos))
 }
 
-/// Whether a case comes out as it is wanted of a graph. The classes are known exactly where there is
-/// no base.
+/// Whether a case comes out as it is wanted of a graph. The classes are known exactly where there
+/// is no base.
 fn chooses_of<'a, R: Threads + Sync>(
     rt: &R,
     alloc: Global,
