@@ -15,18 +15,6 @@ fn is_relation(numbers: &[u32], relation: &Relation) -> bool {
     true
 }
 
-/// Whether two lists of numbers are equal at the same pairs of places.
-pub fn is_one_relation(p: &[u32], q: &[u32]) -> bool {
-    for x in 0..p.len() {
-        for y in 0..x {
-            if (p.get(x) == p.get(y)) != (q.get(x) == q.get(y)) {
-                return false;
-            }
-        }
-    }
-    p.len() == q.len()
-}
-
 /// How many different numbers there are.
 pub fn class_count(alloc: Global, numbers: &[u32]) -> Result<usize, AllocError> {
     let mut sorted = Vec::from_slice(alloc, numbers)?;
@@ -39,17 +27,28 @@ pub fn class_count(alloc: Global, numbers: &[u32]) -> Result<usize, AllocError> 
 #[derive(Clone, Copy, Default)]
 pub struct Tally {
     /// Pairs of different types that are related.
-    pub pairs: u64,
+    pairs: u64,
     /// Forwards without a definition.
-    pub undefined: u64,
+    undefined: u64,
     /// Forwards that the base closes.
-    pub closed: u64,
+    closed: u64,
     /// Open forwards with one definition.
-    pub of_one: u64,
+    of_one: u64,
     /// Open forwards whose definitions are several and of one class.
-    pub of_equals: u64,
+    of_equals: u64,
     /// Open forwards whose definitions are of several classes.
-    pub apart: u64,
+    apart: u64,
+}
+
+/// What a tally counts.
+#[derive(Clone, Copy)]
+pub enum Occurs {
+    Pairs,
+    Undefined,
+    Closed,
+    OfOne,
+    OfEquals,
+    Apart,
 }
 
 fn count(number: &mut u64) {
@@ -57,6 +56,18 @@ fn count(number: &mut u64) {
 }
 
 impl Tally {
+    /// How often something occurs.
+    pub fn of(&self, occurs: Occurs) -> u64 {
+        match occurs {
+            Occurs::Pairs => self.pairs,
+            Occurs::Undefined => self.undefined,
+            Occurs::Closed => self.closed,
+            Occurs::OfOne => self.of_one,
+            Occurs::OfEquals => self.of_equals,
+            Occurs::Apart => self.apart,
+        }
+    }
+
     /// Counts a forward.
     fn take_forward(&mut self, view: &View<'_>, relation: &Relation, x: usize, defined: bool) {
         let found = view.opened_to(x);
@@ -94,6 +105,33 @@ impl Tally {
     }
 }
 
+/// Counts what occurs in a table that the plain program has decided.
+fn count_all(
+    alloc: Global,
+    view: &View<'_>,
+    relation: &Relation,
+    tally: &mut Tally,
+) -> Result<(), AllocError> {
+    for x in 0..view.len() {
+        tally.take_pairs(relation, x);
+        tally.take_row(alloc, view, relation, x)?;
+    }
+    Ok(())
+}
+
+/// Whether the plain program finds the relation of these numbers for a table with its open
+/// forwards. Counts what occurs in it.
+fn agrees_opened(
+    alloc: Global,
+    view: &View<'_>,
+    numbers: &[u32],
+    tally: &mut Tally,
+) -> Result<bool, AllocError> {
+    let relation = view.coarsest(alloc)?;
+    count_all(alloc, view, &relation, tally)?;
+    Ok(numbers.len() == view.len() && is_relation(numbers, &relation))
+}
+
 /// Whether the plain program finds the relation of these numbers for a table. Counts what occurs in
 /// it.
 pub fn agrees(
@@ -103,10 +141,5 @@ pub fn agrees(
     tally: &mut Tally,
 ) -> Result<bool, AllocError> {
     let view = opened(alloc, table)?;
-    let relation = view.coarsest(alloc)?;
-    for x in 0..table.rows.len() {
-        tally.take_pairs(&relation, x);
-        tally.take_row(alloc, &view, &relation, x)?;
-    }
-    Ok(numbers.len() == table.rows.len() && is_relation(numbers, &relation))
+    agrees_opened(alloc, &view, numbers, tally)
 }

@@ -1,68 +1,67 @@
 //! Whether the graphs at the limits of size are as they should be.
 use crate::fault::Fault;
+use crate::merged::Found;
 use crate::sizes::{
-    all_differ, classes_of_fours, empty_rounds, ints_of_sizes, long_name_table,
+    Large, all_differ, classes_of_fours, empty_rounds, long_name_table, merged_large,
     ring_has_two_classes, table_len,
 };
-use crate::told::{tell_classes, tell_holds, tell_rounds, tell_table};
+use crate::told::{tell, tell_holds, tell_number, tell_table};
 use split_base::TableFault;
 use std::alloc::Global;
 use std::thread::Threads;
 
-/// The graphs at the limits of size.
-pub fn limits_hold<R: Print + Threads + Sync>(rt: &R, alloc: Global) -> Result<bool, Fault> {
-    let empty = empty_holds(rt, alloc)?;
-    let ring = ring_holds(rt, alloc)?;
-    let fours = fours_hold(rt, alloc)?;
-    let ints = ints_hold(rt, alloc)?;
-    let names = names_hold(rt, alloc)?;
-    Ok(empty & ring & fours & ints & names)
-}
-
 /// The empty graph has no rounds.
-fn empty_holds<R: Print + Threads + Sync>(rt: &R, alloc: Global) -> Result<bool, Fault> {
+pub fn empty_holds<R: Print + Threads + Sync>(rt: &R, alloc: Global) -> Result<bool, Fault> {
     let rounds = empty_rounds(rt, alloc)?;
-    tell_rounds(rt, rounds)?;
+    match rounds {
+        Some(number) => tell_number(rt, "empty graph", u64::from(number), " rounds")?,
+        None => tell(rt, "empty graph", "it has classes")?,
+    }
     Ok(rounds == Some(0))
 }
 
 /// A ring has two classes.
-fn ring_holds<R: Print + Threads + Sync>(rt: &R, alloc: Global) -> Result<bool, Fault> {
-    let ring = ring_has_two_classes(rt, alloc, 1000)?;
-    tell_holds(
-        rt,
-        "ring of 1000 pointers among equal structures, two classes",
-        ring,
-    )?;
-    Ok(ring)
+pub fn ring_holds<R: Print + Threads + Sync>(rt: &R, alloc: Global) -> Result<bool, Fault> {
+    let what = "ring of 1000 pointers among equal structures, two classes";
+    tell_holds(rt, what, ring_has_two_classes(rt, alloc, 1000)?)
 }
 
 /// A large graph has so many classes by any number of workers.
-fn fours_hold<R: Print + Threads + Sync>(rt: &R, alloc: Global) -> Result<bool, Fault> {
+pub fn fours_hold<R: Print + Threads + Sync>(rt: &R, alloc: Global) -> Result<bool, Fault> {
     let fours = classes_of_fours(rt, alloc, 20_000)?;
-    tell_classes(
+    tell_number(
         rt,
         "20000 times a structure, a pointer, a declaration and an INT of its own, by 1 and 7 workers",
-        fours,
+        fours as u64,
+        " classes",
     )?;
     Ok(fours == 20_002)
 }
 
-/// A graph of more types than a table can have, no two of one class.
-fn ints_hold<R: Print + Threads + Sync>(rt: &R, alloc: Global) -> Result<bool, Fault> {
-    let ints = ints_of_sizes(rt, alloc, 1 << 20)?;
+/// Whether no two types of a graph are of one class, and it has no table.
+fn are_apart<R: Print>(rt: &R, alloc: Global, ints: &Found<'_>) -> Result<bool, Fault> {
     let apart = all_differ(alloc, ints.refined.classes.numbers())?;
-    tell_holds(rt, "1048576 sizes of INT, all differ", apart)?;
-    let table = table_len(alloc, &ints)?;
+    let apart = tell_holds(rt, "1048576 sizes of INT, all differ", apart)?;
+    let table = table_len(alloc, ints)?;
     tell_table(rt, "  their table", &table)?;
     Ok(apart && table == Err(TableFault::TooManyTypes(1_048_576)))
 }
 
-/// A table whose last name stands as far behind as one can, and one whose last name stands further.
-fn names_hold<R: Print + Threads + Sync>(rt: &R, alloc: Global) -> Result<bool, Fault> {
-    let most = long_name_table(rt, alloc, 16_777_213)?;
-    tell_table(rt, "a last name at 16777215", &most)?;
-    let far = long_name_table(rt, alloc, 16_777_214)?;
-    tell_table(rt, "a last name at 16777216", &far)?;
-    Ok(most == Ok(2) && far == Err(TableFault::NamesTooLong(16_777_216)))
+/// A graph of more types than a table can have, no two of one class.
+pub fn ints_hold<R: Print + Threads + Sync>(rt: &R, alloc: Global) -> Result<bool, Fault> {
+    let ints = merged_large(rt, alloc, Large::Ints, 1 << 20)?;
+    are_apart(rt, alloc, &ints)
+}
+
+/// Whether the table is as it is wanted that has a last name behind one of so many bytes.
+pub fn name_holds<R: Print + Threads + Sync>(
+    rt: &R,
+    alloc: Global,
+    what: &str,
+    bytes: usize,
+    wanted: Result<usize, TableFault>,
+) -> Result<bool, Fault> {
+    let table = long_name_table(rt, alloc, bytes)?;
+    tell_table(rt, what, &table)?;
+    Ok(table == wanted)
 }

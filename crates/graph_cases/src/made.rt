@@ -1,9 +1,7 @@
 //! Made graphs: rows are drawn, and mostly repeated with their references moved, so that equal
 //! types and cycles occur. Definitions are now and then replaced by declarations.
-use crate::rows::{
-    ENUM, ENUM64, FWD, Head, INT, PTR, Piece, Row, STRUCT, TYPEDEF, Table, UNION, bare,
-};
-use c_model::Ref;
+use crate::rows::{ENUM, ENUM64, FWD, INT, NONE, PTR, Row, STRUCT, TYPEDEF, Table, UNION, bare};
+use small_graphs::rows::{Head, Piece};
 use std::alloc::{AllocError, Global};
 
 /// Numbers that look drawn, by a linear congruence modulo 2^64.
@@ -180,32 +178,27 @@ fn made_head(draws: &mut Draws, pattern: &Pattern) -> Head {
 }
 
 /// What a row at a place refers to: mostly the row so many steps behind it.
-fn made_target(draws: &mut Draws, place: u64, step: u64, limit: u64) -> Ref {
+fn made_target(draws: &mut Draws, place: u64, step: u64, limit: u64) -> u32 {
     let far = match draws.below(12) {
         0 => draws.below(limit),
         _ => place.saturating_add(step),
     };
     let target = far.checked_rem(limit).unwrap_or(0);
     match u32::try_from(target) {
-        Ok(x) if draws.below(20) != 0 => Ref::Node(x),
-        _ => Ref::Void,
+        Ok(x) if draws.below(20) != 0 => x,
+        _ => NONE,
     }
 }
 
 /// A row at a place of a table, which refers to rows below `limit`.
-fn made_row(
-    alloc: Global,
-    draws: &mut Draws,
-    pattern: &Pattern,
-    place: u64,
-    limit: u64,
-) -> Result<Row, AllocError> {
+fn made_row(draws: &mut Draws, pattern: &Pattern, place: u64, limit: u64) -> Row {
     let head = made_head(draws, pattern);
-    let mut targets = Vec::new(alloc);
-    for step in pattern.steps.iter().take(target_count(&head)) {
-        targets.push(made_target(draws, place, *step, limit))?;
+    let count = target_count(&head);
+    let mut targets = [NONE; 2];
+    for (target, step) in targets.iter_mut().zip(&pattern.steps).take(count) {
+        *target = made_target(draws, place, *step, limit);
     }
-    Ok(Row { head, targets })
+    Row::new(head, targets.get(..count).unwrap_or(&[]))
 }
 
 /// A drawn pattern.
@@ -243,7 +236,7 @@ fn made_rows(
     for place in 0..count {
         let limit = if place < base { base } else { count };
         if let Some(pattern) = pattern_at(patterns, place) {
-            rows.push(made_row(alloc, draws, pattern, place, limit)?)?;
+            rows.push(made_row(draws, pattern, place, limit))?;
         }
     }
     Ok(rows)

@@ -4,7 +4,6 @@
 
 mod compared;
 mod fault;
-mod fitting;
 mod limits;
 mod made;
 mod merged;
@@ -19,14 +18,14 @@ mod trials;
 mod worked;
 
 use fault::Fault;
-use limits::limits_hold;
-use packed::{labels_are_told, lists_follow};
+use limits::{empty_holds, fours_hold, ints_hold, name_holds, ring_holds};
+use packed::{labels_hold, lists_hold};
 use split_base::TableFault;
 use std::alloc::Global;
 use std::process::ExitCode;
 use std::thread::Threads;
 use tables::joined;
-use told::{tell_holds, tell_joined};
+use told::tell_joined;
 use trials::{made_agree, shapes_agree, worked_agree};
 
 fn main(rt: HostRuntime) -> ExitCode {
@@ -40,39 +39,84 @@ fn main(rt: HostRuntime) -> ExitCode {
     }
 }
 
+/// What is tried.
+#[derive(Clone, Copy)]
+enum Part {
+    Worked,
+    Shapes,
+    FewNodes,
+    EnoughNodes,
+    Made,
+    Empty,
+    Ring,
+    Fours,
+    Ints,
+    LastName,
+    FartherName,
+    Labels,
+    Lists,
+}
+
+/// All that is tried, in its order.
+const PARTS: &[Part] = &[
+    Part::Worked,
+    Part::Shapes,
+    Part::FewNodes,
+    Part::EnoughNodes,
+    Part::Made,
+    Part::Empty,
+    Part::Ring,
+    Part::Fours,
+    Part::Ints,
+    Part::LastName,
+    Part::FartherName,
+    Part::Labels,
+    Part::Lists,
+];
+
+/// Whether a part is as it should be.
+fn part_holds<R: Print + Threads + Sync>(rt: &R, alloc: Global, part: Part) -> Result<bool, Fault> {
+    match part {
+        Part::Worked => worked_agree(rt, alloc),
+        Part::Shapes => shapes_agree(rt, alloc),
+        Part::FewNodes => join_holds(rt, alloc, FEW, 4, Err(TableFault::NodesTooMany(5))),
+        Part::EnoughNodes => join_holds(rt, alloc, "the same, at most 5 nodes", 5, Ok(true)),
+        Part::Made => made_agree(rt, alloc),
+        Part::Empty => empty_holds(rt, alloc),
+        Part::Ring => ring_holds(rt, alloc),
+        Part::Fours => fours_hold(rt, alloc),
+        Part::Ints => ints_hold(rt, alloc),
+        Part::LastName => name_holds(rt, alloc, "a last name at 16777215", 16_777_213, Ok(2)),
+        Part::FartherName => name_holds(rt, alloc, "a last name at 16777216", 16_777_214, FAR),
+        Part::Labels => labels_hold(rt, alloc),
+        Part::Lists => lists_hold(rt, alloc),
+    }
+}
+
+/// A base and a file with a node too many.
+const FEW: &str = "2 types of a base and 3 of a file, at most 4 nodes";
+
+/// Why a name that stands too far behind has no table.
+const FAR: Result<usize, TableFault> = Err(TableFault::NamesTooLong(16_777_216));
+
 /// Whether all graphs are as they should be.
 fn all_hold<R: Print + Threads + Sync>(rt: &R, alloc: Global) -> Result<bool, Fault> {
-    let worked = worked_agree(rt, alloc)?;
-    let shapes = shapes_agree(rt, alloc)?;
-    let joins = joins_hold(rt, alloc)?;
-    let made = made_agree(rt, alloc)?;
-    let limits = limits_hold(rt, alloc)?;
-    let packed = packed_hold(rt, alloc)?;
-    Ok(worked & shapes & joins & made & limits & packed)
+    let mut hold = true;
+    for part in PARTS {
+        hold &= part_holds(rt, alloc, *part)?;
+    }
+    Ok(hold)
 }
 
-/// A base and a file at the limit of nodes.
-fn joins_hold<R: Print>(rt: &R, alloc: Global) -> Result<bool, Fault> {
-    let few = joined(alloc, 4)?;
-    tell_joined(
-        rt,
-        "2 types of a base and 3 of a file, at most 4 nodes",
-        &few,
-    )?;
-    let enough = joined(alloc, 5)?;
-    tell_joined(rt, "the same, at most 5 nodes", &enough)?;
-    Ok(few == Err(TableFault::NodesTooMany(5)) && enough == Ok(true))
-}
-
-/// Packed lists of types.
-fn packed_hold<R: Print>(rt: &R, alloc: Global) -> Result<bool, Fault> {
-    let told = labels_are_told(alloc)?;
-    tell_holds(rt, "labels that differ in one thing are told apart", told)?;
-    let follow = lists_follow(alloc)?;
-    tell_holds(
-        rt,
-        "lists that follow one another are one, references moved",
-        follow,
-    )?;
-    Ok(told && follow)
+/// Whether the graph of a base and a file, of at most so many nodes, is as it is wanted.
+fn join_holds<R: Print>(
+    rt: &R,
+    alloc: Global,
+    what: &str,
+    most: u32,
+    wanted: Result<bool, TableFault>,
+) -> Result<bool, Fault> {
+    let found = joined(alloc, most)?;
+    tell_joined(rt, what, &found)?;
+    Ok(found == wanted)
 }

@@ -5,17 +5,17 @@ ghost use Rattle.c_model.specs.Graph.{references};
 ghost use Rattle.c_model.specs.Partition.{IsCoarsest};
 ghost use Rattle.c_model.specs.Forwards.{IsIndexOf, HasFittingForwards};
 
-use crate::compared::is_one_relation;
 use crate::fault::Fault;
-use crate::fitting::{graph_from, is_fitting};
 use crate::rows::{Table, types_of};
 use c_model::laws::nothing_open_is_plain;
-use c_model::{CType, Classes, Graph};
+use c_model::{CType, Classes, Graph, TypeGraph};
 use class_halves::{classes_by_halves, split_by_halves};
 use class_refine::{Refined, classes};
 use dw_base::Steps;
 use forward_rule::FwdIndex;
-use packed_graph::packed;
+use packed_graph::{PackedGraph, packed};
+use small_graphs::fitting::{graph_from, is_fitting};
+use small_graphs::same::is_one_relation;
 use std::alloc::{AllocError, Global};
 use std::marker::Brand;
 use std::sync::ledger::{Blank, Ledger};
@@ -99,12 +99,57 @@ const COMPARED_AT_MOST: u32 = 4_096;
 /// numbers of workers.
 const SHARED_AT_MOST: u32 = 100_000;
 
-/// Whether the classes of a large graph, packed, have the same numbers whatever number of workers
-/// finds them.
+/// Whether classes have the same numbers, or are few and the same.
+fn are_same_classes(numbers: &[u32], wanted: &[u32]) -> bool {
+    numbers == wanted
+        || (numbers.len() <= COMPARED_AT_MOST as usize && is_one_relation(numbers, wanted))
+}
+
+/// Whether so many workers find the same classes by halves, behind a guess, and in a large graph of
+/// the same numbers. Where a graph has fewer than 2^d nodes, it takes at most 2 d steps for each
+/// reference.
+fn is_found_by<R: Threads + Sync, L: Ledger>(
+    rt: &R,
+    alloc: Global,
+    workers: u32,
+    graph: &PackedGraph<'_>,
+    forwards: &FwdIndex,
+    wanted: &Classes,
+    steps: &mut Steps<L>,
+) -> Result<bool, AllocError>
+    requires index { IsIndexOf graph.now forwards.now }
+    requires fitting { HasFittingForwards graph.now }
+    ensures cost { OnOk result ((d : ℕ) → length graph.now.nodes < 2 ^ d
+        → steps.new ≤ steps.old + 2 * (references graph.now.nodes * d)) }
+{
+    let found = classes_by_halves(rt, alloc, workers, graph, forwards, steps)?;
+    Ok(are_same_classes(found.numbers(), wanted.numbers()))
+}
+
+/// Whether classes by halves that are split from labels on are the same. Where a graph has fewer
+/// than 2^d nodes, it takes at most 2 d steps for each reference.
+fn is_split_to<L: Ledger>(
+    alloc: Global,
+    graph: &PackedGraph<'_>,
+    forwards: &FwdIndex,
+    wanted: &Classes,
+    steps: &mut Steps<L>,
+) -> Result<bool, AllocError>
+    requires index { IsIndexOf graph.now forwards.now }
+    requires fitting { HasFittingForwards graph.now }
+    ensures cost { OnOk result ((d : ℕ) → length graph.now.nodes < 2 ^ d
+        → steps.new ≤ steps.old + 2 * (references graph.now.nodes * d)) }
+{
+    let split = split_by_halves(alloc, graph, forwards, steps)?;
+    Ok(is_one_relation(split.numbers(), wanted.numbers()))
+}
+
+/// Whether the classes of a large graph have the same numbers whatever number of workers finds
+/// them.
 fn workers_agree<R: Threads + Sync, L: Ledger>(
     rt: &R,
     alloc: Global,
-    graph: &Graph<'_>,
+    graph: &PackedGraph<'_>,
     forwards: &FwdIndex,
     wanted: &Classes,
     steps: &mut Steps<L>,
@@ -112,19 +157,17 @@ fn workers_agree<R: Threads + Sync, L: Ledger>(
     requires index { IsIndexOf graph.now forwards.now }
     requires fitting { HasFittingForwards graph.now }
 {
-    let kept_once = packed(alloc, graph)?;
-    let alone = classes_by_halves(rt, alloc, 1, &kept_once, forwards, steps)?;
-    let together = classes_by_halves(rt, alloc, 7, &kept_once, forwards, steps)?;
-    Ok(alone.numbers() == wanted.numbers() && together.numbers() == wanted.numbers())
+    let alone = is_found_by(rt, alloc, 1, graph, forwards, wanted, steps)?;
+    let together = is_found_by(rt, alloc, 7, graph, forwards, wanted, steps)?;
+    Ok(alone && together)
 }
 
-/// Whether classes by halves are the same over the graph packed, both split from labels on and
-/// behind a guess. Where a graph has fewer than 2^d nodes, each of the two takes at most 2 d steps
-/// for each reference.
+/// Whether classes by halves are the same, both split from labels on and behind a guess. Where a
+/// graph has fewer than 2^d nodes, each of the two takes at most 2 d steps for each reference.
 fn others_agree<R: Threads + Sync, L: Ledger>(
     rt: &R,
     alloc: Global,
-    graph: &Graph<'_>,
+    graph: &PackedGraph<'_>,
     forwards: &FwdIndex,
     wanted: &Classes,
     steps: &mut Steps<L>,
@@ -134,20 +177,16 @@ fn others_agree<R: Threads + Sync, L: Ledger>(
     ensures cost { OnOk result ((d : ℕ) → length graph.now.nodes < 2 ^ d
         → steps.new ≤ steps.old + 2 * (2 * (references graph.now.nodes * d))) }
 {
-    let kept_once = packed(alloc, graph)?;
-    let split = split_by_halves(alloc, &kept_once, forwards, steps)?;
-    let halves = classes_by_halves(rt, alloc, 2, &kept_once, forwards, steps)?;
-    Ok(
-        is_one_relation(split.numbers(), wanted.numbers())
-            && is_one_relation(halves.numbers(), wanted.numbers()),
-    )
+    let split = is_split_to(alloc, graph, forwards, wanted, steps)?;
+    let found = is_found_by(rt, alloc, 2, graph, forwards, wanted, steps)?;
+    Ok(split && found)
 }
 
-/// Whether all ways find the same classes of a graph that is not too large for them.
+/// Whether all ways find the same classes of a packed graph that is not too large for them.
 fn all_agree<R: Threads + Sync, L: Ledger>(
     rt: &R,
     alloc: Global,
-    graph: &Graph<'_>,
+    graph: &PackedGraph<'_>,
     forwards: &FwdIndex,
     wanted: &Classes,
     steps: &mut Steps<L>,
@@ -158,29 +197,74 @@ fn all_agree<R: Threads + Sync, L: Ledger>(
     if graph.len() <= COMPARED_AT_MOST {
         return others_agree(rt, alloc, graph, forwards, wanted, steps);
     }
-    if graph.len() <= SHARED_AT_MOST {
-        return workers_agree(rt, alloc, graph, forwards, wanted, steps);
-    }
-    Ok(true)
+    workers_agree(rt, alloc, graph, forwards, wanted, steps)
 }
 
-/// The coarsest partition of a graph, where `kept` is that of its base alone.
-fn classes_over<R: Threads + Sync, L: Ledger>(
+/// The same of a graph that is packed for it, or is too large.
+fn all_agree_packed<R: Threads + Sync, L: Ledger>(
     rt: &R,
     alloc: Global,
     graph: &Graph<'_>,
-    kept: &Classes,
+    forwards: &FwdIndex,
+    wanted: &Classes,
     steps: &mut Steps<L>,
-) -> Result<Refined, Fault>
-    requires kept { IsCoarsest (take graph.now.base graph.now.nodes) kept.now }
+) -> Result<bool, AllocError>
+    requires index { IsIndexOf graph.now forwards.now }
     requires fitting { HasFittingForwards graph.now }
 {
-    let forwards = FwdIndex::build(alloc, graph, kept)?;
-    let refined = classes(rt, alloc, graph, &forwards, steps)?;
-    if !all_agree(rt, alloc, graph, &forwards, &refined.classes, steps)? {
+    if graph.len() > SHARED_AT_MOST {
+        return Ok(true);
+    }
+    let kept_once = packed(alloc, graph)?;
+    all_agree(rt, alloc, &kept_once, forwards, wanted, steps)
+}
+
+/// The coarsest partition of a graph with these open forwards, where all ways find the same.
+fn classes_with<R: Threads + Sync, L: Ledger>(
+    rt: &R,
+    alloc: Global,
+    graph: &Graph<'_>,
+    forwards: &FwdIndex,
+    steps: &mut Steps<L>,
+) -> Result<Refined, Fault>
+    requires index { IsIndexOf graph.now forwards.now }
+    requires fitting { HasFittingForwards graph.now }
+{
+    let refined = classes(rt, alloc, graph, forwards, steps)?;
+    if !all_agree_packed(rt, alloc, graph, forwards, &refined.classes, steps)? {
         return Err(Fault::Differs);
     }
     Ok(refined)
+}
+
+/// A graph and its coarsest partition, where `kept` is that of its base alone.
+fn found_over<'a, R: Threads + Sync, L: Ledger>(
+    rt: &R,
+    alloc: Global,
+    graph: Graph<'a>,
+    kept: &Classes,
+    steps: &mut Steps<L>,
+) -> Result<Found<'a>, Fault>
+    requires kept { IsCoarsest (take graph.base graph.nodes) kept.now }
+    requires fitting { HasFittingForwards graph }
+{
+    let forwards = FwdIndex::build(alloc, &graph, kept)?;
+    let refined = classes_with(rt, alloc, &graph, &forwards, steps)?;
+    Ok(Found { graph, refined })
+}
+
+/// The coarsest partition of a base's graph and of types behind it.
+fn merged_behind<'a, R: Threads + Sync, L: Ledger>(
+    rt: &R,
+    alloc: Global,
+    alone: Graph<'a>,
+    own: Vec<CType<'a>>,
+    steps: &mut Steps<L>,
+) -> Result<Found<'a>, Fault>
+    requires { HasFittingForwards alone }
+{
+    let kept = plain_classes(rt, alloc, &alone, steps)?;
+    found_over(rt, alloc, joined(alone, own)?, &kept, steps)
 }
 
 /// The coarsest partition of a table's graph.
@@ -219,9 +303,5 @@ fn merged_over<'a, R: Threads + Sync, L: Ledger>(
     requires some { 0 < L.parts }
 {
     let mut steps = Steps::<L>::new(blank);
-    let alone = base_graph(base)?;
-    let kept = plain_classes(rt, alloc, &alone, &mut steps)?;
-    let graph = joined(alone, own)?;
-    let refined = classes_over(rt, alloc, &graph, &kept, &mut steps)?;
-    Ok(Found { graph, refined })
+    merged_behind(rt, alloc, base_graph(base)?, own, &mut steps)
 }

@@ -1,7 +1,11 @@
 //! Packed lists of types: labels that differ in one thing alone, and lists that follow one another.
-use crate::rows::{Head, Piece, STRUCT, UNION, label_of};
+use crate::fault::Fault;
+use crate::rows::{STRUCT, UNION};
+use crate::told::tell_holds;
 use c_model::Ref;
 use packed_graph::PackedNodes;
+use small_graphs::packed::{Listed, are_joined, listed, push_types};
+use small_graphs::rows::{Head, Piece};
 use std::alloc::{AllocError, Global};
 
 const A: Piece = Piece {
@@ -64,50 +68,54 @@ const S: Head = Head {
     pieces: PAIR,
 };
 
-/// A structure of two members, and labels that each differ from one before in one thing.
-const LABELS: &[Head] = &[
-    S,
-    Head { kind: UNION, ..S },
-    Head { name: b"t", ..S },
-    Head { flag: true, ..S },
-    Head { size: 4, ..S },
-    Head { extra: 1, ..S },
-    Head {
-        pieces: RENAMED,
-        ..S
-    },
-    Head { pieces: MOVED, ..S },
-    Head {
-        pieces: REGROUPED,
-        ..S
-    },
-    Head {
-        pieces: &[B, A],
-        ..S
-    },
-    Head { pieces: &[A], ..S },
-    Head {
-        pieces: &[A, B, B],
-        ..S
-    },
-    Head { name: HIDDEN, ..S },
-    Head {
-        name: HIDDEN_TOO,
-        ..S
-    },
+/// A structure of two members, and labels that each differ from one before in one thing, of types
+/// that refer to nothing.
+const LABELS: &[Listed] = &[
+    (S, &[]),
+    (Head { kind: UNION, ..S }, &[]),
+    (Head { name: b"t", ..S }, &[]),
+    (Head { flag: true, ..S }, &[]),
+    (Head { size: 4, ..S }, &[]),
+    (Head { extra: 1, ..S }, &[]),
+    (
+        Head {
+            pieces: RENAMED,
+            ..S
+        },
+        &[],
+    ),
+    (Head { pieces: MOVED, ..S }, &[]),
+    (
+        Head {
+            pieces: REGROUPED,
+            ..S
+        },
+        &[],
+    ),
+    (
+        Head {
+            pieces: &[B, A],
+            ..S
+        },
+        &[],
+    ),
+    (Head { pieces: &[A], ..S }, &[]),
+    (
+        Head {
+            pieces: &[A, B, B],
+            ..S
+        },
+        &[],
+    ),
+    (Head { name: HIDDEN, ..S }, &[]),
+    (
+        Head {
+            name: HIDDEN_TOO,
+            ..S
+        },
+        &[],
+    ),
 ];
-
-/// Appends these labels to a list, as types that refer to nothing.
-fn push_labels(
-    alloc: Global,
-    nodes: &mut PackedNodes<'static>,
-    labels: &[Head],
-) -> Result<(), AllocError> {
-    for head in labels {
-        nodes.push(label_of(alloc, head)?, &[])?;
-    }
-    Ok(())
-}
 
 /// Whether numbers count up from 0 to below `count` again and again.
 fn count_up(numbers: &[u32], count: usize) -> bool {
@@ -122,78 +130,53 @@ fn count_up(numbers: &[u32], count: usize) -> bool {
     true
 }
 
+/// Whether there are two types of each of so many labels, which are numbered in order, twice.
+fn are_told(nodes: &PackedNodes<'_>, count: usize) -> bool {
+    nodes.len() == count.saturating_mul(2) && count_up(nodes.numbers(), count)
+}
+
 /// Whether labels that differ in one thing are told apart, and are known again: all are listed
 /// twice.
-pub fn labels_are_told(alloc: Global) -> Result<bool, AllocError> {
-    let mut nodes = PackedNodes::new(alloc)?;
-    push_labels(alloc, &mut nodes, LABELS)?;
-    push_labels(alloc, &mut nodes, LABELS)?;
-    let count = LABELS.len();
-    Ok(nodes.len() == count.saturating_mul(2) && count_up(nodes.numbers(), count))
+fn labels_are_told(alloc: Global) -> Result<bool, AllocError> {
+    let mut nodes = listed(alloc, LABELS)?;
+    push_types(alloc, &mut nodes, LABELS)?;
+    Ok(are_told(&nodes, LABELS.len()))
 }
 
-/// A reference to the first type of a list.
-const TO_FIRST: &[Ref] = &[Ref::Node(0)];
-
-/// A reference to the last of two types.
-const TO_LAST: &[Ref] = &[Ref::Node(1)];
-
-/// Puts two types into an empty list, the first of which refers to the last and the last to the
-/// first.
-fn push_pair(
-    alloc: Global,
-    nodes: &mut PackedNodes<'static>,
-    name: &'static [u8],
-) -> Result<(), AllocError> {
-    let head = Head {
-        name,
-        pieces: &[A],
-        ..S
-    };
-    nodes.push(label_of(alloc, &head)?, TO_LAST)?;
-    nodes.push(label_of(alloc, &head)?, TO_FIRST)?;
-    Ok(())
+/// Labels that differ in one thing are told apart.
+pub fn labels_hold<R: Print>(rt: &R, alloc: Global) -> Result<bool, Fault> {
+    let what = "labels that differ in one thing are told apart";
+    tell_holds(rt, what, labels_are_told(alloc)?)
 }
 
-/// Whether each type of a list refers to one node alone, to these in order.
-fn refer_to(nodes: &PackedNodes<'_>, wanted: &[u32]) -> bool {
-    for (place, node) in wanted.iter().enumerate() {
-        let Ok(x) = u32::try_from(place) else {
-            return false;
-        };
-        if place >= nodes.len()
-            || nodes.target_count(x) != 1
-            || nodes.target(x, 0) != Ref::Node(*node)
-        {
-            return false;
-        }
-    }
-    nodes.len() == wanted.len()
-}
+/// Two types of one name, the first of which refers to the last and the last to the first.
+const FIRST: &[Listed] = &[(OF_FIRST, &[Ref::Node(1)]), (OF_FIRST, &[Ref::Node(0)])];
 
-/// Puts two types of a name into an empty list, or nothing where there is no name.
-fn push_list(
-    alloc: Global,
-    nodes: &mut PackedNodes<'static>,
-    name: Option<&'static [u8]>,
-) -> Result<(), AllocError> {
-    match name {
-        Some(name) => push_pair(alloc, nodes, name),
-        None => Ok(()),
-    }
-}
+/// Two such types of another name.
+const SECOND: &[Listed] = &[(OF_SECOND, &[Ref::Node(1)]), (OF_SECOND, &[Ref::Node(0)])];
 
-/// The names of the types of lists that follow one another: of two types each, with empty ones
-/// before, between and behind them.
-const LISTS: [Option<&[u8]>; 5] = [None, Some(b"first"), None, Some(b"second"), None];
+/// A structure of one member.
+const OF_FIRST: Head = Head {
+    name: b"first",
+    pieces: &[A],
+    ..S
+};
+
+/// The same of another name.
+const OF_SECOND: Head = Head {
+    name: b"second",
+    ..OF_FIRST
+};
+
+/// Lists that follow one another, with empty ones before, between and behind them.
+const LISTS: &[&[Listed]] = &[&[], &[], FIRST, &[], SECOND, &[]];
+
+/// What the types of the lists refer to when they are one list.
+const CROSSED: &[Ref] = &[Ref::Node(1), Ref::Node(0), Ref::Node(3), Ref::Node(2)];
 
 /// Whether lists that follow one another are one list, with the references moved.
-pub fn lists_follow(alloc: Global) -> Result<bool, AllocError> {
-    let mut all = PackedNodes::new(alloc)?;
-    for name in &LISTS {
-        let mut next = PackedNodes::new(alloc)?;
-        push_list(alloc, &mut next, *name)?;
-        all = all.followed_by(alloc, &next)?;
-    }
-    Ok(refer_to(&all, &[1, 0, 3, 2]) && all.numbers() == [0, 0, 1, 1].as_slice())
+pub fn lists_hold<R: Print>(rt: &R, alloc: Global) -> Result<bool, Fault> {
+    let what = "lists that follow one another are one, references moved";
+    let follow = are_joined(alloc, LISTS, &[0, 0, 1, 1], CROSSED)?;
+    tell_holds(rt, what, follow)
 }

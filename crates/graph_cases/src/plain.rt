@@ -1,8 +1,9 @@
 //! The coarsest agreeing partition of a small graph, straight from its definition: all pairs are
 //! related at first, and a pair that has no licence is taken away, until none is. It works on the
 //! rows of a table alone.
-use crate::rows::{ENUM, ENUM64, FWD, Head, Piece, Row, STRUCT, Table, UNION};
+use crate::rows::{ENUM, ENUM64, FWD, Row, STRUCT, Table, UNION};
 use c_model::Ref;
+use small_graphs::rows::{Head, Piece};
 use std::alloc::{AllocError, Global};
 
 /// A relation between the rows of a table.
@@ -144,6 +145,11 @@ pub struct View<'t> {
 }
 
 impl View<'_> {
+    /// How many rows there are.
+    pub fn len(&self) -> usize {
+        self.rows.len()
+    }
+
     /// The sort of the tag of a forward. Types of the base are none.
     pub fn forward(&self, x: usize) -> Option<Sort> {
         if x < self.base {
@@ -167,7 +173,7 @@ impl View<'_> {
         let (Some(a), Some(b)) = (self.rows.get(x), self.rows.get(y)) else {
             return false;
         };
-        is_same_head(&a.head, &b.head) && are_related(relation, &a.targets, &b.targets)
+        is_same_head(&a.head, &b.head) && are_related(relation, a.targets(), b.targets())
     }
 
     /// The definitions of a row; none where it is no open forward.

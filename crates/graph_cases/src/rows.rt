@@ -1,6 +1,6 @@
 //! Small graphs as tables: a row for each type.
-use c_model::{CType, Label, Part, Parts, Ref, Refs};
-use dw_base::Name;
+use c_model::{CType, Ref};
+use small_graphs::rows::{Head, Piece, type_of};
 use std::alloc::{AllocError, Global};
 
 pub const INT: u8 = 1;
@@ -21,30 +21,44 @@ pub const TYPEDEF: u8 = 8;
 
 pub const ENUM64: u8 = 19;
 
-/// A member or an enumerator: its name and its value.
-#[derive(Clone, Copy)]
-pub struct Piece {
-    pub name: &'static [u8],
-    pub value: u64,
-}
+/// No node.
+pub const NONE: u32 = u32::MAX;
 
-/// What a type says of itself, apart from what it refers to.
+/// A type of a table, which refers to three types at most.
 #[derive(Clone, Copy)]
-pub struct Head {
-    pub kind: u8,
-    pub name: &'static [u8],
-    pub flag: bool,
-    pub size: u32,
-    /// The last word of an INT, the number of elements of an ARRAY.
-    pub extra: u32,
-    pub pieces: &'static [Piece],
-}
-
-/// A type of a table.
-#[derive(Drop)]
 pub struct Row {
     pub head: Head,
-    pub targets: Vec<Ref>,
+    targets: [Ref; 3],
+    count: usize,
+}
+
+/// A reference to a node, or to void.
+fn reference(number: u32) -> Ref {
+    if number == NONE {
+        Ref::Void
+    } else {
+        Ref::Node(number)
+    }
+}
+
+impl Row {
+    /// A type that refers to the nodes of these numbers.
+    pub fn new(head: Head, numbers: &[u32]) -> Row {
+        let mut targets = [Ref::Void; 3];
+        for (target, number) in targets.iter_mut().zip(numbers) {
+            *target = reference(*number);
+        }
+        Row {
+            head,
+            targets,
+            count: numbers.len(),
+        }
+    }
+
+    /// What it refers to.
+    pub fn targets(&self) -> &[Ref] {
+        self.targets.get(..self.count).unwrap_or(&[])
+    }
 }
 
 /// A graph: its types, the first `base` of which are those of a base.
@@ -71,57 +85,17 @@ pub fn parted(kind: u8, name: &'static [u8], size: u32, pieces: &'static [Piece]
     }
 }
 
-/// The parts of a label.
-fn parts_of(alloc: Global, pieces: &'static [Piece]) -> Result<Parts<'static>, AllocError> {
-    let mut parts = Vec::new(alloc);
-    for piece in pieces {
-        parts.push(Part {
-            name: Name::new(piece.name),
-            value: piece.value,
-        })?;
-    }
-    Ok(Parts::new(parts))
-}
-
-/// The label of a row.
-pub fn label_of(alloc: Global, head: &Head) -> Result<Label<'static>, AllocError> {
-    let parts = parts_of(alloc, head.pieces)?;
-    Ok(Label {
-        kind: head.kind,
-        name: Name::new(head.name),
-        flag: head.flag,
-        size: head.size,
-        extra: head.extra,
-        parts,
-    })
-}
-
-/// The type of a row.
-fn type_of(alloc: Global, row: &Row) -> Result<CType<'static>, AllocError> {
-    let targets = Vec::from_slice(alloc, row.targets.as_slice())?;
-    Ok(CType {
-        label: label_of(alloc, &row.head)?,
-        targets: Refs::new(targets),
-    })
-}
-
 /// The types of these rows.
 pub fn types_of(alloc: Global, rows: &[Row]) -> Result<Vec<CType<'static>>, AllocError> {
     let mut types = Vec::new(alloc);
     for row in rows {
-        types.push(type_of(alloc, row)?)?;
+        types.push(type_of(alloc, &row.head, row.targets())?)?;
     }
     Ok(types)
 }
 
-/// Appends a row.
-pub fn push_row(
-    alloc: Global,
-    rows: &mut Vec<Row>,
-    head: Head,
-    targets: &[Ref],
-) -> Result<(), AllocError> {
-    let targets = Vec::from_slice(alloc, targets)?;
-    rows.push(Row { head, targets })?;
+/// Appends a row that refers to the nodes of these numbers.
+pub fn push_row(rows: &mut Vec<Row>, head: Head, numbers: &[u32]) -> Result<(), AllocError> {
+    rows.push(Row::new(head, numbers))?;
     Ok(())
 }

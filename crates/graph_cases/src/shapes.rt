@@ -1,7 +1,7 @@
 //! Graphs in shapes that are hard to split: rings, chains and trees, references of one node at many
 //! positions, and declarations whose definitions part late.
-use crate::rows::{FWD, PTR, Piece, Row, STRUCT, Table, bare, parted, push_row};
-use c_model::Ref;
+use crate::rows::{FWD, NONE, PTR, Row, STRUCT, Table, bare, parted, push_row};
+use small_graphs::rows::Piece;
 use std::alloc::{AllocError, Global};
 
 /// A shape of graphs.
@@ -22,11 +22,11 @@ pub enum Shape {
     },
 }
 
-/// No node.
-const NONE: u32 = u32::MAX;
+/// What a shape is called, the shape, and how many classes it has.
+pub type Shaped = (&'static str, Shape, usize);
 
-/// Shapes, what they are called, and how many classes they have.
-pub const SHAPES: &[(&str, Shape, usize)] = &[
+/// The shapes that are tried.
+pub const SHAPES: &[Shaped] = &[
     ("a ring of equal nodes", Shape::Rings(&["aaaaaaaaa"]), 1),
     (
         "rings of two lengths",
@@ -182,39 +182,25 @@ fn next_row(rows: &[Row]) -> u32 {
     u32::try_from(rows.len()).unwrap_or(NONE)
 }
 
-/// A reference to a row, or to void.
-fn reference(number: u32) -> Ref {
-    if number == NONE {
-        Ref::Void
-    } else {
-        Ref::Node(number)
-    }
-}
-
 /// Appends a structure for each letter of a word. Each refers to the next, and the last one to
 /// `end`.
-fn push_word(alloc: Global, rows: &mut Vec<Row>, word: &str, end: u32) -> Result<(), AllocError> {
+fn push_word(rows: &mut Vec<Row>, word: &str, end: u32) -> Result<(), AllocError> {
     let mut left = word.len();
     for letter in word.bytes() {
         left = left.saturating_sub(1);
         let next = next_row(rows).saturating_add(1);
         let target = if left == 0 { end } else { next };
         let head = parted(STRUCT, b"w", u32::from(letter), ONE);
-        push_row(alloc, rows, head, &[reference(target)])?;
+        push_row(rows, head, &[target])?;
     }
     Ok(())
 }
 
 /// Appends words, the last structure of each referring to the first where they are closed.
-fn push_words(
-    alloc: Global,
-    rows: &mut Vec<Row>,
-    words: &[&'static str],
-    closed: bool,
-) -> Result<(), AllocError> {
+fn push_words(rows: &mut Vec<Row>, words: &[&'static str], closed: bool) -> Result<(), AllocError> {
     for word in words {
         let end = if closed { next_row(rows) } else { NONE };
-        push_word(alloc, rows, word, end)?;
+        push_word(rows, word, end)?;
     }
     Ok(())
 }
@@ -231,18 +217,13 @@ fn first_rows(alloc: Global, words: &[&'static str]) -> Result<Vec<u32>, AllocEr
 }
 
 /// Appends a declaration of a tag, a pointer to it, and its definitions, which refer to these rows.
-fn push_tag(
-    alloc: Global,
-    rows: &mut Vec<Row>,
-    tag: &'static str,
-    heads: &[u32],
-) -> Result<(), AllocError> {
-    let declared = reference(next_row(rows));
-    push_row(alloc, rows, bare(FWD, tag.as_bytes(), 0), &[])?;
-    push_row(alloc, rows, bare(PTR, b"", 0), &[declared])?;
+fn push_tag(rows: &mut Vec<Row>, tag: &'static str, heads: &[u32]) -> Result<(), AllocError> {
+    let declared = next_row(rows);
+    push_row(rows, bare(FWD, tag.as_bytes(), 0), &[])?;
+    push_row(rows, bare(PTR, b"", 0), &[declared])?;
     let definition = parted(STRUCT, tag.as_bytes(), 8, ONE);
     for head in heads {
-        push_row(alloc, rows, definition, &[reference(*head)])?;
+        push_row(rows, definition, &[*head])?;
     }
     Ok(())
 }
@@ -255,22 +236,17 @@ fn push_tags(
     ends: &[&'static str],
 ) -> Result<(), AllocError> {
     let heads = first_rows(alloc, ends)?;
-    push_words(alloc, rows, ends, false)?;
+    push_words(rows, ends, false)?;
     for tag in tags {
-        push_tag(alloc, rows, tag, &heads)?;
+        push_tag(rows, tag, &heads)?;
     }
     Ok(())
 }
 
 /// Appends structures of two members.
-fn push_pairs(
-    alloc: Global,
-    rows: &mut Vec<Row>,
-    pairs: &[(u32, [u32; 2])],
-) -> Result<(), AllocError> {
-    for (size, [x, y]) in pairs {
-        let head = parted(STRUCT, b"p", *size, TWO);
-        push_row(alloc, rows, head, &[reference(*x), reference(*y)])?;
+fn push_pairs(rows: &mut Vec<Row>, pairs: &[(u32, [u32; 2])]) -> Result<(), AllocError> {
+    for (size, members) in pairs {
+        push_row(rows, parted(STRUCT, b"p", *size, TWO), members)?;
     }
     Ok(())
 }
@@ -278,9 +254,9 @@ fn push_pairs(
 /// Appends the rows of a shape to no rows.
 fn push_shape(alloc: Global, rows: &mut Vec<Row>, shape: &Shape) -> Result<(), AllocError> {
     match shape {
-        Shape::Rings(words) => push_words(alloc, rows, words, true),
-        Shape::Chains(words) => push_words(alloc, rows, words, false),
-        Shape::Pairs(pairs) => push_pairs(alloc, rows, pairs),
+        Shape::Rings(words) => push_words(rows, words, true),
+        Shape::Chains(words) => push_words(rows, words, false),
+        Shape::Pairs(pairs) => push_pairs(rows, pairs),
         Shape::Tags { tags, ends } => push_tags(alloc, rows, tags, ends),
     }
 }

@@ -1,24 +1,31 @@
 //! Graphs at the limits of size.
-use crate::compared::{class_count, is_one_relation};
+use crate::compared::class_count;
 use crate::fault::Fault;
 use crate::merged::{Found, merged};
-use crate::rows::{FWD, INT, PTR, Piece, Row, STRUCT, bare, parted, push_row, types_of};
+use crate::rows::{FWD, INT, PTR, Row, STRUCT, bare};
 use crate::tables::built;
-use c_model::{CType, Label, Parts, Ref, Refs};
+use c_model::{CType, Label, Parts, Refs};
+use class_refine::Refined;
 use dw_base::Name;
+use small_graphs::rows::{Head, Piece, type_of};
+use small_graphs::same::is_one_relation;
 use split_base::TableFault;
 use std::alloc::{AllocError, Global};
 use std::thread::Threads;
 
+/// The number of rounds, where there are no classes.
+fn rounds_of_nothing(refined: &Refined) -> Option<u32> {
+    if refined.classes.numbers().is_empty() {
+        Some(refined.rounds())
+    } else {
+        None
+    }
+}
+
 /// The number of rounds of the empty graph, which has no classes.
 pub fn empty_rounds<R: Threads + Sync>(rt: &R, alloc: Global) -> Result<Option<u32>, Fault> {
     let found = merged(rt, alloc, Vec::new(alloc), Vec::new(alloc))?;
-    let rounds = found.refined.rounds();
-    Ok(if found.refined.classes.numbers().is_empty() {
-        Some(rounds)
-    } else {
-        None
-    })
+    Ok(rounds_of_nothing(&found.refined))
 }
 
 const NEXT: &[Piece] = &[Piece {
@@ -26,19 +33,89 @@ const NEXT: &[Piece] = &[Piece {
     value: 0,
 }];
 
-/// The rows of a ring of pointers among equal structures.
-fn ring_rows(alloc: Global, count: u32) -> Result<Vec<Row>, AllocError> {
-    let mut rows = Vec::new(alloc);
-    for x in 0..count {
-        let head = if x % 2 == 0 {
-            parted(STRUCT, b"ring", 8, NEXT)
-        } else {
-            bare(PTR, b"", 0)
-        };
-        let next = x.saturating_add(1) % count;
-        push_row(alloc, &mut rows, head, &[Ref::Node(next)])?;
+/// Large graphs, whose types are computed from their places.
+#[derive(Clone, Copy)]
+pub enum Large {
+    /// A ring of pointers among equal structures.
+    Ring,
+    /// Four types again and again: a structure that refers to a pointer; the pointer, to a
+    /// declaration of the structure; that, or behind the first few a pointer to the structure, as
+    /// the one before; and an INT of a size of its own.
+    Fours,
+    /// INTs of sizes from 0 on.
+    Ints,
+}
+
+/// How many of the structures of fours are declared.
+const DECLARED: u32 = 20;
+
+/// A structure of a pointer.
+const STRUCTURE: Head = Head {
+    kind: STRUCT,
+    name: b"ring",
+    flag: false,
+    size: 8,
+    extra: 0,
+    pieces: NEXT,
+};
+
+/// A type of a ring of so many.
+fn ring_row(x: u32, count: u32) -> Row {
+    let next = x.saturating_add(1).checked_rem(count).unwrap_or(0);
+    let head = if x % 2 == 0 {
+        STRUCTURE
+    } else {
+        bare(PTR, b"", 0)
+    };
+    Row::new(head, &[next])
+}
+
+/// A type of fours.
+fn four_row(x: u32) -> Row {
+    let place = x % 4;
+    let first = x - place;
+    let declared = first < 4 * DECLARED;
+    match place {
+        0 => Row::new(STRUCTURE, &[first.saturating_add(1)]),
+        1 if declared => Row::new(bare(PTR, b"", 0), &[first.saturating_add(2)]),
+        2 if declared => Row::new(bare(FWD, b"ring", 0), &[]),
+        1 | 2 => Row::new(bare(PTR, b"", 0), &[first]),
+        _ => Row::new(bare(INT, b"int", first), &[]),
     }
-    Ok(rows)
+}
+
+/// The type in a place of a large graph of so many.
+fn large_row(large: Large, x: u32, count: u32) -> Row {
+    match large {
+        Large::Ring => ring_row(x, count),
+        Large::Fours => four_row(x),
+        Large::Ints => Row::new(bare(INT, b"int", x), &[]),
+    }
+}
+
+/// The types of a large graph of so many.
+fn large_types(alloc: Global, large: Large, count: u32) -> Result<Vec<CType<'static>>, AllocError> {
+    let mut types = Vec::new(alloc);
+    for x in 0..count {
+        let row = large_row(large, x, count);
+        types.push(type_of(alloc, &row.head, row.targets())?)?;
+    }
+    Ok(types)
+}
+
+/// A large graph of so many types, merged.
+pub fn merged_large<R: Threads + Sync>(
+    rt: &R,
+    alloc: Global,
+    large: Large,
+    count: u32,
+) -> Result<Found<'static>, Fault> {
+    merged(
+        rt,
+        alloc,
+        Vec::new(alloc),
+        large_types(alloc, large, count)?,
+    )
 }
 
 /// The numbers from 0 on, of so many, by whether they are odd.
@@ -50,13 +127,16 @@ fn parities(alloc: Global, count: u32) -> Result<Vec<u32>, AllocError> {
     Ok(parities)
 }
 
-/// The graph of these rows.
-fn merged_rows<R: Threads + Sync>(
+/// Whether a large graph has the classes of these numbers.
+fn are_classes<R: Threads + Sync>(
     rt: &R,
     alloc: Global,
-    rows: &[Row],
-) -> Result<Found<'static>, Fault> {
-    merged(rt, alloc, Vec::new(alloc), types_of(alloc, rows)?)
+    large: Large,
+    count: u32,
+    wanted: &[u32],
+) -> Result<bool, Fault> {
+    let found = merged_large(rt, alloc, large, count)?;
+    Ok(is_one_relation(found.refined.classes.numbers(), wanted))
 }
 
 /// Whether a ring of so many pointers among equal structures has two classes.
@@ -66,49 +146,16 @@ pub fn ring_has_two_classes<R: Threads + Sync>(
     pointers: u32,
 ) -> Result<bool, Fault> {
     let count = pointers.saturating_mul(2);
-    let rows = ring_rows(alloc, count)?;
-    let found = merged_rows(rt, alloc, &rows)?;
-    let want = parities(alloc, count)?;
-    Ok(is_one_relation(found.refined.classes.numbers(), &want))
+    are_classes(rt, alloc, Large::Ring, count, &parities(alloc, count)?)
 }
 
-/// How many of the structures below are declared.
-const DECLARED: u32 = 20;
-
-/// Four rows: a structure that refers to a pointer; the pointer, to a declaration of the structure;
-/// that, or behind the first few a pointer to the structure, as the one before; and an INT of a
-/// size of its own. They begin at number `x`.
-fn push_four(alloc: Global, rows: &mut Vec<Row>, x: u32) -> Result<(), AllocError> {
-    let structure = parted(STRUCT, b"ring", 8, NEXT);
-    push_row(alloc, rows, structure, &[Ref::Node(x.saturating_add(1))])?;
-    let pointer = bare(PTR, b"", 0);
-    if x < 4 * DECLARED {
-        push_row(alloc, rows, pointer, &[Ref::Node(x.saturating_add(2))])?;
-        push_row(alloc, rows, bare(FWD, b"ring", 0), &[])?;
-    } else {
-        push_row(alloc, rows, pointer, &[Ref::Node(x)])?;
-        push_row(alloc, rows, pointer, &[Ref::Node(x)])?;
-    }
-    push_row(alloc, rows, bare(INT, b"int", x), &[])
-}
-
-/// So many times four rows.
-fn four_rows(alloc: Global, fours: u32) -> Result<Vec<Row>, AllocError> {
-    let mut rows = Vec::new(alloc);
-    for number in 0..fours {
-        push_four(alloc, &mut rows, number.saturating_mul(4))?;
-    }
-    Ok(rows)
-}
-
-/// How many classes so many times four such types have, which are so many that workers share them.
+/// How many classes so many times four types have, which are so many that workers share them.
 pub fn classes_of_fours<R: Threads + Sync>(
     rt: &R,
     alloc: Global,
     fours: u32,
 ) -> Result<usize, Fault> {
-    let rows = four_rows(alloc, fours)?;
-    let found = merged_rows(rt, alloc, &rows)?;
+    let found = merged_large(rt, alloc, Large::Fours, fours.saturating_mul(4))?;
     Ok(class_count(alloc, found.refined.classes.numbers())?)
 }
 
@@ -125,24 +172,6 @@ fn int<'a>(alloc: Global, name: &'a [u8], size: u32) -> CType<'a> {
         },
         targets: Refs::new(Vec::new(alloc)),
     }
-}
-
-/// INTs of sizes from 0 on, so many.
-fn ints(alloc: Global, count: u32) -> Result<Vec<CType<'static>>, AllocError> {
-    let mut types = Vec::new(alloc);
-    for size in 0..count {
-        types.push(int(alloc, b"int", size))?;
-    }
-    Ok(types)
-}
-
-/// INTs of so many sizes, merged.
-pub fn ints_of_sizes<R: Threads + Sync>(
-    rt: &R,
-    alloc: Global,
-    count: u32,
-) -> Result<Found<'static>, Fault> {
-    merged(rt, alloc, Vec::new(alloc), ints(alloc, count)?)
 }
 
 /// Whether no two of these numbers are equal.
@@ -166,13 +195,12 @@ fn two_ints<'a>(alloc: Global, name: &'a [u8]) -> Result<Vec<CType<'a>>, AllocEr
     Ok(types)
 }
 
-/// The number of types of the table of two INTs, the first of this name, or why there is none.
-fn named_table<R: Threads + Sync>(
+/// The number of types of the table of these types, or why there is none.
+fn table_of_types<R: Threads + Sync>(
     rt: &R,
     alloc: Global,
-    name: &[u8],
+    types: Vec<CType<'_>>,
 ) -> Result<Result<usize, TableFault>, Fault> {
-    let types = two_ints(alloc, name)?;
     let found = merged(rt, alloc, Vec::new(alloc), types)?;
     let table = table_len(alloc, &found)?;
     Ok(table)
@@ -185,6 +213,6 @@ pub fn long_name_table<R: Threads + Sync>(
     bytes: usize,
 ) -> Result<Result<usize, TableFault>, Fault> {
     let name = vec![in alloc; b'n'; bytes]?;
-    let table = named_table(rt, alloc, name.as_slice())?;
+    let table = table_of_types(rt, alloc, two_ints(alloc, name.as_slice())?)?;
     Ok(table)
 }

@@ -1,13 +1,16 @@
 //! Tables of merged graphs, and graphs with the types of a base.
-ghost use Rattle.std.specs.Prelude.{◌≡◌};
+ghost use Rattle.std.specs.Prelude.{◌≡◌, ◌<◌, ◌^◌, IfSome, length};
+ghost use Rattle.c_model.specs.Graph.{RefersWithin};
 
 use crate::fault::Fault;
-use crate::fitting::{are_formed, graph_from, is_base, refer_below};
-use crate::rows::types_of;
-use crate::worked::{DECLARED, DEFINED, DEFINED_OVER_DECLARED, Entry, Worked, table_of};
+use crate::rows::Row;
+use crate::worked::{DECLARED, DEFINED, DEFINED_OVER_DECLARED, Entry, Worked};
 use btf_codec::{Table, TableOut};
-use c_model::{CType, Classes, Graph, Nodes, is_same_label};
+use c_model::{CType, Classes, Graph, Nodes};
 use dw_base::Order;
+use small_graphs::fitting::{are_formed, graph_from, is_base, refer_below};
+use small_graphs::rows::type_of;
+use small_graphs::same::are_same;
 use split_base::{TableFault, build, with_base};
 use std::alloc::{AllocError, Global};
 
@@ -27,71 +30,82 @@ pub fn built<'a>(
     Ok(build(alloc, graph, classes, base_names))
 }
 
+/// Appends the types of these entries.
+fn push_listed(
+    alloc: Global,
+    types: &mut Vec<CType<'static>>,
+    entries: &[Entry],
+) -> Result<(), AllocError> {
+    for (head, numbers) in entries {
+        types.push(type_of(alloc, head, Row::new(**head, numbers).targets())?)?;
+    }
+    Ok(())
+}
+
 /// The types of these entries.
 fn listed(alloc: Global, entries: &[Entry]) -> Result<Vec<CType<'static>>, AllocError> {
-    types_of(alloc, &table_of(alloc, 0, entries)?.rows)
+    let mut types: Vec<CType<'static>> = Vec::new(alloc);
+    push_listed(alloc, &mut types, entries)?;
+    Ok(types)
 }
 
-/// Whether types are the same, one by one.
-fn are_same(types: &[CType<'_>], others: &[CType<'_>]) -> bool {
-    for (t, u) in types.iter().zip(others) {
-        if !is_same_label(&t.label, &u.label) || t.targets.items() != u.targets.items() {
-            return false;
-        }
-    }
-    types.len() == others.len()
+/// The types of the table that is written beside a graph, those of the base first.
+pub fn written(alloc: Global, worked: &Worked) -> Result<Vec<CType<'static>>, AllocError> {
+    let mut types: Vec<CType<'static>> = listed(
+        alloc,
+        worked.types.get(..worked.base).unwrap_or(&[]),
+    )?;
+    push_listed(alloc, &mut types, worked.own)?;
+    Ok(types)
 }
 
-/// Whether types are those of these entries.
-fn are_types(alloc: Global, types: &[CType<'_>], entries: &[Entry]) -> Result<bool, AllocError> {
-    let want = listed(alloc, entries)?;
-    Ok(are_same(types, &want))
-}
-
-/// Whether a table is the one that is written beside a graph.
-pub fn is_table(alloc: Global, table: &TableOut<'_>, worked: &Worked) -> Result<bool, AllocError> {
-    let (kept, own) = table
-        .types
-        .items()
-        .split_at_checked(worked.base)
-        .unwrap_or((&[], &[]));
-    let before = worked.types.get(..worked.base).unwrap_or(&[]);
-    Ok(
-        table.base as usize == worked.base
-            && are_types(alloc, kept, before)?
-            && are_types(alloc, own, worked.own)?
-            && table.strings.bytes() == worked.names,
-    )
+/// Whether a table is the one that is written beside a graph, with these types.
+pub fn is_table(table: &TableOut<'_>, types: &[CType<'_>], worked: &Worked) -> bool {
+    table.base as usize == worked.base
+        && are_same(table.types.items(), types)
+        && table.strings.bytes() == worked.names
 }
 
 /// Whether a graph is the one of a declaring base and a defining file.
 fn is_joined(alloc: Global, graph: &Graph<'_>) -> Result<bool, AllocError> {
-    Ok(graph.base() == 2 && are_types(alloc, graph.nodes(), DEFINED_OVER_DECLARED)?)
+    let wanted = listed(alloc, DEFINED_OVER_DECLARED)?;
+    Ok(graph.base() == 2 && are_same(graph.nodes(), &wanted))
 }
 
-/// Whether the graph of a base of these types and of a file, of at most so many nodes, is what it
-/// should be; or why there is none.
+/// Whether the graph of a base and of a file, of at most so many nodes, is what it should be; or
+/// why there is none.
 fn joined_over(
     alloc: Global,
-    types: Vec<CType<'static>>,
+    base: &Table<'static>,
     most: u32,
     file: Graph<'static>,
-) -> Result<Result<bool, TableFault>, Fault>
-    requires { file.base ≡ 0 }
+) -> Result<Result<bool, TableFault>, AllocError>
+    requires alone { base.now.base ≡ 0 }
+    requires few { length base.now.types < 2 ^ 32 }
+    requires within { RefersWithin (length base.now.types) base.now.types }
+    requires files { file.base ≡ 0 }
+{
+    match with_base(alloc, base, most, file) {
+        Ok(graph) => Ok(Ok(is_joined(alloc, &graph)?)),
+        Err(fault) => Ok(Err(fault)),
+    }
+}
+
+/// The table of a base of these types, where they refer to one another alone.
+fn base_table(types: Vec<CType<'static>>) -> Option<Table<'static>>
+    ensures alone { IfSome result (λ t. t.base ≡ 0) }
+    ensures few { IfSome result (λ t. length t.types < 2 ^ 32) }
+    ensures within { IfSome result (λ t. RefersWithin (length t.types) t.types) }
 {
     if types.len() > 1000 || !refer_below(types.len() as u32, &types) {
-        return Err(Fault::Unfit);
+        return None;
     }
-    let table = Table {
+    Some(Table {
         order: Order::Little,
         base: 0,
         types: Nodes::new(types),
         names: b"\0foo\0",
-    };
-    match with_base(alloc, &table, most, file) {
-        Ok(graph) => Ok(Ok(is_joined(alloc, &graph)?)),
-        Err(fault) => Ok(Err(fault)),
-    }
+    })
 }
 
 /// Whether the graph of a declaring base and a defining file, of at most so many nodes, is what it
@@ -100,5 +114,8 @@ pub fn joined(alloc: Global, most: u32) -> Result<Result<bool, TableFault>, Faul
     let Some(file) = graph_from(0, listed(alloc, DEFINED)?) else {
         return Err(Fault::Unfit);
     };
-    joined_over(alloc, listed(alloc, DECLARED)?, most, file)
+    match base_table(listed(alloc, DECLARED)?) {
+        Some(base) => Ok(joined_over(alloc, &base, most, file)?),
+        None => Err(Fault::Unfit),
+    }
 }

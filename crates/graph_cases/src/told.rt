@@ -2,35 +2,22 @@
 use crate::fault::Fault;
 use split_base::TableFault;
 
-/// Names a graph that is not as it should be.
-pub fn tell_differs<R: Print>(rt: &R, name: &str) -> Result<(), Fault> {
-    println!(rt; "{name} differs")?;
-    Ok(())
-}
-
-/// Names a made graph that is not as it should be.
-pub fn tell_made_differs<R: Print>(rt: &R, number: u64) -> Result<(), Fault> {
-    println!(rt; "made graph {number} differs")?;
-    Ok(())
-}
-
-/// Tells how many graphs there are, and what came of them.
-pub fn tell_graphs<R: Print>(rt: &R, what: &str, count: u64, verdict: &str) -> Result<(), Fault> {
-    println!(rt; "{what}: {count}, {verdict}")?;
-    Ok(())
-}
-
-/// Tells how many there are of something.
-pub fn tell_number<R: Print>(rt: &R, what: &str, number: u64) -> Result<(), Fault> {
-    println!(rt; "{what}: {number}")?;
-    Ok(())
-}
-
-/// Tells whether something holds.
-pub fn tell_holds<R: Print>(rt: &R, what: &str, holds: bool) -> Result<(), Fault> {
-    let said = if holds { "yes" } else { "no" };
+/// Tells what is said of something.
+pub fn tell<R: Print>(rt: &R, what: &str, said: &str) -> Result<(), Fault> {
     println!(rt; "{what}: {said}")?;
     Ok(())
+}
+
+/// Tells a number, and of what it is.
+pub fn tell_number<R: Print>(rt: &R, what: &str, number: u64, of: &str) -> Result<(), Fault> {
+    println!(rt; "{what}: {number}{of}")?;
+    Ok(())
+}
+
+/// Tells whether something holds, and answers that.
+pub fn tell_holds<R: Print>(rt: &R, what: &str, holds: bool) -> Result<bool, Fault> {
+    tell(rt, what, if holds { "yes" } else { "no" })?;
+    Ok(holds)
 }
 
 /// Tells whether a graph is as it should be, or why there is none.
@@ -50,20 +37,5 @@ pub fn tell_table<R: Print>(
     table: &Result<usize, TableFault>,
 ) -> Result<(), Fault> {
     println!(rt; "{what}: {table:?}")?;
-    Ok(())
-}
-
-/// Tells how many rounds the empty graph has, if it has no classes.
-pub fn tell_rounds<R: Print>(rt: &R, rounds: Option<u32>) -> Result<(), Fault> {
-    match rounds {
-        Some(rounds) => println!(rt; "empty graph: {rounds} rounds")?,
-        None => println!(rt; "empty graph: it has classes")?,
-    }
-    Ok(())
-}
-
-/// Tells how many classes there are.
-pub fn tell_classes<R: Print>(rt: &R, what: &str, classes: usize) -> Result<(), Fault> {
-    println!(rt; "{what}: {classes} classes")?;
     Ok(())
 }

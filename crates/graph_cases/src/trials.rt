@@ -1,22 +1,41 @@
 //! The graphs that both programs decide: worked ones, shapes, and made ones.
-use crate::compared::{Tally, agrees, class_count, is_one_relation};
+use crate::compared::{Occurs, Tally, agrees, class_count};
 use crate::fault::Fault;
 use crate::made::{Draws, made_table};
 use crate::merged::{Found, merged_table};
-use crate::shapes::{SHAPES, Shape, shaped};
-use crate::tables::{built, is_table};
-use crate::told::{tell_differs, tell_graphs, tell_made_differs, tell_number};
+use crate::rows::Table;
+use crate::shapes::{SHAPES, Shape, Shaped, shaped};
+use crate::tables::{built, is_table, written};
+use crate::told::{tell, tell_number};
 use crate::worked::{Worked, based_graphs, forward_graphs, plain_graphs, table_of};
 use btf_codec::TableOut;
+use small_graphs::same::is_one_relation;
 use std::alloc::Global;
 use std::thread::Threads;
 
 /// How many graphs are made.
 const MADE: u64 = 300;
 
-/// What is said where nothing differs.
-fn verdict_of(differ: u64, none: &'static str) -> &'static str {
-    if differ == 0 { none } else { "some differ" }
+/// Tells how many graphs there are, and whether some differ; and whether none does.
+fn tell_verdict<R: Print>(
+    rt: &R,
+    what: &str,
+    count: u64,
+    differ: u64,
+    none: &str,
+) -> Result<bool, Fault> {
+    let agree = differ == 0;
+    tell_number(rt, what, count, if agree { none } else { ", some differ" })?;
+    Ok(agree)
+}
+
+/// 1 for a graph that is not as it should be, which is named, else 0.
+fn note<R: Print>(rt: &R, name: &str, agrees: bool) -> Result<u64, Fault> {
+    if agrees {
+        return Ok(0);
+    }
+    tell(rt, name, "it differs")?;
+    Ok(1)
 }
 
 /// The table of a graph's classes over the strings of a base.
@@ -33,9 +52,60 @@ fn table_over<'a>(
 
 /// Whether the classes and the table of a graph are those that are written beside it.
 fn is_as_written(alloc: Global, found: &Found<'static>, worked: &Worked) -> Result<bool, Fault> {
-    let are_wanted = is_one_relation(found.refined.classes.numbers(), worked.classes);
+    if !is_one_relation(found.refined.classes.numbers(), worked.classes) {
+        return Ok(false);
+    }
+    let types = written(alloc, worked)?;
     let table = table_over(alloc, found, worked.base_names)?;
-    Ok(is_table(alloc, &table, worked)? && are_wanted)
+    Ok(is_table(&table, &types, worked))
+}
+
+/// What is wanted of a graph beside that both programs find one relation.
+#[derive(Clone, Copy)]
+enum Wanted<'w> {
+    Nothing,
+    /// So many classes.
+    Classes(usize),
+    /// The classes and the table that are written beside it.
+    Written(&'w Worked),
+}
+
+/// Whether a graph is as it is wanted.
+fn is_wanted(alloc: Global, found: &Found<'static>, wanted: Wanted<'_>) -> Result<bool, Fault> {
+    match wanted {
+        Wanted::Nothing => Ok(true),
+        Wanted::Classes(count) => {
+            Ok(class_count(alloc, found.refined.classes.numbers())? == count)
+        }
+        Wanted::Written(worked) => is_as_written(alloc, found, worked),
+    }
+}
+
+/// Whether the plain program finds the classes that were found of a table, and these are as they
+/// are wanted.
+fn is_decided(
+    alloc: Global,
+    table: &Table,
+    found: &Found<'static>,
+    wanted: Wanted<'_>,
+    tally: &mut Tally,
+) -> Result<bool, Fault> {
+    if !agrees(alloc, table, found.refined.classes.numbers(), tally)? {
+        return Ok(false);
+    }
+    is_wanted(alloc, found, wanted)
+}
+
+/// Whether both programs find one relation for a table, which is as it is wanted.
+fn both_agree<R: Threads + Sync>(
+    rt: &R,
+    alloc: Global,
+    table: &Table,
+    wanted: Wanted<'_>,
+    tally: &mut Tally,
+) -> Result<bool, Fault> {
+    let found = merged_table(rt, alloc, table)?;
+    is_decided(alloc, table, &found, wanted, tally)
 }
 
 /// Whether both programs find the classes that are written beside a graph, and the table is the one
@@ -47,9 +117,7 @@ fn worked_agrees<R: Threads + Sync>(
     tally: &mut Tally,
 ) -> Result<bool, Fault> {
     let table = table_of(alloc, worked.base, worked.types)?;
-    let found = merged_table(rt, alloc, &table)?;
-    let same = agrees(alloc, &table, found.refined.classes.numbers(), tally)?;
-    Ok(is_as_written(alloc, &found, worked)? && same)
+    both_agree(rt, alloc, &table, Wanted::Written(worked), tally)
 }
 
 /// How many of these graphs have other classes or another table than are written beside them. Names
@@ -62,10 +130,8 @@ fn differing<R: Print + Threads + Sync>(
     let mut differ = 0u64;
     let mut tally = Tally::default();
     for worked in graphs {
-        if !worked_agrees(rt, alloc, worked, &mut tally)? {
-            tell_differs(rt, worked.name)?;
-            differ = differ.saturating_add(1);
-        }
+        let agrees = worked_agrees(rt, alloc, worked, &mut tally)?;
+        differ = differ.saturating_add(note(rt, worked.name, agrees)?);
     }
     Ok(differ)
 }
@@ -78,9 +144,8 @@ pub fn worked_agree<R: Print + Threads + Sync>(rt: &R, alloc: Global) -> Result<
         count = count.saturating_add(graphs.len());
         differ = differ.saturating_add(differing(rt, alloc, graphs)?);
     }
-    let verdict = verdict_of(differ, "as expected");
-    tell_graphs(rt, "worked graphs with their tables", count as u64, verdict)?;
-    Ok(differ == 0)
+    let what = "worked graphs with their tables";
+    tell_verdict(rt, what, count as u64, differ, ", as expected")
 }
 
 /// Whether both programs find one relation for a shape, with so many classes.
@@ -92,26 +157,30 @@ fn shape_agrees<R: Threads + Sync>(
     tally: &mut Tally,
 ) -> Result<bool, Fault> {
     let table = shaped(alloc, shape)?;
-    let found = merged_table(rt, alloc, &table)?;
-    let numbers = found.refined.classes.numbers();
-    let same = agrees(alloc, &table, numbers, tally)?;
-    Ok(class_count(alloc, numbers)? == classes && same)
+    both_agree(rt, alloc, &table, Wanted::Classes(classes), tally)
+}
+
+/// How many of these shapes have other classes than both programs find, or another number of them.
+/// Names them.
+fn shapes_differing<R: Print + Threads + Sync>(
+    rt: &R,
+    alloc: Global,
+    shapes: &[Shaped],
+) -> Result<u64, Fault> {
+    let mut differ = 0u64;
+    let mut tally = Tally::default();
+    for (name, shape, classes) in shapes {
+        let agrees = shape_agrees(rt, alloc, shape, *classes, &mut tally)?;
+        differ = differ.saturating_add(note(rt, name, agrees)?);
+    }
+    Ok(differ)
 }
 
 /// The shapes: both programs find one relation, with as many classes as are written beside each.
 pub fn shapes_agree<R: Print + Threads + Sync>(rt: &R, alloc: Global) -> Result<bool, Fault> {
-    let mut differ = 0u64;
-    let mut tally = Tally::default();
-    for (name, shape, classes) in SHAPES {
-        if !shape_agrees(rt, alloc, shape, *classes, &mut tally)? {
-            tell_differs(rt, name)?;
-            differ = differ.saturating_add(1);
-        }
-    }
-    let verdict = verdict_of(differ, "as expected");
-    let count = SHAPES.len() as u64;
-    tell_graphs(rt, "shapes with their numbers of classes", count, verdict)?;
-    Ok(differ == 0)
+    let differ = shapes_differing(rt, alloc, SHAPES)?;
+    let what = "shapes with their numbers of classes";
+    tell_verdict(rt, what, SHAPES.len() as u64, differ, ", as expected")
 }
 
 /// Whether both programs find one relation for the next made graph.
@@ -122,48 +191,56 @@ fn made_agrees<R: Threads + Sync>(
     tally: &mut Tally,
 ) -> Result<bool, Fault> {
     let table = made_table(alloc, draws)?;
-    let found = merged_table(rt, alloc, &table)?;
-    Ok(agrees(alloc, &table, found.refined.classes.numbers(), tally)?)
+    both_agree(rt, alloc, &table, Wanted::Nothing, tally)
+}
+
+/// For how many of so many made graphs both programs find different relations. Tells their numbers.
+fn made_differing<R: Print + Threads + Sync>(
+    rt: &R,
+    alloc: Global,
+    count: u64,
+    tally: &mut Tally,
+) -> Result<u64, Fault> {
+    let mut draws = Draws::new(2026);
+    let mut differ = 0u64;
+    for number in 0..count {
+        if !made_agrees(rt, alloc, &mut draws, tally)? {
+            tell_number(rt, "made graph", number, " differs")?;
+            differ = differ.saturating_add(1);
+        }
+    }
+    Ok(differ)
 }
 
 /// The made graphs: both programs find one relation.
 pub fn made_agree<R: Print + Threads + Sync>(rt: &R, alloc: Global) -> Result<bool, Fault> {
-    let mut draws = Draws::new(2026);
-    let mut differ = 0u64;
     let mut tally = Tally::default();
-    for number in 0..MADE {
-        if !made_agrees(rt, alloc, &mut draws, &mut tally)? {
-            tell_made_differs(rt, number)?;
-            differ = differ.saturating_add(1);
-        }
-    }
-    tell_graphs(rt, "made graphs", MADE, verdict_of(differ, "none differs"))?;
+    let differ = made_differing(rt, alloc, MADE, &mut tally)?;
+    let agree = tell_verdict(rt, "made graphs", MADE, differ, ", none differs")?;
     tell_tally(rt, &tally)?;
-    Ok(differ == 0)
+    Ok(agree)
 }
 
 /// What occurs in the tables of made graphs.
-const OCCURS: [&str; 6] = [
-    "  pairs of different types that are related",
-    "  forwards without a definition",
-    "  forwards that the base closes",
-    "  open forwards of one definition",
-    "  open forwards of several definitions, all of one class",
-    "  open forwards of several classes of definitions",
+const OCCURS: &[(&str, Occurs)] = &[
+    ("  pairs of different types that are related", Occurs::Pairs),
+    ("  forwards without a definition", Occurs::Undefined),
+    ("  forwards that the base closes", Occurs::Closed),
+    ("  open forwards of one definition", Occurs::OfOne),
+    (
+        "  open forwards of several definitions, all of one class",
+        Occurs::OfEquals,
+    ),
+    (
+        "  open forwards of several classes of definitions",
+        Occurs::Apart,
+    ),
 ];
 
 /// Tells what occurs in tables.
 fn tell_tally<R: Print>(rt: &R, tally: &Tally) -> Result<(), Fault> {
-    let numbers = [
-        tally.pairs,
-        tally.undefined,
-        tally.closed,
-        tally.of_one,
-        tally.of_equals,
-        tally.apart,
-    ];
-    for (what, number) in OCCURS.iter().zip(&numbers) {
-        tell_number(rt, what, *number)?;
+    for (what, occurs) in OCCURS {
+        tell_number(rt, what, tally.of(*occurs), "")?;
     }
     Ok(())
 }

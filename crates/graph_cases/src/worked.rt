@@ -1,7 +1,7 @@
 //! Graphs whose coarsest partition is known from C's rules for compatible types, and whose table
 //! follows from it, by hand.
-use crate::rows::{ARRAY, ENUM, FWD, Head, INT, PTR, Piece, Row, STRUCT, TYPEDEF, Table, UNION};
-use c_model::Ref;
+use crate::rows::{ARRAY, ENUM, FWD, INT, PTR, STRUCT, TYPEDEF, Table, UNION, push_row};
+use small_graphs::rows::{Head, Piece};
 use std::alloc::{AllocError, Global};
 
 /// What a type says of itself, and the numbers of the types that it refers to.
@@ -25,24 +25,11 @@ pub struct Worked {
     pub names: &'static [u8],
 }
 
-/// References to these types.
-fn references(alloc: Global, numbers: &[u32]) -> Result<Vec<Ref>, AllocError> {
-    let mut targets = Vec::new(alloc);
-    for number in numbers {
-        targets.push(Ref::Node(*number))?;
-    }
-    Ok(targets)
-}
-
 /// The rows of these types, the first `base` of them of a base.
 pub fn table_of(alloc: Global, base: usize, entries: &[Entry]) -> Result<Table, AllocError> {
     let mut rows = Vec::new(alloc);
     for (head, numbers) in entries {
-        let targets = references(alloc, numbers)?;
-        rows.push(Row {
-            head: **head,
-            targets,
-        })?;
+        push_row(&mut rows, **head, numbers)?;
     }
     Ok(Table { base, rows })
 }

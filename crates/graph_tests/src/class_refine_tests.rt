@@ -1,16 +1,20 @@
 //! Graphs whose classes are known. More of them are compared with the plain program over pairs in
 //! `graph_cases`.
 ghost use Rattle.std.specs.Prelude.{◌≡◌, ◌<◌};
+ghost use Rattle.c_model.specs.Forwards.{IsIndexOf, HasFittingForwards};
 
-use crate::fitting::is_fitting;
-use crate::rows::{Named, Row, forwards_of, graph_of, label, node, types_of};
-use c_model::CType;
+use crate::rows::{Row, forwards_of, types_of};
 use c_model::Ref::{Node, Void};
 use c_model::kinds::{
     BTF_KIND_ENUM, BTF_KIND_FWD, BTF_KIND_INT, BTF_KIND_PTR, BTF_KIND_STRUCT, BTF_KIND_UNION,
 };
+use c_model::{CType, Classes, Graph};
 use class_refine::classes;
 use dw_base::Steps;
+use forward_rule::FwdIndex;
+use small_graphs::fitting::{graph_from, is_fitting};
+use small_graphs::rows::{Head, Piece, type_of};
+use small_graphs::same::is_one_relation;
 use std::alloc::{AllocError, Global};
 use std::marker::Brand;
 use std::sync::ledger::{Blank, Ledger};
@@ -18,10 +22,16 @@ use std::test::Fail;
 use std::thread::Threads;
 
 /// A member at offset 0.
-const FIRST: &[Named] = &[(b"", 0)];
+const FIRST: &[Piece] = &[Piece {
+    name: b"",
+    value: 0,
+}];
 
 /// A member at offset 1.
-const SECOND: &[Named] = &[(b"", 1)];
+const SECOND: &[Piece] = &[Piece {
+    name: b"",
+    value: 1,
+}];
 
 /// Structures that refer to each other, first through declarations, then defined.
 const THROUGH_DECLARATIONS: &[Row] = &[
@@ -38,7 +48,16 @@ const THROUGH_DECLARATIONS: &[Row] = &[
 ];
 
 /// Two members of 32 bits.
-const HALVES: &[Named] = &[(b"", 0), (b"", 32)];
+const HALVES: &[Piece] = &[
+    Piece {
+        name: b"",
+        value: 0,
+    },
+    Piece {
+        name: b"",
+        value: 32,
+    },
+];
 
 /// A declaration with two definitions that differ.
 const TWO_DEFINITIONS: &[Row] = &[
@@ -56,7 +75,16 @@ const TWO_DEFINITIONS: &[Row] = &[
 ];
 
 /// Two members of 64 bits.
-const LINKS: &[Named] = &[(b"", 0), (b"", 64)];
+const LINKS: &[Piece] = &[
+    Piece {
+        name: b"",
+        value: 0,
+    },
+    Piece {
+        name: b"",
+        value: 64,
+    },
+];
 
 /// The same structure with its pointer in two units, and pointers to themselves.
 const IN_TWO_UNITS: &[Row] = &[
@@ -79,12 +107,32 @@ const ENUMERATIONS_AND_UNIONS: &[Row] = &[
     (BTF_KIND_UNION, b"t", 8, &[], &[]),
     (BTF_KIND_FWD, b"u", 0, &[], &[]),
     (BTF_KIND_FWD, b"u", 0, &[], &[]),
-    (BTF_KIND_UNION, b"u", 4, &[(b"", 3)], &[Void]),
-    (BTF_KIND_UNION, b"u", 4, &[(b"", 5)], &[Void]),
+    (
+        BTF_KIND_UNION,
+        b"u",
+        4,
+        &[Piece {
+            name: b"",
+            value: 3,
+        }],
+        &[Void],
+    ),
+    (
+        BTF_KIND_UNION,
+        b"u",
+        4,
+        &[Piece {
+            name: b"",
+            value: 5,
+        }],
+        &[Void],
+    ),
 ];
 
 /// Types, and numbers that relate those of one class.
-const KNOWN: [(&[Row], &[u32]); 5] = [
+type Known = (&'static [Row], &'static [u32]);
+
+const KNOWN: &[Known] = &[
     (THROUGH_DECLARATIONS, &[0, 1, 2, 2, 3, 0, 0, 1, 2, 3]),
     (TWO_DEFINITIONS, &[0, 1, 2, 3, 0, 4, 5, 6, 7, 8, 9]),
     (IN_TWO_UNITS, &[0, 1, 0, 1, 2, 2]),
@@ -92,70 +140,149 @@ const KNOWN: [(&[Row], &[u32]); 5] = [
     (&[], &[]),
 ];
 
-/// Whether two lists of numbers relate the same places.
-fn is_one_relation(p: &[u32], q: &[u32]) -> bool {
-    for i in 0..p.len() {
-        for j in 0..i {
-            if (p.get(i) == p.get(j)) != (q.get(i) == q.get(j)) {
-                return false;
-            }
-        }
-    }
-    p.len() == q.len()
+/// The coarsest partition of a graph.
+fn classes_of<R: Threads + Sync, L: Ledger>(
+    rt: &R,
+    alloc: Global,
+    graph: &Graph<'_>,
+    fwd: &FwdIndex,
+    blank: Blank,
+) -> Result<Classes, AllocError>
+    requires name { blank.name ≡ L.name }
+    requires parts { blank.parts ≡ L.parts }
+    requires some { 0 < L.parts }
+    requires index { IsIndexOf graph.now fwd.now }
+    requires fitting { HasFittingForwards graph.now }
+{
+    let mut steps = Steps::<L>::new(blank);
+    let refined = classes(rt, alloc, graph, fwd, &mut steps)?;
+    Ok(refined.classes)
 }
 
-/// Whether the coarsest partition relates exactly the types that `want` gives one number.
-fn relates<R: Threads + Sync, L: Ledger>(
+/// Whether the coarsest partition of a graph relates exactly the nodes that `want` gives one
+/// number.
+fn is_related<R: Threads + Sync>(
+    rt: &R,
+    alloc: Global,
+    graph: &Graph<'_>,
+    fwd: &FwdIndex,
+    want: &[u32],
+) -> Result<bool, AllocError>
+    requires index { IsIndexOf graph.now fwd.now }
+    requires fitting { HasFittingForwards graph.now }
+{
+    let found = classes_of::<R, Brand>(rt, alloc, graph, fwd, Blank::new(1))?;
+    Ok(is_one_relation(found.numbers(), want))
+}
+
+/// The same with the graph's open forwards.
+fn is_related_opened<R: Threads + Sync>(
+    rt: &R,
+    alloc: Global,
+    graph: &Graph<'_>,
+    want: &[u32],
+) -> Result<bool, AllocError>
+    requires base { graph.now.base ≡ 0 }
+    requires fitting { HasFittingForwards graph.now }
+{
+    let fwd = forwards_of(alloc, graph)?;
+    is_related(rt, alloc, graph, &fwd, want)
+}
+
+/// Whether the types make a graph whose forwards fit, and its coarsest partition relates exactly
+/// those that `want` gives one number.
+fn relates<R: Threads + Sync>(
     rt: &R,
     alloc: Global,
     types: Vec<CType<'_>>,
     want: &[u32],
-    blank: Blank,
-) -> Result<bool, Fail>
-    requires name { blank.name ≡ L.name }
-    requires parts { blank.parts ≡ L.parts }
-    requires some { 0 < L.parts }
-{
-    let graph = graph_of(types)?;
-    if !is_fitting(&graph) {
-        return Err(Fail::from("forwards that do not fit"));
+) -> Result<bool, AllocError> {
+    match graph_from(0, types) {
+        Some(graph) if is_fitting(&graph) => is_related_opened(rt, alloc, &graph, want),
+        _ => Ok(false),
     }
-    let fwd = forwards_of(alloc, &graph)?;
-    let mut steps = Steps::<L>::new(blank);
-    let refined = classes(rt, alloc, &graph, &fwd, &mut steps)?;
-    Ok(is_one_relation(refined.classes.numbers(), want))
+}
+
+/// The same of the types of these rows.
+fn relates_rows<R: Threads + Sync>(
+    rt: &R,
+    alloc: Global,
+    rows: &[Row],
+    want: &[u32],
+) -> Result<bool, AllocError> {
+    relates(rt, alloc, types_of(alloc, rows)?, want)
+}
+
+/// How many of these graphs stand before the first that has other classes.
+fn right_count<R: Threads + Sync>(
+    rt: &R,
+    alloc: Global,
+    known: &[Known],
+) -> Result<usize, AllocError> {
+    let mut count = 0usize;
+    for graph in known {
+        if !relates_rows(rt, alloc, graph.0, graph.1)? {
+            break;
+        }
+        count = count.saturating_add(1);
+    }
+    Ok(count)
 }
 
 #[test]
 fn known_graphs_have_their_classes(rt: HostRuntime) -> Result<(), Fail> {
-    for (rows, want) in KNOWN {
-        let types = types_of(rt.alloc(), rows)?;
-        let is_right = relates::<HostRuntime, Brand>(&rt, rt.alloc(), types, want, Blank::new(1))?;
-        assert!(rt; is_right, "{want:?}");
-    }
+    let count = right_count(&rt, rt.alloc(), KNOWN)?;
+    assert_eq!(rt; count, KNOWN.len());
     Ok(())
 }
 
-/// A ring of pointers among equal structures.
+/// A structure of a ring.
+const STRUCTURE: Head = Head {
+    kind: BTF_KIND_STRUCT,
+    name: b"ring",
+    flag: false,
+    size: 8,
+    extra: 0,
+    pieces: FIRST,
+};
+
+/// A pointer of a ring.
+const POINTER: Head = Head {
+    kind: BTF_KIND_PTR,
+    name: b"",
+    size: 0,
+    pieces: &[],
+    ..STRUCTURE
+};
+
+/// A ring of 1000 pointers among equal structures.
 fn ring(alloc: Global) -> Result<Vec<CType<'static>>, AllocError> {
     let mut types = Vec::new(alloc);
-    for i in 0..1000u32 {
-        let structure = label(alloc, BTF_KIND_STRUCT, b"ring", 8, FIRST)?;
-        types.push(node(alloc, structure, &[Node(2 * i + 1)])?)?;
-        let pointer = label(alloc, BTF_KIND_PTR, b"", 0, &[])?;
-        types.push(node(alloc, pointer, &[Node((2 * i + 2) % 2000)])?)?;
+    for x in 0..2000u32 {
+        let head = if x % 2 == 0 { &STRUCTURE } else { &POINTER };
+        types.push(type_of(alloc, head, &[Node((x + 1) % 2000)])?)?;
     }
     Ok(types)
 }
 
+/// The numbers below 2000, by whether they are odd.
+fn parities(alloc: Global) -> Result<Vec<u32>, AllocError> {
+    let mut parities = Vec::new(alloc);
+    for x in 0..2000u32 {
+        parities.push(x % 2)?;
+    }
+    Ok(parities)
+}
+
+/// Whether a ring has two classes.
+fn ring_has_two_classes<R: Threads + Sync>(rt: &R, alloc: Global) -> Result<bool, AllocError> {
+    let want = parities(alloc)?;
+    relates(rt, alloc, ring(alloc)?, &want)
+}
+
 #[test]
 fn a_ring_has_two_classes(rt: HostRuntime) -> Result<(), Fail> {
-    let mut want = Vec::new(rt.alloc());
-    for i in 0..2000u32 {
-        want.push(i % 2)?;
-    }
-    let types = ring(rt.alloc())?;
-    let is_right = relates::<HostRuntime, Brand>(&rt, rt.alloc(), types, &want, Blank::new(1))?;
+    let is_right = ring_has_two_classes(&rt, rt.alloc())?;
     assert!(rt; is_right);
     Ok(())
 }

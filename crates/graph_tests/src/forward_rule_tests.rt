@@ -1,8 +1,12 @@
 //! A declared structure and its definition, as in C's `struct t; struct t { .. };`.
-use crate::rows::{Row, forwards_of, graph_of, types_of};
-use c_model::Ref;
+ghost use Rattle.std.specs.Prelude.{◌≡◌, ◌<◌, length};
+
+use crate::rows::{Row, forwards_of, types_of};
 use c_model::kinds::{BTF_KIND_FWD, BTF_KIND_PTR, BTF_KIND_STRUCT};
+use c_model::{Graph, Ref};
 use forward_rule::FwdIndex;
+use small_graphs::fitting::graph_from;
+use std::alloc::{AllocError, Global};
 use std::test::Fail;
 
 /// A forward, a pointer to it, and a structure of that name.
@@ -12,15 +16,63 @@ const DECLARED_AND_DEFINED: &[Row] = &[
     (BTF_KIND_STRUCT, b"t", 4, &[], &[]),
 ];
 
+/// Of each node whether it is a forward, and its definitions, where it is open.
+type Wanted = (bool, &'static [u32]);
+
+const OPENED: &[Wanted] = &[(true, &[2]), (false, &[]), (false, &[])];
+
+/// The same where no forward is open.
+const CLOSED: &[Wanted] = &[(true, &[]), (false, &[]), (false, &[])];
+
+/// Whether a node is as it is wanted.
+fn is_as_wanted(graph: &Graph<'_>, index: &FwdIndex, x: u32, wanted: &Wanted) -> bool
+    requires node { x < length graph.now.nodes }
+    requires index { x < length index.now }
+{
+    FwdIndex::is_forward(graph, x) == wanted.0
+        && index.definitions(x) == wanted.1
+        && index.is_open(x) != wanted.1.is_empty()
+}
+
+/// Whether all nodes are as they are wanted.
+fn are_as_wanted(graph: &Graph<'_>, index: &FwdIndex, wanted: &[Wanted]) -> bool
+    requires { length index.now ≡ length graph.now.nodes }
+{
+    let mut x = 0u32;
+    for node in wanted {
+        if x >= graph.len() || !is_as_wanted(graph, index, x, node) {
+            return false;
+        }
+        x = x.saturating_add(1);
+    }
+    graph.len() as usize == wanted.len()
+}
+
+/// Whether the index that opens no forward is as it is wanted.
+fn is_closed(graph: &Graph<'_>) -> bool {
+    let closed = FwdIndex::plain(graph);
+    are_as_wanted(graph, &closed, CLOSED)
+}
+
+/// Whether the index of a graph opens its forward.
+fn is_opened(alloc: Global, graph: &Graph<'_>) -> Result<bool, AllocError>
+    requires { graph.now.base ≡ 0 }
+{
+    let index = forwards_of(alloc, graph)?;
+    Ok(are_as_wanted(graph, &index, OPENED))
+}
+
+/// Whether the types make a graph whose forward is opened by one index, and by the other not.
+fn opens_its_forward(alloc: Global) -> Result<bool, AllocError> {
+    match graph_from(0, types_of(alloc, DECLARED_AND_DEFINED)?) {
+        Some(graph) if is_closed(&graph) => is_opened(alloc, &graph),
+        _ => Ok(false),
+    }
+}
+
 #[test]
 fn a_defined_structure_opens_its_forward(rt: HostRuntime) -> Result<(), Fail> {
-    let graph = graph_of(types_of(rt.alloc(), DECLARED_AND_DEFINED)?)?;
-    assert_eq!(rt; graph.len(), 3);
-    let index = forwards_of(rt.alloc(), &graph)?;
-    assert!(rt; FwdIndex::is_forward(&graph, 0));
-    assert!(rt; !FwdIndex::is_forward(&graph, 2));
-    assert_eq!(rt; index.definitions(0), [2].as_slice());
-    assert!(rt; !index.is_open(1) && !index.is_open(2));
-    assert!(rt; !FwdIndex::plain(&graph).is_open(0));
+    let opens = opens_its_forward(rt.alloc())?;
+    assert!(rt; opens);
     Ok(())
 }

@@ -4,8 +4,6 @@
 #[cfg(test)]
 mod class_refine_tests;
 #[cfg(test)]
-mod fitting;
-#[cfg(test)]
 mod forward_rule_tests;
 #[cfg(test)]
 mod packed_graph_tests;

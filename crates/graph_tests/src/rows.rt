@@ -2,79 +2,34 @@
 ghost use Rattle.std.specs.Prelude.{◌≡◌, IfOk};
 ghost use Rattle.c_model.specs.Forwards.{IsForwardIndex};
 
-use crate::fitting::refer_below;
-use c_model::{CType, Classes, Graph, Label, Nodes, Numbers, Part, Parts, Ref, Refs};
-use dw_base::Name;
+use c_model::{CType, Classes, Graph, Numbers, Ref};
 use forward_rule::FwdIndex;
+use small_graphs::rows::{Head, Piece, type_of};
 use std::alloc::{AllocError, Global};
-use std::test::Fail;
 
-/// The most nodes of a graph here.
-const MOST: usize = 4_000_000;
+/// A type: its kind, as `c_model::kinds` numbers it, its name, its size in bytes, its parts, and
+/// what it refers to.
+pub type Row = (u8, &'static [u8], u32, &'static [Piece], &'static [Ref]);
 
-/// A part's name and its value.
-pub type Named = (&'static [u8], u64);
-
-/// A type: its kind, as `c_model::kinds` numbers it, its name, its size in bytes, its parts, and what
-/// it refers to.
-pub type Row = (u8, &'static [u8], u32, &'static [Named], &'static [Ref]);
-
-/// The label of a type of this kind.
-pub fn label(
-    alloc: Global,
-    kind: u8,
-    name: &'static [u8],
-    size: u32,
-    named: &[Named],
-) -> Result<Label<'static>, AllocError> {
-    let mut parts = Vec::new(alloc);
-    for (name, value) in named {
-        parts.push(Part {
-            name: Name::new(*name),
-            value: *value,
-        })?;
-    }
-    Ok(Label {
-        kind,
-        name: Name::new(name),
+/// What the type of a row says of itself.
+fn head_of(row: &Row) -> Head {
+    Head {
+        kind: row.0,
+        name: row.1,
         flag: false,
-        size,
+        size: row.2,
         extra: 0,
-        parts: Parts::new(parts),
-    })
-}
-
-/// The type with this label that refers to these targets.
-pub fn node(
-    alloc: Global,
-    label: Label<'static>,
-    targets: &[Ref],
-) -> Result<CType<'static>, AllocError> {
-    Ok(CType {
-        label,
-        targets: Refs::new(Vec::from_slice(alloc, targets)?),
-    })
+        pieces: row.3,
+    }
 }
 
 /// The types of these rows.
 pub fn types_of(alloc: Global, rows: &[Row]) -> Result<Vec<CType<'static>>, AllocError> {
     let mut types = Vec::new(alloc);
-    for (kind, name, size, parts, targets) in rows {
-        let label = label(alloc, *kind, *name, *size, *parts)?;
-        types.push(node(alloc, label, *targets)?)?;
+    for row in rows {
+        types.push(type_of(alloc, &head_of(row), row.4)?)?;
     }
     Ok(types)
-}
-
-/// The graph of these types, none of them of a base.
-pub fn graph_of<'a>(types: Vec<CType<'a>>) -> Result<Graph<'a>, Fail>
-    ensures { IfOk result (λ g. g.base ≡ 0) }
-{
-    let len = types.len();
-    if len > MOST || !refer_below(len as u32, &types) {
-        return Err(Fail::from("a reference that leaves the graph"));
-    }
-    Ok(Graph::new(0, Nodes::new(types)))
 }
 
 /// The open forwards of a graph without a base.

@@ -1,13 +1,14 @@
 //! A small graph: its classes, the references to its nodes, and the members of its classes. Rings,
 //! chains, trees and forwards are compared with the plain program in `graph_cases`.
 ghost use Rattle.std.specs.Prelude.{◌≡◌, ◌<◌, ◌≤◌, ◌∷◌, [], length, IfOk, OnOk};
+ghost use Rattle.c_model.specs.Forwards.{HasFittingForwards};
 
-use crate::fitting::is_fitting;
 use crate::rows::{Named, Row, btf, graph_of};
 use c_model::{Classes, Graph, Nodes, Numbers};
 use class_halves::{Incoming, Members, classes_by_halves, split_by_halves};
 use dw_base::Steps;
 use forward_rule::FwdIndex;
+use small_graphs::fitting::is_fitting;
 use std::alloc::{AllocError, Global};
 use std::marker::Brand;
 use std::sync::ledger::{Blank, Ledger};
@@ -25,27 +26,6 @@ const FOUR_NODES: &[Row] = &[
 
 const MEMBERS: &[Named] = &[(b"", 0), (b"", 32)];
 
-/// The classes of a graph, split from labels on, and behind a guess.
-fn both_ways<R: Threads + Sync, L: Ledger>(
-    rt: &R,
-    alloc: Global,
-    graph: &Graph<'_>,
-    blank: Blank,
-) -> Result<(Classes, Classes), Fail>
-    requires name { blank.name ≡ L.name }
-    requires parts { blank.parts ≡ L.parts }
-    requires some { 0 < L.parts }
-{
-    let mut steps = Steps::<L>::new(blank);
-    if !is_fitting(graph) {
-        return Err(Fail::from("forwards that do not fit"));
-    }
-    let fwd = FwdIndex::plain(graph);
-    let split = split_by_halves(alloc, graph, &fwd, &mut steps)?;
-    let guessed = classes_by_halves(rt, alloc, 2, graph, &fwd, &mut steps)?;
-    Ok((split, guessed))
-}
-
 /// Whether four nodes have three classes, of which the first has two nodes.
 fn are_three(classes: &[u32]) -> bool {
     match classes {
@@ -54,13 +34,66 @@ fn are_three(classes: &[u32]) -> bool {
     }
 }
 
+/// Whether a graph has three classes, split from labels on.
+fn splits_to_three<L: Ledger>(
+    alloc: Global,
+    graph: &Graph<'_>,
+    blank: Blank,
+) -> Result<bool, AllocError>
+    requires name { blank.name ≡ L.name }
+    requires parts { blank.parts ≡ L.parts }
+    requires some { 0 < L.parts }
+    requires fitting { HasFittingForwards graph.now }
+{
+    let mut steps = Steps::<L>::new(blank);
+    let fwd = FwdIndex::plain(graph);
+    let classes = split_by_halves(alloc, graph, &fwd, &mut steps)?;
+    Ok(are_three(classes.numbers()))
+}
+
+/// Whether a graph has three classes, behind a guess.
+fn has_three<R: Threads + Sync, L: Ledger>(
+    rt: &R,
+    alloc: Global,
+    graph: &Graph<'_>,
+    blank: Blank,
+) -> Result<bool, AllocError>
+    requires name { blank.name ≡ L.name }
+    requires parts { blank.parts ≡ L.parts }
+    requires some { 0 < L.parts }
+    requires fitting { HasFittingForwards graph.now }
+{
+    let mut steps = Steps::<L>::new(blank);
+    let fwd = FwdIndex::plain(graph);
+    let classes = classes_by_halves(rt, alloc, 2, graph, &fwd, &mut steps)?;
+    Ok(are_three(classes.numbers()))
+}
+
+/// Whether a graph whose forwards fit has three classes, found in both ways.
+fn has_three_both_ways<R: Threads + Sync>(
+    rt: &R,
+    alloc: Global,
+    graph: &Graph<'_>,
+) -> Result<bool, AllocError> {
+    if !is_fitting(graph) {
+        return Ok(false);
+    }
+    let split = splits_to_three::<Brand>(alloc, graph, Blank::new(1))?;
+    let guessed = has_three::<R, Brand>(rt, alloc, graph, Blank::new(1))?;
+    Ok(split && guessed)
+}
+
+/// Whether the graph of four nodes that bytes spell has three classes.
+fn four_from<R: Threads + Sync>(rt: &R, alloc: Global, bytes: &[u8]) -> Result<bool, Fail> {
+    let graph = graph_of(alloc, 0, bytes)?;
+    Ok(has_three_both_ways(rt, alloc, &graph)?)
+}
+
 #[test]
 fn four_nodes_have_three_classes(rt: HostRuntime) -> Result<(), Fail> {
     let bytes = btf(rt.alloc(), FOUR_NODES)?;
-    let graph = graph_of(rt.alloc(), 0, &bytes)?;
-    let (split, guessed) = both_ways::<HostRuntime, Brand>(&rt, rt.alloc(), &graph, Blank::new(1))?;
-    assert!(rt; are_three(split.numbers()));
-    assert!(rt; are_three(guessed.numbers()));
+    let are_three = four_from(&rt, rt.alloc(), &bytes)?;
+    assert!(rt; are_three);
     Ok(())
 }
 
@@ -96,13 +129,34 @@ fn nothing_has_no_classes(rt: HostRuntime) -> Result<(), Fail> {
     Ok(())
 }
 
-/// The references to a node of a graph.
-fn references_to<L: Ledger>(
+/// Whether the references to a node are these, in their order.
+fn is_referred_to<L: Ledger>(
+    incoming: &Incoming,
+    x: u32,
+    wanted: &[(u32, u64)],
+    steps: &mut Steps<L>,
+) -> bool
+    requires { x < length incoming.now }
+{
+    let count = incoming.count(x);
+    let mut place = 0u64;
+    for reference in wanted {
+        if place >= count || incoming.get(x, place, steps) != *reference {
+            return false;
+        }
+        place = place.saturating_add(1);
+    }
+    place == count
+}
+
+/// Whether the references to a node of a graph are these, in their order.
+fn are_references<L: Ledger>(
     alloc: Global,
     graph: &Graph<'_>,
     x: u32,
+    wanted: &[(u32, u64)],
     blank: Blank,
-) -> Result<Vec<(u32, u64)>, AllocError>
+) -> Result<bool, AllocError>
     requires name { blank.name ≡ L.name }
     requires parts { blank.parts ≡ L.parts }
     requires some { 0 < L.parts }
@@ -110,29 +164,43 @@ fn references_to<L: Ledger>(
 {
     let mut steps = Steps::<L>::new(blank);
     let incoming = Incoming::build(alloc, graph)?;
-    let mut found = Vec::new(alloc);
-    for i in 0..incoming.count(x) {
-        found.push(incoming.get(x, i, &mut steps))?;
-    }
-    Ok(found)
+    Ok(is_referred_to(&incoming, x, wanted, &mut steps))
 }
 
 /// A node, and the references to it.
-const REFERENCES: [(u32, &[(u32, u64)]); 3] = [
+type Referred = (u32, &'static [(u32, u64)]);
+
+const REFERENCES: &[Referred] = &[
     (0, &[(0, 0), (0, 1), (1, 0), (1, 1), (2, 1)]),
     (3, &[(2, 0)]),
     (1, &[]),
 ];
 
+/// Whether the references to the nodes of a graph are these.
+fn have_references(
+    alloc: Global,
+    graph: &Graph<'_>,
+    referred: &[Referred],
+) -> Result<bool, AllocError> {
+    for (x, wanted) in referred {
+        if *x >= graph.len() || !are_references::<Brand>(alloc, graph, *x, wanted, Blank::new(1))? {
+            return Ok(false);
+        }
+    }
+    Ok(true)
+}
+
+/// Whether the graph that bytes spell has these references.
+fn references_hold(alloc: Global, bytes: &[u8]) -> Result<bool, Fail> {
+    let graph = graph_of(alloc, 0, bytes)?;
+    Ok(have_references(alloc, &graph, REFERENCES)?)
+}
+
 #[test]
 fn references_in_their_order(rt: HostRuntime) -> Result<(), Fail> {
     let bytes = btf(rt.alloc(), FOUR_NODES)?;
-    let graph = graph_of(rt.alloc(), 0, &bytes)?;
-    for (x, wanted) in REFERENCES {
-        assert!(rt; x < graph.len());
-        let found = references_to::<Brand>(rt.alloc(), &graph, x, Blank::new(1))?;
-        assert_eq!(rt; found.as_slice(), wanted);
-    }
+    let hold = references_hold(rt.alloc(), &bytes)?;
+    assert!(rt; hold);
     Ok(())
 }
 
@@ -152,17 +220,33 @@ fn moved<L: Ledger>(alloc: Global, blank: Blank) -> Result<Members, AllocError>
     Ok(members)
 }
 
-#[test]
-fn members_of_classes(rt: HostRuntime) -> Result<(), Fail> {
-    let members = moved::<Brand>(rt.alloc(), Blank::new(1))?;
-    assert_eq!(rt; members.numbers(), [0, 3, 1, 0].as_slice());
-    assert_eq!(rt;
-        (members.of(1), members.size(0), members.size(2)),
-        (3, 2, 0)
-    );
-    let mut nodes = Vec::new(rt.alloc());
+/// Whether the members are where they were put.
+fn are_moved(members: &Members) -> bool
+    requires { members.now ≡ 0 ∷ 3 ∷ 1 ∷ 0 ∷ [] }
+{
+    members.numbers() == [0, 3, 1, 0].as_slice()
+        && (members.of(1), members.size(0), members.size(2)) == (3, 2, 0)
+}
+
+/// Whether the members of class 0 are listed.
+fn are_listed(alloc: Global, members: &Members) -> Result<bool, AllocError>
+    requires { members.now ≡ 0 ∷ 3 ∷ 1 ∷ 0 ∷ [] }
+{
+    let mut nodes = Vec::new(alloc);
     members.list(0, &mut nodes)?;
     nodes.sort_unstable();
-    assert_eq!(rt; nodes.as_slice(), [0, 3].as_slice());
+    Ok(nodes.as_slice() == [0, 3].as_slice())
+}
+
+/// Whether members that are put into other classes are there, and listed.
+fn members_hold(alloc: Global) -> Result<bool, AllocError> {
+    let members = moved::<Brand>(alloc, Blank::new(1))?;
+    Ok(are_moved(&members) && are_listed(alloc, &members)?)
+}
+
+#[test]
+fn members_of_classes(rt: HostRuntime) -> Result<(), Fail> {
+    let hold = members_hold(rt.alloc())?;
+    assert!(rt; hold);
     Ok(())
 }

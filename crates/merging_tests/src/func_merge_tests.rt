@@ -3,7 +3,7 @@ ghost use Rattle.std.specs.Prelude.{◌≡◌, All, IfSome};
 ghost use Rattle.base_merge.specs.Merging.{CanBeBase};
 ghost use Rattle.c_model.specs.Kinds.{IsWellFormed};
 
-use crate::fitting::{are_named, have_protos, is_fitting, refer_below};
+use crate::fitting::{are_named, are_protos};
 use crate::functions::{Function, GLOBAL, LOCAL, entries, has_funcs};
 use crate::rows::{Row, btf, graph_of, table_of};
 use btf_codec::Table;
@@ -11,8 +11,9 @@ use c_model::Graph;
 use func_merge::{Chosen, choose_over};
 use func_types::{Funcs, Protos};
 use packed_graph::packed;
+use small_graphs::fitting::is_fitting;
 use split_base::TableFault;
-use std::alloc::Global;
+use std::alloc::{AllocError, Global};
 use std::test::Fail;
 use std::thread::Threads;
 
@@ -60,70 +61,94 @@ const OF_POINTERS: &[Function] = &[(F, GLOBAL, 4), (F, GLOBAL, 5)];
 const ONE: &[Row] = &[INT, (13, b"", 0, &[], &[1])];
 
 /// A case without a base, of entries of three prototypes.
-fn alone(rows: &'static [Function], wanted: &'static [Function]) -> Case {
-    Case {
-        base: &[],
-        most: 0,
-        types: PROTOS,
-        plain: 1,
-        rows,
-        wanted: Ok(wanted),
-    }
-}
-
-/// A case of pointers behind a base.
-fn behind(base: &'static [Row], wanted: &'static [Function]) -> Case {
-    Case {
-        base,
-        most: 8,
-        types: POINTERS,
-        plain: 4,
-        rows: OF_POINTERS,
-        wanted: Ok(wanted),
-    }
-}
-
-/// A case of a base that has the prototype; base and files have four nodes together.
-fn limited(most: u32, wanted: Result<&'static [Function], TableFault>) -> Case {
-    Case {
-        base: ONE,
-        most,
-        types: ONE,
-        plain: 1,
-        rows: &[(F, LOCAL, 1)],
-        wanted,
-    }
-}
+const BY_PROTOS: Case = Case {
+    base: &[],
+    most: 0,
+    types: PROTOS,
+    plain: 1,
+    rows: &[],
+    wanted: Ok(&[]),
+};
 
 /// Entries, and the functions that are chosen of them.
-const ALONE: [(&[Function], &[Function]); 6] = [
+const ALONE: &[Case] = &[
     // No functions, and one.
-    (&[], &[]),
-    (&[(F, GLOBAL, 1)], &[(F, GLOBAL, 1)]),
+    BY_PROTOS,
+    Case {
+        rows: &[(F, GLOBAL, 1)],
+        wanted: Ok(&[(F, GLOBAL, 1)]),
+        ..BY_PROTOS
+    },
     // A static and an external function of one name; prototypes of one class; and prototypes that
     // differ.
-    (&[(F, LOCAL, 1), (F, GLOBAL, 2)], &[]),
-    (&[(F, LOCAL, 2), (F, LOCAL, 1)], &[(F, LOCAL, 2)]),
-    (&[(F, GLOBAL, 1), (F, GLOBAL, 3)], &[]),
-    (
-        &[(G, GLOBAL, 3), (F, LOCAL, 1), (G, LOCAL, 3), (F, LOCAL, 2)],
-        &[(F, LOCAL, 1)],
-    ),
+    Case {
+        rows: &[(F, LOCAL, 1), (F, GLOBAL, 2)],
+        ..BY_PROTOS
+    },
+    Case {
+        rows: &[(F, LOCAL, 2), (F, LOCAL, 1)],
+        wanted: Ok(&[(F, LOCAL, 2)]),
+        ..BY_PROTOS
+    },
+    Case {
+        rows: &[(F, GLOBAL, 1), (F, GLOBAL, 3)],
+        ..BY_PROTOS
+    },
+    Case {
+        rows: &[(G, GLOBAL, 3), (F, LOCAL, 1), (G, LOCAL, 3), (F, LOCAL, 2)],
+        wanted: Ok(&[(F, LOCAL, 1)]),
+        ..BY_PROTOS
+    },
 ];
 
-/// The types of a base, and the functions that are chosen behind it. A base with the same definition
-/// changes nothing; one with two definitions leaves the declaration alone.
-const BEHIND: [(&[Row], &[Function]); 3] = [
-    (&[], &[(F, GLOBAL, 4)]),
-    (&[INT, (4, b"foo", 4, &[], &[])], &[(F, GLOBAL, 4)]),
-    (&[(4, b"foo", 4, &[], &[]), (4, b"foo", 8, &[], &[])], &[]),
+/// A case of pointers, behind a base or without one.
+const BY_POINTERS: Case = Case {
+    base: &[],
+    most: 8,
+    types: POINTERS,
+    plain: 4,
+    rows: OF_POINTERS,
+    wanted: Ok(&[(F, GLOBAL, 4)]),
+};
+
+/// A base with the same definition changes nothing; one with two definitions leaves the declaration
+/// alone.
+const BEHIND: &[Case] = &[
+    BY_POINTERS,
+    Case {
+        base: &[INT, (4, b"foo", 4, &[], &[])],
+        ..BY_POINTERS
+    },
+    Case {
+        base: &[(4, b"foo", 4, &[], &[]), (4, b"foo", 8, &[], &[])],
+        wanted: Ok(&[]),
+        ..BY_POINTERS
+    },
 ];
+
+/// A case of a base that has the prototype; base and files have four nodes together.
+const BY_ONE: Case = Case {
+    base: ONE,
+    most: 4,
+    types: ONE,
+    plain: 1,
+    rows: &[(F, LOCAL, 1)],
+    wanted: Ok(&[(F, LOCAL, 1)]),
+};
 
 /// As many nodes as there may be, and too many.
-const LIMITED: [(u32, Result<&[Function], TableFault>); 3] = [
-    (4, Ok(&[(F, LOCAL, 1)])),
-    (3, Err(TableFault::NodesTooMany(4))),
-    (0, Err(TableFault::NodesTooMany(4))),
+const LIMITED: &[Case] = &[
+    BY_ONE,
+    Case {
+        most: 3,
+        wanted: Err(TableFault::NodesTooMany(4)),
+        ..BY_ONE
+    },
+    Case {
+        most: 0,
+        wanted: Err(TableFault::NodesTooMany(4)),
+        ..BY_ONE
+    },
 ];
 
 /// What is chosen of a graph of types and prototypes.
@@ -139,14 +164,8 @@ fn choose<'a, R: Threads + Sync>(
     requires well { All IsWellFormed graph.now.nodes }
 {
     let funcs = entries(alloc, case.rows)?;
-    if graph.len() > 100 || funcs.len() > 100 || case.plain > graph.len() {
-        return Err(Fail::from("too many nodes or entries"));
-    }
-    if !refer_below(case.plain, graph.nodes()) || !is_fitting(graph) {
-        return Err(Fail::from("no graph of prototypes"));
-    }
-    if !have_protos(graph.len(), &funcs) || !are_named(&funcs) {
-        return Err(Fail::from("no entries of the graph"));
+    if !are_protos(graph, case.plain, &funcs) || !are_named(&funcs) || !is_fitting(graph) {
+        return Err(Fail::from("no graph of prototypes and entries"));
     }
     let protos = Protos {
         graph: packed(alloc, graph)?,
@@ -156,8 +175,26 @@ fn choose<'a, R: Threads + Sync>(
     Ok(choose_over(rt, alloc, 2, base, case.most, protos))
 }
 
-/// Whether a case comes out as it is wanted over a base, where there is one. The classes of the
-/// graph are known exactly where there is none.
+/// Whether a case comes out as it is wanted of a graph. The classes are known exactly where there
+/// is no base.
+fn chooses_of<'a, R: Threads + Sync>(
+    rt: &R,
+    alloc: Global,
+    base: Option<&Table<'a>>,
+    case: &Case,
+    graph: &Graph<'a>,
+) -> Result<bool, Fail>
+    requires base { IfSome base (λ b. CanBeBase b.now) }
+    requires alone { graph.now.base ≡ 0 }
+    requires well { All IsWellFormed graph.now.nodes }
+{
+    match choose(rt, alloc, base, case, graph)? {
+        Ok(chosen) => Ok(is_wanted(alloc, &chosen, base.is_none(), case, graph)?),
+        Err(fault) => Ok(case.wanted.err() == Some(fault)),
+    }
+}
+
+/// Whether a case comes out as it is wanted over a base, where there is one.
 fn chooses_over<'a, R: Threads + Sync>(
     rt: &R,
     alloc: Global,
@@ -168,11 +205,7 @@ fn chooses_over<'a, R: Threads + Sync>(
     requires { IfSome base (λ b. CanBeBase b.now) }
 {
     let graph = graph_of(alloc, 0, bytes)?;
-    let is_alone = base.is_none();
-    match choose(rt, alloc, base, case, &graph)? {
-        Ok(chosen) => is_wanted(alloc, &chosen, is_alone, case, &graph),
-        Err(fault) => Ok(case.wanted.err() == Some(fault)),
-    }
+    chooses_of(rt, alloc, base, case, &graph)
 }
 
 /// Whether the chosen functions are those that are wanted.
@@ -182,7 +215,7 @@ fn is_wanted(
     is_alone: bool,
     case: &Case,
     graph: &Graph<'_>,
-) -> Result<bool, Fail> {
+) -> Result<bool, AllocError> {
     let Ok(rows) = case.wanted else {
         return Ok(false);
     };
@@ -213,29 +246,35 @@ fn chooses<R: Threads + Sync>(rt: &R, alloc: Global, case: &Case) -> Result<bool
     chooses_from(rt, alloc, case, &below, &bytes)
 }
 
+/// How many of these cases stand before the first that does not come out as it is wanted.
+fn right_count<R: Threads + Sync>(rt: &R, alloc: Global, cases: &[Case]) -> Result<usize, Fail> {
+    let mut count = 0usize;
+    for case in cases {
+        if !chooses(rt, alloc, case)? {
+            break;
+        }
+        count = count.saturating_add(1);
+    }
+    Ok(count)
+}
+
 #[test]
 fn without_a_base(rt: HostRuntime) -> Result<(), Fail> {
-    for (rows, wanted) in ALONE {
-        let is_as_wanted = chooses(&rt, rt.alloc(), &alone(rows, wanted))?;
-        assert!(rt; is_as_wanted, "{rows:?}");
-    }
+    let count = right_count(&rt, rt.alloc(), ALONE)?;
+    assert_eq!(rt; count, ALONE.len());
     Ok(())
 }
 
 #[test]
 fn behind_a_base(rt: HostRuntime) -> Result<(), Fail> {
-    for (base, wanted) in BEHIND {
-        let is_as_wanted = chooses(&rt, rt.alloc(), &behind(base, wanted))?;
-        assert!(rt; is_as_wanted, "{base:?}");
-    }
+    let count = right_count(&rt, rt.alloc(), BEHIND)?;
+    assert_eq!(rt; count, BEHIND.len());
     Ok(())
 }
 
 #[test]
 fn as_many_nodes_as_there_may_be(rt: HostRuntime) -> Result<(), Fail> {
-    for (most, wanted) in LIMITED {
-        let is_as_wanted = chooses(&rt, rt.alloc(), &limited(most, wanted))?;
-        assert!(rt; is_as_wanted, "{most}");
-    }
+    let count = right_count(&rt, rt.alloc(), LIMITED)?;
+    assert_eq!(rt; count, LIMITED.len());
     Ok(())
 }

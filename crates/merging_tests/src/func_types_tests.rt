@@ -1,11 +1,14 @@
 //! Which names of a list of function entries are chosen. Each prototype is told from the others by
 //! the number of its parameters.
-use crate::fitting::{have_protos, refer_below};
+ghost use Rattle.std.specs.Prelude.{◌≡◌, ◌<◌, ◌≤◌, ◌+◌, ◌*◌, ◌^◌, All, length};
+ghost use Rattle.c_model.specs.Graph.{RefersWithin};
+
+use crate::fitting::are_protos;
 use crate::functions::{Function, GLOBAL, LOCAL, entries, has_funcs};
 use crate::rows::{Named, Row, btf, graph_of};
-use c_model::{Classes, Numbers};
-use func_types::{Funcs, Protos, chosen};
-use std::alloc::Global;
+use c_model::{Classes, Graph, Numbers};
+use func_types::{Func, Funcs, Protos, chosen};
+use std::alloc::{AllocError, Global};
 use std::test::Fail;
 
 /// A parameter.
@@ -47,7 +50,7 @@ const MANY: &[Function] = &[
     (F, GLOBAL, 2),
 ];
 
-const CASES: [Case; 9] = [
+const CASES: &[Case] = &[
     // No functions, and one.
     (0, &[0], &[], &[]),
     (0, &[0, 1], &[(F, GLOBAL, 1)], &[(F, GLOBAL, 1)]),
@@ -79,19 +82,41 @@ const CASES: [Case; 9] = [
     ),
 ];
 
-/// Whether exactly the wanted functions of a case are chosen of the types that bytes spell.
-fn chooses_from(alloc: Global, case: &Case, bytes: &[u8]) -> Result<bool, Fail> {
-    let (base, numbers, rows, wanted) = *case;
-    let graph = graph_of(alloc, 0, bytes)?;
-    let funcs = entries(alloc, rows)?;
-    if base > 100 || graph.len() > 100 || funcs.len() > 100 || graph.len() == 0 {
-        return Err(Fail::from("too many nodes or entries"));
+/// Whether exactly the wanted functions are chosen by these classes, behind so many nodes.
+fn has_chosen(
+    alloc: Global,
+    base: u32,
+    protos: &Protos<'_>,
+    classes: &Classes,
+    wanted: &[Function],
+) -> Result<bool, AllocError>
+    requires alone { protos.now.graph.base ≡ 0 }
+    requires plain { protos.now.plain ≤ length protos.now.graph.nodes }
+    requires within { RefersWithin protos.now.plain protos.now.graph.nodes }
+    requires protos { All (λ f. f.proto < length protos.now.graph.nodes) protos.now.funcs }
+    requires room { protos.now.plain + 2 * length protos.now.funcs < 2 ^ 32 }
+    requires few { base + length protos.now.graph.nodes < 2 ^ 32 }
+    requires covers { length classes.now ≡ base + length protos.now.graph.nodes }
+{
+    let made = chosen(alloc, base, protos, classes)?;
+    Ok(has_funcs(made.nodes(), protos.graph.nodes(), protos.plain, wanted))
+}
+
+/// Whether exactly the wanted functions of a case are chosen of these types and entries.
+fn chooses_of<'a>(
+    alloc: Global,
+    case: &Case,
+    graph: Graph<'a>,
+    funcs: Vec<Func<'a>>,
+) -> Result<bool, AllocError>
+    requires { graph.base ≡ 0 }
+{
+    let (base, numbers, _, wanted) = *case;
+    if base > 100 || !are_protos(&graph, 1, &funcs) {
+        return Ok(false);
     }
     if numbers.len() != base as usize + graph.len() as usize {
-        return Err(Fail::from("other classes"));
-    }
-    if !refer_below(1, graph.nodes()) || !have_protos(graph.len(), &funcs) {
-        return Err(Fail::from("no graph of prototypes"));
+        return Ok(false);
     }
     let protos = Protos {
         graph,
@@ -99,25 +124,39 @@ fn chooses_from(alloc: Global, case: &Case, bytes: &[u8]) -> Result<bool, Fail> 
         funcs: Funcs::new(funcs),
     };
     let classes = Classes::new(Numbers::new(Vec::from_slice(alloc, numbers)?));
-    let made = chosen(alloc, base, &protos, &classes)?;
-    Ok(has_funcs(made.nodes(), protos.graph.nodes(), 1, wanted))
+    has_chosen(alloc, base, &protos, &classes, wanted)
+}
+
+/// Whether exactly the wanted functions of a case are chosen of the types that bytes spell.
+fn chooses_from(alloc: Global, case: &Case, bytes: &[u8]) -> Result<bool, Fail> {
+    let funcs = entries(alloc, case.2)?;
+    Ok(chooses_of(alloc, case, graph_of(alloc, 0, bytes)?, funcs)?)
 }
 
 /// Whether exactly the wanted functions of a case are chosen.
 fn chooses(alloc: Global, case: &Case) -> Result<bool, Fail> {
     let count = case.1.len().saturating_sub(case.0 as usize);
-    let Some(types) = TYPES.get(..count) else {
-        return Err(Fail::from("too many classes"));
-    };
-    let bytes = btf(alloc, types)?;
-    chooses_from(alloc, case, &bytes)
+    match TYPES.get(..count) {
+        Some(types) => chooses_from(alloc, case, &btf(alloc, types)?),
+        None => Ok(false),
+    }
+}
+
+/// How many of these cases stand before the first of which other functions are chosen.
+fn right_count(alloc: Global, cases: &[Case]) -> Result<usize, Fail> {
+    let mut count = 0usize;
+    for case in cases {
+        if !chooses(alloc, case)? {
+            break;
+        }
+        count = count.saturating_add(1);
+    }
+    Ok(count)
 }
 
 #[test]
 fn names_that_agree_are_chosen(rt: HostRuntime) -> Result<(), Fail> {
-    for case in &CASES {
-        let is_chosen = chooses(rt.alloc(), case)?;
-        assert!(rt; is_chosen, "{case:?}");
-    }
+    let count = right_count(rt.alloc(), CASES)?;
+    assert_eq!(rt; count, CASES.len());
     Ok(())
 }

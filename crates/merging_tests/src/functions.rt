@@ -1,7 +1,8 @@
 //! Functions in rows, and what is chosen of them.
-use c_model::{CType, Ref, is_same_label};
+use c_model::{CType, Ref};
 use dw_base::Name;
 use func_types::Func;
+use small_graphs::same::{are_same, is_same};
 use std::alloc::{AllocError, Global};
 
 /// A function entry, or a chosen function with the entry's prototype: its name, whether other units
@@ -25,21 +26,6 @@ pub fn entries(alloc: Global, rows: &[Function]) -> Result<Vec<Func<'static>>, A
         })?;
     }
     Ok(funcs)
-}
-
-/// Whether two nodes have one label and the same references.
-fn is_same(a: &CType<'_>, b: &CType<'_>) -> bool {
-    is_same_label(&a.label, &b.label) && a.targets.items() == b.targets.items()
-}
-
-/// Whether all nodes are the same, each as the other at its place.
-fn are_same(nodes: &[CType<'_>], wanted: &[CType<'_>]) -> bool {
-    for (a, b) in nodes.iter().zip(wanted) {
-        if !is_same(a, b) {
-            return false;
-        }
-    }
-    nodes.len() == wanted.len()
 }
 
 /// Whether nodes are the prototypes of these rows.

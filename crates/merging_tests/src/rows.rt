@@ -3,10 +3,10 @@ ghost use Rattle.std.specs.Prelude.{◌≡◌, All, IfOk};
 ghost use Rattle.base_merge.specs.Merging.{CanBeBase};
 ghost use Rattle.c_model.specs.Kinds.{IsWellFormed};
 
-use crate::fitting::refer_below;
 use base_merge::read_base;
 use btf_codec::Table;
 use c_model::{CType, Graph, Part, Ref};
+use small_graphs::fitting::refer_below;
 use std::alloc::{AllocError, Global};
 use std::test::Fail;
 

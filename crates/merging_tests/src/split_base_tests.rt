@@ -54,18 +54,36 @@ fn whole<'a>(
     Ok(with_base(alloc, &table, most, graph))
 }
 
+/// Whether there is a graph of base and file with the nodes that are wanted, or it is refused so.
+fn is_joined(
+    alloc: Global,
+    below: &[u8],
+    most: u32,
+    bytes: &[u8],
+    refused: Option<TableFault>,
+) -> Result<bool, Fail> {
+    match whole(alloc, below, most, bytes)? {
+        Ok(graph) => Ok(refused.is_none() && has_nodes(&graph, WANTED)),
+        Err(fault) => Ok(refused == Some(fault)),
+    }
+}
+
+/// Whether base nodes come first in the graph of the base, and in that of base and file, which has
+/// at most five nodes.
+fn come_first(alloc: Global, below: &[u8], bytes: &[u8]) -> Result<bool, Fail> {
+    let too_many = Some(TableFault::NodesTooMany(5));
+    Ok(
+        has_alone(alloc, below, &WANTED[..2])?
+            && is_joined(alloc, below, 5, bytes, None)?
+            && is_joined(alloc, below, 4, bytes, too_many)?,
+    )
+}
+
 #[test]
 fn base_nodes_come_first(rt: HostRuntime) -> Result<(), Fail> {
     let below = btf(rt.alloc(), DECLARES)?;
     let bytes = btf(rt.alloc(), DEFINES)?;
-    let is_alone = has_alone(rt.alloc(), &below, &WANTED[..2])?;
-    assert!(rt; is_alone);
-    match whole(rt.alloc(), &below, 5, &bytes)? {
-        Ok(graph) => assert!(rt; has_nodes(&graph, WANTED)),
-        Err(fault) => assert!(rt; false, "five nodes fit: {fault:?}"),
-    }
-    // One node too many.
-    let refused = whole(rt.alloc(), &below, 4, &bytes)?.err();
-    assert_eq!(rt; refused, Some(TableFault::NodesTooMany(5)));
+    let holds = come_first(rt.alloc(), &below, &bytes)?;
+    assert!(rt; holds);
     Ok(())
 }

@@ -1,13 +1,13 @@
 //! Tables of small graphs and partitions: of declarations beside definitions, and beside a base.
-ghost use Rattle.std.specs.Prelude.{IfSome, IsTrue};
-ghost use Rattle.std.specs.Option.{option_copied};
-ghost use Rattle.btf_strings.specs.Kept.{IsSection};
+ghost use Rattle.std.specs.Prelude.{◌≡◌, All, length};
+ghost use Rattle.c_model.specs.Kinds.{IsWellFormed};
 
 use crate::rows::{Named, Row, are_of, btf, graph_of};
 use btf_codec::TableOut;
-use c_model::{Classes, Numbers};
+use c_model::{Classes, Graph, Numbers};
+use small_graphs::fitting::is_base;
 use split_base::build;
-use std::alloc::Global;
+use std::alloc::{AllocError, Global};
 use std::test::Fail;
 
 /// A graph, a partition of it, and the table that is wanted of them.
@@ -32,7 +32,7 @@ const B: Named = (b"b", 0);
 
 const LINKS: &[Named] = &[(b"next", 0), (b"prev", 64)];
 
-const CASES: [Case; 6] = [
+const CASES: &[Case] = &[
     // One type for each class.
     Case {
         base: 0,
@@ -142,16 +142,6 @@ const CASES: [Case; 6] = [
     },
 ];
 
-/// Whether strings are those of a base, where there is one.
-fn is_base(names: Option<&[u8]>) -> bool
-    ensures { IsTrue result → IfSome (option_copied names.entry) IsSection }
-{
-    match names {
-        None => true,
-        Some(section) => section.len() < 100 && section.first().copied() == Some(0),
-    }
-}
-
 /// Whether the own types and the own strings are these.
 fn has_own(table: &TableOut<'_>, own: &[Row], strings: &[u8]) -> bool {
     match table.types.items().get(table.base as usize..) {
@@ -160,25 +150,49 @@ fn has_own(table: &TableOut<'_>, own: &[Row], strings: &[u8]) -> bool {
     }
 }
 
+/// Whether the table that is wanted is made of a graph and its classes.
+fn is_made(alloc: Global, case: &Case, graph: &Graph<'_>, classes: &Classes) -> bool
+    requires covers { length classes.now ≡ length graph.now.nodes }
+    requires well { All IsWellFormed graph.now.nodes }
+{
+    if !is_base(case.names) {
+        return false;
+    }
+    match build(alloc, graph, classes, case.names) {
+        Ok(table) => has_own(&table, case.own, case.strings),
+        Err(_) => false,
+    }
+}
+
+/// Whether the table that is wanted is made of a graph.
+fn is_made_of(alloc: Global, case: &Case, graph: &Graph<'_>) -> Result<bool, AllocError>
+    requires { All IsWellFormed graph.now.nodes }
+{
+    let classes = Classes::new(Numbers::new(Vec::from_slice(alloc, case.classes)?));
+    Ok(classes.numbers().len() == graph.nodes().len() && is_made(alloc, case, graph, &classes))
+}
+
 /// Whether the table that is wanted is made of the nodes that bytes spell.
 fn is_made_from(alloc: Global, case: &Case, bytes: &[u8]) -> Result<bool, Fail> {
     let graph = graph_of(alloc, case.base, bytes)?;
-    let classes = Classes::new(Numbers::new(Vec::from_slice(alloc, case.classes)?));
-    if classes.numbers().len() != graph.nodes().len() || !is_base(case.names) {
-        return Err(Fail::from("not what a table is made of"));
+    Ok(is_made_of(alloc, case, &graph)?)
+}
+
+/// How many of these cases stand before the first whose table is not as it is wanted.
+fn right_count(alloc: Global, cases: &[Case]) -> Result<usize, Fail> {
+    let mut count = 0usize;
+    for case in cases {
+        if !is_made_from(alloc, case, &btf(alloc, case.nodes)?)? {
+            break;
+        }
+        count = count.saturating_add(1);
     }
-    match build(alloc, &graph, &classes, case.names) {
-        Ok(table) => Ok(has_own(&table, case.own, case.strings)),
-        Err(_) => Err(Fail::from("no table")),
-    }
+    Ok(count)
 }
 
 #[test]
 fn tables_of_classes(rt: HostRuntime) -> Result<(), Fail> {
-    for (i, case) in CASES.iter().enumerate() {
-        let bytes = btf(rt.alloc(), case.nodes)?;
-        let is_as_wanted = is_made_from(rt.alloc(), case, &bytes)?;
-        assert!(rt; is_as_wanted, "case {i}");
-    }
+    let count = right_count(rt.alloc(), CASES)?;
+    assert_eq!(rt; count, CASES.len());
     Ok(())
 }

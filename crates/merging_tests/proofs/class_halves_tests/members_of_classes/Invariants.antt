@@ -1,4 +1,0 @@
-use Rattle.merging_tests.proofs.class_halves_tests.members_of_classes.Given as goal
-
-abbrev pub ghosts-moved : goal.ghosts-moved
-ghosts-moved g a = record { name = a.blank.name; parts = a.blank.parts }
