@@ -1,12 +1,12 @@
 # pahole, proved. `make pahole` builds the proved program, `make demo` encodes a file with it, `make test` is
 # the gate and the repository's own checks. The pages' other numbers come from scripts that no check runs, for they take long (tools/):
-# `make measure` (docs/SPEED.md), `make agree` and `make ways` (docs/AGREEMENT.md), `make plants`, `make edits`,
+# `make measure` and `make turns` (docs/SPEED.md), `make agree` and `make ways` (docs/AGREEMENT.md), `make plants`, `make edits`,
 # `make unseen` and `make memory` (docs/AUDIT.md).
 PROGRAM = crates/pahole/out/pahole
 
 SHELL = bash
 
-.PHONY: pahole demo test measure agree ways plants unseen edits memory
+.PHONY: pahole demo test measure turns agree ways plants unseen edits memory
 
 pahole:
 	@. checks/lib/toolchain.sh
@@ -25,6 +25,10 @@ test:
 # (files five times as large), which it leaves out otherwise
 measure:
 	bash tools/measure.sh $(VMLINUX)
+
+# the program and Debian's tool pahole in turn, on VMLINUX, TURNS=n times; WRITE=1 writes docs/SPEED.md's table of turns
+turns:
+	bash tools/turns.sh $(VMLINUX) $(TURNS)
 
 # whether Debian's tool pahole writes the same types for FILES='a b', compared by what they are; FUNCS=1 looks at functions, too
 agree:

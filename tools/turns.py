@@ -1,0 +1,42 @@
+"""turns.py PROGRAM FILE [TURNS]: how PROGRAM stands to Debian's tool pahole on FILE, also on a machine that other work shares: in each turn both
+encode it with one worker and with four, one after the other. Prints a row for each turn, in seconds, and how one stands to the other."""
+import os
+import subprocess
+import sys
+import tempfile
+import time
+
+TURNS = 5
+
+
+def taken(words):
+    """The time from start to end and the processor time of a run, in seconds."""
+    began = time.monotonic()
+    process = subprocess.Popen(words, stdout=subprocess.DEVNULL, stderr=subprocess.DEVNULL)
+    _, status, usage = os.wait4(process.pid, 0)
+    process.returncode = os.waitstatus_to_exitcode(status)
+    if process.returncode != 0:
+        sys.exit(f"failed turns: {' '.join(words)} ended with status {process.returncode}")
+    return time.monotonic() - began, usage.ru_utime + usage.ru_stime
+
+
+def turn(program, file, out):
+    """A row: what each took, and what that is of what the other took."""
+    encode = [f"--btf_encode_detached={out}", file]
+    (one_time, one), (four_time, _) = taken([program, "-j1", *encode]), taken([program, "-j4", *encode])
+    (_, its_one), (its_four_time, _) = taken(["pahole", *encode]), taken(["pahole", "-j4", *encode])
+    return (f"| {one:.2f} s | {its_one:.2f} s | {one / its_one:.2f} | {four_time:.2f} s | {its_four_time:.2f} s | {four_time / its_four_time:.2f} "
+            f"| {four_time / one_time:.2f} |")
+
+
+def main():
+    program, file, *turns = sys.argv[1:]
+    print("| Processor time, `-j1` | pahole's, one thread | Ratio | Time, `-j4` | pahole's, `-j4` | Ratio | `-j4` to `-j1` |")
+    print("|---|---|---|---|---|---|---|")
+    with tempfile.TemporaryDirectory() as folder:
+        for _ in range(int(turns[0]) if turns else TURNS):
+            print(turn(os.path.abspath(program), file, f"{folder}/out"), flush=True)
+
+
+if __name__ == "__main__":
+    main()
