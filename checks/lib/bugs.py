@@ -28,7 +28,7 @@ LAYERS = {
     "Words": ["command_line"],
     "World": ["world_io"],
     "Run": ["pahole_run"],
-    "Tests": ["small_graphs"],
+    "Tests": ["small_files", "small_graphs"],
 }
 
 Edit = collections.namedtuple("Edit", "crate name kind in_gate")

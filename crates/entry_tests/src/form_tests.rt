@@ -32,30 +32,29 @@ fn context<'a>(info: &'a [u8], order: Order, offset_bytes: u32) -> FormCtx<'a>
     }
 }
 
+/// Numbers of 4 and 8 bytes in both byte orders, and one of 4 bytes where 8 are wanted.
+const FOUR: &[u8] = &[4, 3, 2, 0xf1];
+
+const FOUR_BIG: &[u8] = &[0xf1, 2, 3, 4];
+
+const FOUR_IN_EIGHT: &[u8] = &[0, 0, 0, 0, 0xf1, 2, 3, 4];
+
+const EIGHT: &[u8] = &[8, 7, 6, 5, 4, 3, 2, 0xf1];
+
+const EIGHT_BIG: &[u8] = &[0xf1, 2, 3, 4, 5, 6, 7, 8];
+
+/// Sixteen bytes, which have no order.
+const SIXTEEN: &[u8] = &[0, 1, 2, 3, 4, 5, 6, 7, 8, 9, 10, 11, 12, 13, 14, 15];
+
 /// Each form: its value in a little-endian unit of 32-bit offsets, then in a big-endian one of
 /// 64-bit offsets, and the value. The abbreviation holds -5.
 const FORMS: [(u64, &[u8], &[u8], &str); 45] = [
-    (
-        0x01,
-        &[8, 7, 6, 5, 4, 3, 2, 0xf1],
-        &[0xf1, 2, 3, 4, 5, 6, 7, 8],
-        "Address(17366446428893087496)",
-    ),
+    (0x01, EIGHT, EIGHT_BIG, "Address(17366446428893087496)"),
     (0x03, &[3, 0, 7, 0, 9], &[0, 3, 7, 0, 9], "Block([7, 0, 9])"),
     (0x04, &[1, 0, 0, 0, 7], &[0, 0, 0, 1, 7], "Block([7])"),
     (0x05, &[2, 0xf1], &[0xf1, 2], "Unsigned(61698)"),
-    (
-        0x06,
-        &[4, 3, 2, 0xf1],
-        &[0xf1, 2, 3, 4],
-        "Unsigned(4043440900)",
-    ),
-    (
-        0x07,
-        &[8, 7, 6, 5, 4, 3, 2, 0xf1],
-        &[0xf1, 2, 3, 4, 5, 6, 7, 8],
-        "Unsigned(17366446428893087496)",
-    ),
+    (0x06, FOUR, FOUR_BIG, "Unsigned(4043440900)"),
+    (0x07, EIGHT, EIGHT_BIG, "Unsigned(17366446428893087496)"),
     (
         0x08,
         &[0x61, 0x62, 0],
@@ -67,107 +66,43 @@ const FORMS: [(u64, &[u8], &[u8], &str); 45] = [
     (0x0b, &[0xf1], &[0xf1], "Unsigned(241)"),
     (0x0c, &[2], &[2], "Flag(true)"),
     (0x0d, &[0x80, 0x7f], &[0x80, 0x7f], "Signed(-128)"),
-    (
-        0x0e,
-        &[4, 3, 2, 0xf1],
-        &[0, 0, 0, 0, 0xf1, 2, 3, 4],
-        "Strp(4043440900)",
-    ),
+    (0x0e, FOUR, FOUR_IN_EIGHT, "Strp(4043440900)"),
     (0x0f, &[0x80, 0x7f], &[0x80, 0x7f], "Unsigned(16256)"),
-    (
-        0x10,
-        &[4, 3, 2, 0xf1],
-        &[0, 0, 0, 0, 0xf1, 2, 3, 4],
-        "InfoRef(4043440900)",
-    ),
+    (0x10, FOUR, FOUR_IN_EIGHT, "InfoRef(4043440900)"),
     (0x11, &[0xf1], &[0xf1], "UnitRef(241)"),
     (0x12, &[2, 0xf1], &[0xf1, 2], "UnitRef(61698)"),
-    (
-        0x13,
-        &[4, 3, 2, 0xf1],
-        &[0xf1, 2, 3, 4],
-        "UnitRef(4043440900)",
-    ),
-    (
-        0x14,
-        &[8, 7, 6, 5, 4, 3, 2, 0xf1],
-        &[0xf1, 2, 3, 4, 5, 6, 7, 8],
-        "UnitRef(17366446428893087496)",
-    ),
+    (0x13, FOUR, FOUR_BIG, "UnitRef(4043440900)"),
+    (0x14, EIGHT, EIGHT_BIG, "UnitRef(17366446428893087496)"),
     (0x15, &[0x85, 1], &[0x85, 1], "UnitRef(133)"),
-    (
-        0x17,
-        &[4, 3, 2, 0xf1],
-        &[0, 0, 0, 0, 0xf1, 2, 3, 4],
-        "SecOffset(4043440900)",
-    ),
+    (0x17, FOUR, FOUR_IN_EIGHT, "SecOffset(4043440900)"),
     (0x18, &[2, 0x23, 8], &[2, 0x23, 8], "Expr([35, 8])"),
     (0x19, &[], &[], "Flag(true)"),
     (0x1a, &[0x85, 1], &[0x85, 1], "Strx(133)"),
     (0x1b, &[0x85, 1], &[0x85, 1], "Index(133)"),
-    (0x1c, &[4, 3, 2, 0xf1], &[0xf1, 2, 3, 4], "Alt(28)"),
-    (
-        0x1d,
-        &[4, 3, 2, 0xf1],
-        &[0, 0, 0, 0, 0xf1, 2, 3, 4],
-        "Alt(29)",
-    ),
+    (0x1c, FOUR, FOUR_BIG, "Alt(28)"),
+    (0x1d, FOUR, FOUR_IN_EIGHT, "Alt(29)"),
     (
         0x1e,
-        &[
-            0, 1, 2, 3, 4, 5, 6, 7, 8, 9, 0x0a, 0x0b, 0x0c, 0x0d, 0x0e, 0x0f,
-        ],
-        &[
-            0, 1, 2, 3, 4, 5, 6, 7, 8, 9, 0x0a, 0x0b, 0x0c, 0x0d, 0x0e, 0x0f,
-        ],
+        SIXTEEN,
+        SIXTEEN,
         "Sixteen([0, 1, 2, 3, 4, 5, 6, 7, 8, 9, 10, 11, 12, 13, 14, 15])",
     ),
-    (
-        0x1f,
-        &[4, 3, 2, 0xf1],
-        &[0, 0, 0, 0, 0xf1, 2, 3, 4],
-        "LineStrp(4043440900)",
-    ),
-    (
-        0x20,
-        &[8, 7, 6, 5, 4, 3, 2, 0xf1],
-        &[0xf1, 2, 3, 4, 5, 6, 7, 8],
-        "Alt(32)",
-    ),
+    (0x1f, FOUR, FOUR_IN_EIGHT, "LineStrp(4043440900)"),
+    (0x20, EIGHT, EIGHT_BIG, "Alt(32)"),
     (0x21, &[], &[], "Signed(-5)"),
     (0x22, &[5], &[5], "Index(5)"),
     (0x23, &[5], &[5], "Index(5)"),
-    (
-        0x24,
-        &[8, 7, 6, 5, 4, 3, 2, 0xf1],
-        &[0xf1, 2, 3, 4, 5, 6, 7, 8],
-        "Alt(36)",
-    ),
+    (0x24, EIGHT, EIGHT_BIG, "Alt(36)"),
     (0x25, &[0xf1], &[0xf1], "Strx(241)"),
     (0x26, &[2, 0xf1], &[0xf1, 2], "Strx(61698)"),
     (0x27, &[3, 2, 0xf1], &[0xf1, 2, 3], "Strx(15794691)"),
-    (0x28, &[4, 3, 2, 0xf1], &[0xf1, 2, 3, 4], "Strx(4043440900)"),
+    (0x28, FOUR, FOUR_BIG, "Strx(4043440900)"),
     (0x29, &[0xf1], &[0xf1], "Index(241)"),
     (0x2a, &[2, 0xf1], &[0xf1, 2], "Index(61698)"),
     (0x2b, &[3, 2, 0xf1], &[0xf1, 2, 3], "Index(15794691)"),
-    (
-        0x2c,
-        &[4, 3, 2, 0xf1],
-        &[0xf1, 2, 3, 4],
-        "Index(4043440900)",
-    ),
-    (
-        0x1f20,
-        &[4, 3, 2, 0xf1],
-        &[0, 0, 0, 0, 0xf1, 2, 3, 4],
-        "Alt(7968)",
-    ),
-    (
-        0x1f21,
-        &[4, 3, 2, 0xf1],
-        &[0, 0, 0, 0, 0xf1, 2, 3, 4],
-        "Alt(7969)",
-    ),
+    (0x2c, FOUR, FOUR_BIG, "Index(4043440900)"),
+    (0x1f20, FOUR, FOUR_IN_EIGHT, "Alt(7968)"),
+    (0x1f21, FOUR, FOUR_IN_EIGHT, "Alt(7969)"),
     (0x16, &[0x12, 2, 0xf1], &[0x12, 0xf1, 2], "UnitRef(61698)"),
 ];
 

@@ -1,12 +1,12 @@
 //! Units in bytes, and their functions.
-use crate::files::{Sections, append, file_of, put_unit, text_of};
 use c_model::Part;
-use c_types::{Target, TypeFault, UnitTypes, types_of_unit};
-use dw_base::Order;
+use c_types::{TypeFault, UnitTypes, types_of_unit};
 use dwarf_forms::FormFault;
 use elf_sections::Image;
 use entry_tree::{WalkFault, units};
 use func_entries::{FuncEntry, UnitFuncs, functions_of_unit};
+use small_files::bytes::{info_of, plain_file};
+use small_files::texts::{append, name_of, put_targets};
 use std::alloc::{AllocError, Global};
 use std::process::Abort;
 use std::test::Fail;
@@ -47,43 +47,13 @@ const ABBREVIATIONS: &[u8] = &[
 
 /// A file with a unit of these entries and their abbreviations.
 fn unit_file(alloc: Global, entries: &[u8]) -> Result<Vec<u8>, AllocError> {
-    let mut info = Vec::new(alloc);
-    put_unit(&mut info, 0, entries)?;
-    let sections = Sections {
-        info: &info,
-        abbrev: ABBREVIATIONS,
-        text: &[],
-        line_text: &[],
-    };
-    file_of(alloc, Order::Little, sections)
-}
-
-/// A name as text; `-` for the empty one.
-fn name_of(bytes: &[u8]) -> &str {
-    if bytes.is_empty() {
-        "-"
-    } else {
-        text_of(bytes)
-    }
+    plain_file(alloc, &info_of(alloc, &[entries])?, ABBREVIATIONS)
 }
 
 /// Puts the names of a function's parameters.
 fn put_parameters(alloc: Global, text: &mut String, parts: &[Part<'_>]) -> Result<(), AllocError> {
     for part in parts {
         append(text, format!(in alloc; " {}", name_of(part.name.bytes())))?;
-    }
-    Ok(())
-}
-
-/// Puts what a function refers to.
-fn put_targets(alloc: Global, text: &mut String, targets: &[Target]) -> Result<(), AllocError> {
-    for target in targets {
-        let word = match target {
-            Target::Void => format!(in alloc; " void"),
-            Target::Index => format!(in alloc; " index"),
-            Target::Entry { from, to } => format!(in alloc; " {from}:{to}"),
-        };
-        append(text, word)?;
     }
     Ok(())
 }

@@ -1,8 +1,8 @@
 //! Headers of units of DWARF 4 and 5, by hand, in files of both byte orders.
-use crate::files::{Header, Sections, file_of, put, put_header};
 use dw_base::Order;
 use elf_sections::Image;
 use entry_tree::{Unit, UnitFault, UnitList, units};
+use small_files::bytes::{Header, Sections, file_of, put, put_header};
 use std::alloc::{AllocError, Global};
 use std::process::Abort;
 use std::test::Fail;

@@ -3,12 +3,12 @@ ghost use Rattle.elf_sections.specs.Images.{file_of as bytes_of};
 ghost use Rattle.dwarf_forms.specs.Values.{IsContext};
 ghost use Rattle.entry_tree.specs.Contexts.{IsUnitOf};
 
-use crate::files::{Header, Sections, file_of, put_all, put_header, put_unit};
 use dw_base::Order;
 use dwarf_abbrev::{AbbrevFault, Abbrevs};
 use dwarf_forms::{FormCtx, FormFault, name_of};
 use elf_sections::{Image, Kind};
 use entry_tree::{Entry, RootInfo, Unit, UnitFault, Walk, WalkFault, context, root, units};
+use small_files::bytes::{Header, Sections, file_of, info_of, plain_file, put_all, put_header};
 use std::alloc::{AllocError, Global};
 use std::process::Abort;
 use std::test::Fail;
@@ -126,17 +126,6 @@ const PLAIN_INFO: [u8; 22] = [
 const PLAIN_ABBREV: [u8; 19] = [
     1, 17, 1, 19, 11, 0, 0, 2, 36, 0, 3, 8, 11, 11, 62, 11, 0, 0, 0,
 ];
-
-/// A file of these entries and abbreviations.
-fn plain_file(alloc: Global, info: &[u8], abbrev: &[u8]) -> Result<Vec<u8>, AllocError> {
-    let sections = Sections {
-        info,
-        abbrev,
-        text: &[],
-        line_text: &[],
-    };
-    file_of(alloc, Order::Little, sections)
-}
 
 /// A file of the unit of gcc.
 fn real_file(alloc: Global) -> Result<Vec<u8>, AllocError> {
@@ -492,9 +481,7 @@ fn nested_unit(alloc: Global, blocks: u32) -> Result<Vec<u8>, AllocError> {
     for _ in 0..=blocks {
         entries.push(0)?;
     }
-    let mut info = Vec::new(alloc);
-    put_unit(&mut info, 0, &entries)?;
-    Ok(info)
+    info_of(alloc, &[&entries])
 }
 
 /// A root over 100,000 nested blocks.

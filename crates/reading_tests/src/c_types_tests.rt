@@ -10,11 +10,13 @@ use c_types::types_of_unit;
 use dwarf_forms::FormFault;
 use elf_sections::Image;
 use entry_tree::units;
+use small_files::bytes::{info_of, plain_file};
+use small_files::texts::{append, name_of, put_targets};
 use std::alloc::{AllocError, Global};
 use std::process::Abort;
 use std::test::Fail;
 use type_attributes::fault::TypeFault;
-use type_attributes::source::{SourceType, Target, UnitTypes};
+use type_attributes::source::{SourceType, UnitTypes};
 
 /// The abbreviations of all cases: the code, the tag, children or none, attributes and forms.
 const ABBREVIATIONS: &[u8] = &[
@@ -109,120 +111,24 @@ const ABBREVIATIONS: &[u8] = &[
     0,
 ];
 
-/// Puts a number of `width` bytes behind others, the lowest byte first.
-fn put(file: &mut Vec<u8>, number: u64, width: u32) -> Result<(), AllocError> {
-    for byte in number.to_le_bytes().iter().take(width as usize) {
-        file.push(*byte)?;
-    }
-    Ok(())
-}
-
-/// Puts a section header.
-fn put_header(
-    file: &mut Vec<u8>,
-    name: u64,
-    kind: u64,
-    at: u64,
-    size: u64,
-) -> Result<(), AllocError> {
-    put(file, name, 4)?;
-    put(file, kind, 4)?;
-    for number in [0, 0, at, size, 0, 0, 0] {
-        put(file, number, 8)?;
-    }
-    Ok(())
-}
-
-/// The bytes of a unit of these entries.
-fn info_of(alloc: Global, entries: &[u8]) -> Result<Vec<u8>, AllocError> {
-    let mut info = Vec::new(alloc);
-    put(&mut info, (entries.len() as u64).wrapping_add(8), 4)?;
-    info.extend_from_slice(&[5, 0, 1, 8, 0, 0, 0, 0])?;
-    info.extend_from_slice(entries)?;
-    Ok(info)
-}
-
-/// A file of 64 bits, little-endian, with a unit, its abbreviations and its strings.
-fn file_of<'x>(
-    alloc: Global,
-    info: &'x [u8],
-    abbreviations: &'x [u8],
-    strings: &'x [u8],
-) -> Result<Vec<u8>, AllocError> {
-    file_with(alloc, info, abbreviations, strings, &[])
-}
-
-/// The same with strings of lines.
-fn file_with<'x>(
-    alloc: Global,
-    info: &'x [u8],
-    abbreviations: &'x [u8],
-    strings: &'x [u8],
-    line_strings: &'x [u8],
-) -> Result<Vec<u8>, AllocError> {
-    let names = b"\0.debug_info\0.debug_abbrev\0.debug_str\0.debug_line_str\0";
-    let mut file = Vec::new(alloc);
-    file.extend_from_slice(b"\x7fELF\x02\x01\x01\0\0\0\0\0\0\0\0\0")?;
-    put(&mut file, 2, 2)?;
-    put(&mut file, 62, 2)?;
-    put(&mut file, 1, 4)?;
-    put(&mut file, 0, 8)?;
-    put(&mut file, 0, 8)?;
-    put(&mut file, 64, 8)?;
-    put(&mut file, 0, 4)?;
-    for half in [64, 0, 0, 64, 6, 5] {
-        put(&mut file, half, 2)?;
-    }
-    put_header(&mut file, 0, 0, 0, 0)?;
-    let mut at = 64 + 6 * 64;
-    for (name, section) in [
-        (1u64, info),
-        (13, abbreviations),
-        (27, strings),
-        (38, line_strings),
-        (0, names),
-    ] {
-        put_header(&mut file, name, 1, at, section.len() as u64)?;
-        at = at.wrapping_add(section.len() as u64);
-    }
-    for section in [info, abbreviations, strings, line_strings, names] {
-        file.extend_from_slice(section)?;
-    }
-    Ok(file)
-}
-
-/// Puts a name behind a text; `-` for the empty one.
-fn put_name(text: &mut String, name: &[u8]) -> Result<(), AllocError> {
-    if name.is_empty() {
-        text.push('-')?;
-    }
-    for byte in name {
-        text.push(char::from(*byte))?;
-    }
-    Ok(())
+/// A file of a unit of these entries, with the abbreviations of all cases.
+fn file_of(alloc: Global, entries: &[u8]) -> Result<Vec<u8>, AllocError> {
+    plain_file(alloc, &info_of(alloc, &[entries])?, ABBREVIATIONS)
 }
 
 /// What a type is, in a line.
 fn line(alloc: Global, one: &SourceType<'_>) -> Result<String, Fail> {
     let label = &one.label;
-    let mut text = format!(in alloc; "{} {} ", one.at, label.kind)?;
-    put_name(&mut text, label.name.bytes())?;
-    let more = format!(in alloc; " {} {} {}", label.flag, label.size, label.extra)?;
-    text.push_str(more.as_str())?;
+    let (at, name) = (one.at, name_of(label.name.bytes()));
+    let mut text = format!(in alloc;
+        "{at} {} {name} {} {} {}",
+        label.kind, label.flag, label.size, label.extra
+    )?;
     for part in label.parts.items() {
-        text.push(' ')?;
-        put_name(&mut text, part.name.bytes())?;
-        let more = format!(in alloc; "={}", part.value)?;
-        text.push_str(more.as_str())?;
+        let name = name_of(part.name.bytes());
+        append(&mut text, format!(in alloc; " {name}={}", part.value))?;
     }
-    for target in one.targets.items() {
-        let more = match target {
-            Target::Void => format!(in alloc; " void")?,
-            Target::Index => format!(in alloc; " index")?,
-            Target::Entry { from, to } => format!(in alloc; " {from}:{to}")?,
-        };
-        text.push_str(more.as_str())?;
-    }
+    put_targets(alloc, &mut text, one.targets.items())?;
     Ok(text)
 }
 
@@ -265,9 +171,26 @@ fn lines_in(alloc: Global, file: &[u8]) -> Result<Result<Vec<String>, TypeFault>
 
 /// The lines of the types of a unit of these entries, or its refusal.
 fn lines(alloc: Global, entries: &[u8]) -> Result<Result<Vec<String>, TypeFault>, Fail> {
-    let info = info_of(alloc, entries)?;
-    let file = file_of(alloc, info.as_slice(), ABBREVIATIONS, &[])?;
-    lines_in(alloc, file.as_slice())
+    lines_in(alloc, &file_of(alloc, entries)?)
+}
+
+/// Whether lines are those that are wanted.
+fn are_lines(found: &[String], wanted: &[&str]) -> bool {
+    for (one, line) in found.iter().zip(wanted.iter()) {
+        if one.as_str() != *line {
+            return false;
+        }
+    }
+    found.len() == wanted.len()
+}
+
+/// Whether what came of a file is what is wanted: its lines, or its first refusal.
+fn is_wanted(found: &Result<Vec<String>, TypeFault>, wanted: Result<&[&str], TypeFault>) -> bool {
+    match (found, wanted) {
+        (Ok(found), Ok(lines)) => are_lines(found.as_slice(), lines),
+        (Err(found), Err(fault)) => *found == fault,
+        _ => false,
+    }
 }
 
 /// Holds the types of entries behind the root, which begin at offset 13, against lines.
@@ -275,15 +198,8 @@ fn compare(rt: &impl Abort, alloc: Global, entries: &[u8], wanted: &[&str]) -> R
     let mut bytes = Vec::from_slice(alloc, &[1])?;
     bytes.extend_from_slice(entries)?;
     bytes.push(0)?;
-    match lines(alloc, bytes.as_slice())? {
-        Ok(found) => {
-            assert_eq!(rt; found.len(), wanted.len(), "{entries:?}");
-            for (one, line) in found.iter().zip(wanted.iter()) {
-                assert_eq!(rt; one.as_str(), *line);
-            }
-        }
-        Err(fault) => assert!(rt; false, "{entries:?}: {fault:?}"),
-    }
+    let found = lines(alloc, bytes.as_slice())?;
+    assert!(rt; is_wanted(&found, Ok(wanted)), "{entries:?}: {found:?}");
     Ok(())
 }
 

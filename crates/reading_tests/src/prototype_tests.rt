@@ -1,17 +1,15 @@
 //! Units in bytes, and the prototypes of their functions.
-ghost use Rattle.std.specs.Prelude.{◌≡◌, ℕ, List, All, IfOk, IfSome, OnOk};
-ghost use Rattle.elf_sections.specs.Images.{file_of as bytes_of};
-ghost use Rattle.entry_tree.specs.Contexts.{IsUnitOf};
+ghost use Rattle.std.specs.Prelude.{All, IfSome};
 ghost use Rattle.unit_graph.specs.Links.{IsGraphOf};
 ghost use Rattle.unit_graph.specs.Sources.{IsReadable};
-ghost use Rattle.unit_graph.specs.Tables.{AreOf, AreOfFiles};
 
-use c_model::{Graph, Ref};
+use c_model::Graph;
 use c_types::TypeFault;
-use elf_sections::Image;
-use entry_tree::{Unit, units};
 use func_types::{FuncFault, FuncUnit, Protos, prototypes};
-use std::alloc::{AllocError, Global};
+use small_files::bytes::{info_of, plain_file};
+use small_files::texts::{append, put_refs, text_of};
+use small_files::units::units_of_two;
+use std::alloc::Global;
 use std::test::Fail;
 use std::thread::Threads;
 use unit_encoder::encode;
@@ -27,124 +25,6 @@ const ABBREVIATIONS: &[u8] = &[
     6, 0x05, 0, 0x03, 0x08, 0, 0, // with name
     0,
 ];
-
-/// Puts a number of `width` bytes behind others, the lowest byte first.
-fn put(file: &mut Vec<u8>, number: u64, width: u32) -> Result<(), AllocError> {
-    for byte in number.to_le_bytes().iter().take(width as usize) {
-        file.push(*byte)?;
-    }
-    Ok(())
-}
-
-/// Puts a section header.
-fn put_header(
-    file: &mut Vec<u8>,
-    name: u64,
-    kind: u64,
-    at: u64,
-    size: u64,
-) -> Result<(), AllocError> {
-    put(file, name, 4)?;
-    put(file, kind, 4)?;
-    for number in [0, 0, at, size, 0, 0, 0] {
-        put(file, number, 8)?;
-    }
-    Ok(())
-}
-
-/// The bytes of units of these entries.
-fn info_of(alloc: Global, units: &[&[u8]]) -> Result<Vec<u8>, AllocError> {
-    let mut info = Vec::new(alloc);
-    for entries in units {
-        put(&mut info, (entries.len() as u64).wrapping_add(8), 4)?;
-        info.extend_from_slice(&[5, 0, 1, 8, 0, 0, 0, 0])?;
-        info.extend_from_slice(entries)?;
-    }
-    Ok(info)
-}
-
-/// A file of 64 bits, little-endian, with these units and the abbreviations of all cases.
-fn file_with<'s>(alloc: Global, info: &'s [u8]) -> Result<Vec<u8>, AllocError> {
-    let names: &'s [u8] = b"\0.debug_info\0.debug_abbrev\0";
-    let mut file = Vec::new(alloc);
-    file.extend_from_slice(b"\x7fELF\x02\x01\x01\0\0\0\0\0\0\0\0\0")?;
-    put(&mut file, 2, 2)?;
-    put(&mut file, 62, 2)?;
-    put(&mut file, 1, 4)?;
-    put(&mut file, 0, 8)?;
-    put(&mut file, 0, 8)?;
-    put(&mut file, 64, 8)?;
-    put(&mut file, 0, 4)?;
-    for half in [64, 0, 0, 64, 4, 3] {
-        put(&mut file, half, 2)?;
-    }
-    put_header(&mut file, 0, 0, 0, 0)?;
-    let mut at = 64 + 4 * 64;
-    for (name, section) in [(1u64, info), (13, ABBREVIATIONS), (0, names)] {
-        put_header(&mut file, name, 1, at, section.len() as u64)?;
-        at = at.wrapping_add(section.len() as u64);
-    }
-    for section in [info, ABBREVIATIONS, names] {
-        file.extend_from_slice(section)?;
-    }
-    Ok(file)
-}
-
-/// One unit more, where it has fewer than 2^32 bytes.
-#[tactic(auto, using(crate::proofs::Keeping::files_more))]
-fn push_readable<'a>(
-    all: &mut Vec<FuncUnit<'a>>,
-    file: u32,
-    image: Image<'a>,
-    unit: Unit,
-) -> Result<(), AllocError>
-    requires unit { IsUnitOf (bytes_of image) unit }
-    requires readable { All IsReadable all.old.items }
-    ensures readable { OnOk result (All IsReadable all.new.items) }
-    ensures files { OnOk result ((files : ℕ → List ℕ) → bytes_of image.entry ≡ files file
-        → AreOf files all.old.items → AreOf files all.new.items) }
-{
-    if unit.end.saturating_sub(unit.at) < 1 << 32 {
-        all.push(FuncUnit { file, image, unit })?;
-    }
-    Ok(())
-}
-
-/// Puts the units of a file of this number behind others.
-fn push_units<'a>(
-    alloc: Global,
-    all: &mut Vec<FuncUnit<'a>>,
-    file: u32,
-    bytes: &'a [u8],
-) -> Result<(), Fail>
-    requires readable { All IsReadable all.old.items }
-    ensures readable { OnOk result (All IsReadable all.new.items) }
-    ensures files { OnOk result ((files : ℕ → List ℕ) → bytes.now ≡ files file
-        → AreOf files all.old.items → AreOf files all.new.items) }
-{
-    if let Ok(image) = Image::read(bytes) {
-        let list = units(alloc, &image)?;
-        for i in 0..list.items().len() {
-            push_readable(all, file, image, list.items()[i])?;
-        }
-    }
-    Ok(())
-}
-
-/// The units of two files.
-fn units_of_two<'a>(
-    alloc: Global,
-    first: &'a [u8],
-    second: &'a [u8],
-) -> Result<Vec<FuncUnit<'a>>, Fail>
-    ensures readable { IfOk result (λ v. All IsReadable v.items) }
-    ensures files { IfOk result (λ v. AreOfFiles v.items) }
-{
-    let mut all = Vec::new(alloc);
-    push_units(alloc, &mut all, 0, first)?;
-    push_units(alloc, &mut all, 1, second)?;
-    Ok(all)
-}
 
 /// The graph of the types of some units; none where these are refused.
 fn types_of<'a, R: Threads + Sync>(
@@ -169,22 +49,16 @@ fn types_of<'a, R: Threads + Sync>(
 fn line(alloc: Global, protos: &Protos<'_>) -> Result<String, Fail> {
     let mut text = String::new(alloc);
     for func in protos.funcs.items() {
-        for byte in func.name.bytes() {
-            text.push(char::from(*byte))?;
-        }
+        text.push_str(text_of(func.name.bytes()))?;
         if func.proto >= protos.graph.len() {
             return Ok(text);
         }
         let node = protos.graph.node(func.proto);
-        let more = format!(in alloc; " {} {}:{}", func.external, func.proto, node.label.kind)?;
-        text.push_str(more.as_str())?;
-        for target in node.targets.items() {
-            let more = match target {
-                Ref::Void => format!(in alloc; ",void")?,
-                Ref::Node(x) => format!(in alloc; ",{x}")?,
-            };
-            text.push_str(more.as_str())?;
-        }
+        append(
+            &mut text,
+            format!(in alloc; " {} {}:{}", func.external, func.proto, node.label.kind),
+        )?;
+        put_refs(alloc, &mut text, node.targets.items())?;
         text.push_str("; ")?;
     }
     Ok(text)
@@ -198,9 +72,8 @@ fn answer<R: Threads + Sync>(
     first: &[&[u8]],
     second: &[&[u8]],
 ) -> Result<Result<String, FuncFault>, Fail> {
-    let (first, second) = (info_of(alloc, first)?, info_of(alloc, second)?);
-    let first = file_with(alloc, first.as_slice())?;
-    let second = file_with(alloc, second.as_slice())?;
+    let first = plain_file(alloc, &info_of(alloc, first)?, ABBREVIATIONS)?;
+    let second = plain_file(alloc, &info_of(alloc, second)?, ABBREVIATIONS)?;
     let all = units_of_two(alloc, first.as_slice(), second.as_slice())?;
     if all.len() as u64 >= 1 << 32 {
         return Ok(Err(FuncFault::Memory));

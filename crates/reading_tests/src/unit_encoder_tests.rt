@@ -1,17 +1,16 @@
 //! Units in bytes, and their graph.
-ghost use Rattle.std.specs.Prelude.{◌≡◌, ◌≤◌, ℕ, List, All, IfOk, OnOk};
-ghost use Rattle.elf_sections.specs.Images.{file_of as bytes_of};
-ghost use Rattle.entry_tree.specs.Contexts.{IsUnitOf};
+ghost use Rattle.std.specs.Prelude.{◌≤◌, All};
 ghost use Rattle.unit_graph.specs.Sources.{IsReadable};
-ghost use Rattle.unit_graph.specs.Tables.{AreOf, AreOfFiles};
 
-use c_model::{Graph, Ref};
+use c_model::Graph;
 use c_types::TypeFault;
+use dw_base::Order;
 use dwarf_abbrev::AbbrevFault;
-use elf_sections::Image;
-use entry_tree::{Unit, units};
+use small_files::bytes::{info_of, plain_file, put_unit};
+use small_files::gates::{Held, Told};
+use small_files::texts::{append, put_refs};
+use small_files::units::{push_units, units_of_two};
 use std::alloc::{AllocError, Global};
-use std::sync::atomic::{AtomicBool, AtomicU64, Ordering};
 use std::test::Fail;
 use std::thread::Threads;
 use unit_encoder::{EncodeFault, encode, encode_files};
@@ -38,117 +37,9 @@ const ABBREVIATIONS: &[u8] = &[
     0,
 ];
 
-/// Puts a number of `width` bytes behind others, the lowest byte first.
-fn put(file: &mut Vec<u8>, number: u64, width: u32) -> Result<(), AllocError> {
-    for byte in number.to_le_bytes().iter().take(width as usize) {
-        file.push(*byte)?;
-    }
-    Ok(())
-}
-
-/// Puts a section header.
-fn put_header(
-    file: &mut Vec<u8>,
-    name: u64,
-    kind: u64,
-    at: u64,
-    size: u64,
-) -> Result<(), AllocError> {
-    put(file, name, 4)?;
-    put(file, kind, 4)?;
-    for number in [0, 0, at, size, 0, 0, 0] {
-        put(file, number, 8)?;
-    }
-    Ok(())
-}
-
-/// Puts a unit of these entries, whose abbreviations stand at this offset.
-fn put_unit(info: &mut Vec<u8>, abbrev_at: u64, entries: &[u8]) -> Result<(), AllocError> {
-    put(info, (entries.len() as u64).wrapping_add(8), 4)?;
-    info.extend_from_slice(&[5, 0, 1, 8])?;
-    put(info, abbrev_at, 4)?;
-    info.extend_from_slice(entries)
-}
-
 /// A file with units of these entries and the abbreviations of all cases.
 fn file_of(alloc: Global, units: &[&[u8]]) -> Result<Vec<u8>, AllocError> {
-    let mut info = Vec::new(alloc);
-    for entries in units {
-        put_unit(&mut info, 0, entries)?;
-    }
-    file_with(alloc, info.as_slice(), ABBREVIATIONS)
-}
-
-/// A file of 64 bits, little-endian, with these units and abbreviations.
-fn file_with<'s>(
-    alloc: Global,
-    info: &'s [u8],
-    abbreviations: &'s [u8],
-) -> Result<Vec<u8>, AllocError> {
-    let names: &'s [u8] = b"\0.debug_info\0.debug_abbrev\0";
-    let mut file = Vec::new(alloc);
-    file.extend_from_slice(b"\x7fELF\x02\x01\x01\0\0\0\0\0\0\0\0\0")?;
-    put(&mut file, 2, 2)?;
-    put(&mut file, 62, 2)?;
-    put(&mut file, 1, 4)?;
-    put(&mut file, 0, 8)?;
-    put(&mut file, 0, 8)?;
-    put(&mut file, 64, 8)?;
-    put(&mut file, 0, 4)?;
-    for half in [64, 0, 0, 64, 4, 3] {
-        put(&mut file, half, 2)?;
-    }
-    put_header(&mut file, 0, 0, 0, 0)?;
-    let mut at = 64 + 4 * 64;
-    for (name, section) in [(1u64, info), (13, abbreviations), (0, names)] {
-        put_header(&mut file, name, 1, at, section.len() as u64)?;
-        at = at.wrapping_add(section.len() as u64);
-    }
-    for section in [info, abbreviations, names] {
-        file.extend_from_slice(section)?;
-    }
-    Ok(file)
-}
-
-/// One unit more, where it has fewer than 2^32 bytes.
-#[tactic(auto, using(crate::proofs::Keeping::files_more))]
-fn push_readable<'a>(
-    all: &mut Vec<UnitAt<'a>>,
-    file: u32,
-    image: Image<'a>,
-    unit: Unit,
-) -> Result<(), AllocError>
-    requires unit { IsUnitOf (bytes_of image) unit }
-    requires readable { All IsReadable all.old.items }
-    ensures readable { OnOk result (All IsReadable all.new.items) }
-    ensures files { OnOk result ((files : ℕ → List ℕ) → bytes_of image.entry ≡ files file
-        → AreOf files all.old.items → AreOf files all.new.items) }
-{
-    if unit.end.saturating_sub(unit.at) < 1 << 32 {
-        all.push(UnitAt { file, image, unit })?;
-    }
-    Ok(())
-}
-
-/// Puts the units of a file of this number behind others.
-fn push_units<'a>(
-    alloc: Global,
-    all: &mut Vec<UnitAt<'a>>,
-    file: u32,
-    bytes: &'a [u8],
-) -> Result<(), Fail>
-    requires readable { All IsReadable all.old.items }
-    ensures readable { OnOk result (All IsReadable all.new.items) }
-    ensures files { OnOk result ((files : ℕ → List ℕ) → bytes.now ≡ files file
-        → AreOf files all.old.items → AreOf files all.new.items) }
-{
-    if let Ok(image) = Image::read(bytes) {
-        let list = units(alloc, &image)?;
-        for i in 0..list.items().len() {
-            push_readable(all, file, image, list.items()[i])?;
-        }
-    }
-    Ok(())
+    plain_file(alloc, &info_of(alloc, units)?, ABBREVIATIONS)
 }
 
 /// The nodes in a line: kind, last word, and what they refer to.
@@ -156,35 +47,15 @@ fn line(alloc: Global, graph: &Graph<'_>) -> Result<String, Fail> {
     let mut text = String::new(alloc);
     for x in 0..graph.len() {
         let node = graph.node(x);
-        let one = format!(in alloc; "{}:{}", node.label.kind, node.label.extra)?;
-        text.push_str(one.as_str())?;
-        for target in node.targets.items() {
-            let more = match target {
-                Ref::Void => format!(in alloc; ",void")?,
-                Ref::Node(y) => format!(in alloc; ",{y}")?,
-            };
-            text.push_str(more.as_str())?;
-        }
+        let label = &node.label;
+        append(
+            &mut text,
+            format!(in alloc; "{}:{}", label.kind, label.extra),
+        )?;
+        put_refs(alloc, &mut text, node.targets.items())?;
         text.push_str(" ")?;
     }
     Ok(text)
-}
-
-/// A gate that keeps the numbers that it was told, as digits from 1.
-#[derive(Drop)]
-struct Told {
-    digits: AtomicU64,
-}
-
-impl Gate for Told {
-    fn enter(&self, unit: u32) {
-        let before = self.digits.load(Ordering::SeqCst);
-        let digit = u64::from(unit).wrapping_add(1);
-        self.digits.store(
-            before.wrapping_mul(10).wrapping_add(digit),
-            Ordering::SeqCst,
-        );
-    }
 }
 
 /// The graph of some units in a line, or why there is none.
@@ -414,55 +285,25 @@ fn compiled_units(rt: HostRuntime) -> Result<(), Fail> {
         (&[typedef_of_root], 1, Err(out(14, 12, 0x11))),
     ];
     for (units, told, wanted) in cases {
-        let gate = Told {
-            digits: AtomicU64::new(0),
-        };
+        let gate = Told::new();
         let files = one_file(alloc, units)?;
         match answer_of(&rt, alloc, &gate, 1, 10, &[0], files.as_slice())? {
             Ok(found) => assert_eq!(rt; Ok(found.as_str()), wanted),
             Err(fault) => assert_eq!(rt; Err(fault), wanted),
         }
-        assert_eq!(rt; gate.digits.load(Ordering::SeqCst), told);
+        assert_eq!(rt; gate.digits(), told);
     }
     Ok(())
-}
-
-/// How often the gate below looks.
-const LOOKS: u32 = 100_000_000;
-
-/// A gate that holds unit 0 until unit 1 was entered, and keeps whether it saw that.
-#[derive(Drop)]
-struct Held {
-    entered: AtomicBool,
-    seen: AtomicBool,
-}
-
-impl Gate for Held {
-    fn enter(&self, unit: u32) {
-        if unit == 1 {
-            self.entered.store(true, Ordering::SeqCst);
-            return;
-        }
-        for _ in 0..LOOKS {
-            if self.entered.load(Ordering::SeqCst) {
-                self.seen.store(true, Ordering::SeqCst);
-                return;
-            }
-        }
-    }
 }
 
 /// Two workers read two units at the same time: the first is held until the second has begun.
 #[test]
 fn two_workers(rt: HostRuntime) -> Result<(), Fail> {
     let alloc = rt.alloc();
-    let gate = Held {
-        entered: AtomicBool::new(false),
-        seen: AtomicBool::new(false),
-    };
+    let gate = Held::new();
     let files = one_file(alloc, &[ITSELF, INT])?;
     let answer = answer_of(&rt, alloc, &gate, 2, 8, &[0], files.as_slice())?;
-    assert!(rt; gate.seen.load(Ordering::SeqCst));
+    assert!(rt; gate.has_seen());
     match answer {
         Ok(found) => assert_eq!(rt; found.as_str(), "2:0,0 1:16777248 "),
         Err(fault) => return Err(Fail::from(fault)),
@@ -476,21 +317,6 @@ const AS_STRUCTURE: &[u8] = &[
     2, 0x13, 0, 0x03, 0x08, 0x0b, 0x0b, 0x3e, 0x0b, 0, 0, // structure_type with name, byte_size, encoding
     0,
 ];
-
-/// The units of two files, which have the numbers 0 and 1.
-fn units_of_two<'a>(
-    alloc: Global,
-    first: &'a [u8],
-    second: &'a [u8],
-) -> Result<Vec<UnitAt<'a>>, Fail>
-    ensures readable { IfOk result (λ v. All IsReadable v.items) }
-    ensures files { IfOk result (λ v. AreOfFiles v.items) }
-{
-    let mut all = Vec::new(alloc);
-    push_units(alloc, &mut all, 0, first)?;
-    push_units(alloc, &mut all, 1, second)?;
-    Ok(all)
-}
 
 /// The graph of the units of two files in a line, or why there is none.
 fn answer_of_two<R: Threads + Sync>(
@@ -510,6 +336,15 @@ fn answer_of_two<R: Threads + Sync>(
         Ok(graph) => Ok(Ok(line(alloc, &graph.unpack(alloc)?)?)),
         Err(fault) => Ok(Err(fault)),
     }
+}
+
+/// Units of the entries of `INT`, whose abbreviations stand at these offsets.
+fn ints_at(alloc: Global, offsets: &[u64]) -> Result<Vec<u8>, AllocError> {
+    let mut info = Vec::new(alloc);
+    for at in offsets {
+        put_unit(&mut info, Order::Little, 5, *at, INT)?;
+    }
+    Ok(info)
 }
 
 /// A table is read by the place that a unit names in its own file. Each unit has the entries of
@@ -535,16 +370,8 @@ fn tables(rt: HostRuntime) -> Result<(), Fail> {
         (&[0, 0, 999, 0], &[0], Err(truncated)),
     ];
     for (first, second, wanted) in cases {
-        let mut info = Vec::new(alloc);
-        for at in first {
-            put_unit(&mut info, *at, INT)?;
-        }
-        let file = file_with(alloc, info.as_slice(), ints_first.as_slice())?;
-        let mut info = Vec::new(alloc);
-        for at in second {
-            put_unit(&mut info, *at, INT)?;
-        }
-        let other = file_with(alloc, info.as_slice(), structures_first.as_slice())?;
+        let file = plain_file(alloc, &ints_at(alloc, first)?, ints_first.as_slice())?;
+        let other = plain_file(alloc, &ints_at(alloc, second)?, structures_first.as_slice())?;
         for jobs in [1, 2, 256] {
             match answer_of_two(&rt, alloc, jobs, file.as_slice(), other.as_slice())? {
                 Ok(found) => assert_eq!(rt; Ok(found.as_str()), wanted),

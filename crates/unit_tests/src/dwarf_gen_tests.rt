@@ -1,10 +1,21 @@
 //! What the readers make of made images, and the sizes that numbers stand for.
 mod types;
 
-use crate::files::{types_of, units_of};
+ghost use Rattle.unit_graph.specs.Sources.{IsReadable};
+
+use c_types::{UnitTypes, types_of_unit};
 use dwarf_gen::{elf_of, spec_of};
+use small_files::units::units_of;
 use std::alloc::Global;
 use std::test::Fail;
+use unit_graph::UnitAt;
+
+/// The types of a unit.
+fn types_of<'a>(alloc: Global, at: &UnitAt<'a>) -> Result<UnitTypes<'a>, Fail>
+    requires { IsReadable at.now }
+{
+    Ok(types_of_unit(alloc, &at.image, &at.unit)?)
+}
 
 /// How many units, types and bytes the image has that a number gives.
 fn counts(alloc: Global, number: u64) -> Result<[usize; 3], Fail> {

@@ -4,6 +4,4 @@
 #[cfg(test)]
 mod dwarf_gen_tests;
 #[cfg(test)]
-mod files;
-#[cfg(test)]
 mod unit_graph_tests;

@@ -1,7 +1,8 @@
 //! Places, links and tags, by hand and of units in bytes.
-use crate::files::{file_of, put_unit, units_of};
 use c_model::Ref;
 use c_types::Target;
+use small_files::bytes::{info_of, plain_file};
+use small_files::units::units_of;
 use std::alloc::{AllocError, Global};
 use std::test::Fail;
 use unit_graph::{Out, Places, Row, find_tag, link_targets, types_by};
@@ -96,11 +97,7 @@ const UNITS: [&[u8]; 3] = [
 
 /// A file of these units.
 fn three_units(alloc: Global) -> Result<Vec<u8>, AllocError> {
-    let mut info = Vec::new(alloc);
-    for entries in UNITS {
-        put_unit(&mut info, entries)?;
-    }
-    file_of(alloc, info.as_slice(), ABBREVIATIONS)
+    plain_file(alloc, &info_of(alloc, &UNITS)?, ABBREVIATIONS)
 }
 
 /// The tag at an offset of a file: of a type or not, in the first unit or a later one, and 0 where

@@ -2,6 +2,7 @@
 use super::types_in;
 use dw_base::Order;
 use dwarf_forms::FormFault;
+use small_files::bytes::{Sections, file_of, put, put_unit};
 use std::alloc::{AllocError, Global};
 use std::process::Abort;
 use std::test::Fail;
@@ -33,115 +34,36 @@ const ABBREVIATIONS: &[u8] = &[
     0,
 ];
 
-/// Puts a number of `width` bytes behind others.
-fn put(file: &mut Vec<u8>, order: Order, number: u64, width: usize) -> Result<(), AllocError> {
-    match order {
-        Order::Little => {
-            for byte in number.to_le_bytes().iter().take(width) {
-                file.push(*byte)?;
-            }
-        }
-        Order::Big => {
-            for byte in number
-                .to_be_bytes()
-                .iter()
-                .skip(8usize.saturating_sub(width))
-            {
-                file.push(*byte)?;
-            }
-        }
-    }
-    Ok(())
-}
-
-/// Puts a section header.
-fn put_header(
-    file: &mut Vec<u8>,
-    order: Order,
-    name: u64,
-    at: u64,
-    size: u64,
-) -> Result<(), AllocError> {
-    put(file, order, name, 4)?;
-    put(file, order, 1, 4)?;
-    for number in [0, 0, at, size, 0, 0, 0] {
-        put(file, order, number, 8)?;
-    }
-    Ok(())
-}
-
-/// A unit of these entries behind its root. They begin at offset 12 in version 4, and at 13 in
-/// version 5.
-fn info_of(
+/// A file with a unit of these entries behind its root. They begin at offset 12 in version 4, and at
+/// 13 in version 5.
+fn unit_file(
     alloc: Global,
     order: Order,
-    version: u64,
+    version: u16,
     entries: &[u8],
 ) -> Result<Vec<u8>, AllocError> {
+    let mut all = Vec::from_slice(alloc, &[1])?;
+    all.extend_from_slice(entries)?;
+    all.push(0)?;
     let mut info = Vec::new(alloc);
-    let header = if version == 4 { 9u64 } else { 10 };
-    put(
-        &mut info,
-        order,
-        header.wrapping_add(entries.len() as u64),
-        4,
-    )?;
-    put(&mut info, order, version, 2)?;
-    if version != 4 {
-        info.extend_from_slice(&[1, 8])?;
-    }
-    put(&mut info, order, 0, 4)?;
-    if version == 4 {
-        info.push(8)?;
-    }
-    info.push(1)?;
-    info.extend_from_slice(entries)?;
-    info.push(0)?;
-    Ok(info)
-}
-
-/// A file of 64 bits with a unit and its abbreviations.
-fn file_of(alloc: Global, order: Order, info: &[u8]) -> Result<Vec<u8>, AllocError> {
-    let names = b"\0.debug_info\0.debug_abbrev\0";
-    let data = match order {
-        Order::Little => 1,
-        Order::Big => 2,
+    put_unit(&mut info, order, version, 0, all.as_slice())?;
+    let sections = Sections {
+        info: &info,
+        abbrev: ABBREVIATIONS,
+        text: &[],
+        line_text: &[],
     };
-    let mut file = Vec::new(alloc);
-    file.extend_from_slice(&[
-        0x7f, 0x45, 0x4c, 0x46, 2, data, 1, 0, 0, 0, 0, 0, 0, 0, 0, 0,
-    ])?;
-    put(&mut file, order, 2, 2)?;
-    put(&mut file, order, 62, 2)?;
-    put(&mut file, order, 1, 4)?;
-    for number in [0, 0, 64] {
-        put(&mut file, order, number, 8)?;
-    }
-    put(&mut file, order, 0, 4)?;
-    for half in [64, 0, 0, 64, 4, 3] {
-        put(&mut file, order, half, 2)?;
-    }
-    file.extend_from_slice(&[0; 64])?;
-    let mut at = 64 + 4 * 64;
-    for (name, section) in [(1u64, info), (13, ABBREVIATIONS), (0, names)] {
-        put_header(&mut file, order, name, at, section.len() as u64)?;
-        at = at.wrapping_add(section.len() as u64);
-    }
-    for section in [info, ABBREVIATIONS, names] {
-        file.extend_from_slice(section)?;
-    }
-    Ok(file)
+    file_of(alloc, order, sections)
 }
 
 /// The words of the members of the first structure of a unit, or the first refusal.
 fn words(
     alloc: Global,
     order: Order,
-    version: u64,
+    version: u16,
     entries: &[u8],
 ) -> Result<Result<Vec<u64>, TypeFault>, Fail> {
-    let info = info_of(alloc, order, version, entries)?;
-    let file = file_of(alloc, order, info.as_slice())?;
+    let file = unit_file(alloc, order, version, entries)?;
     let found = match types_in(alloc, file.as_slice())? {
         Ok(found) => found,
         Err(fault) => return Ok(Err(fault)),
@@ -160,7 +82,7 @@ fn words(
 }
 
 /// What the members of a structure come to, in a file of an order and a unit of a version.
-type Case<'x> = (Order, u64, &'x [u8], Result<&'x [u64], TypeFault>);
+type Case<'x> = (Order, u16, &'x [u8], Result<&'x [u64], TypeFault>);
 
 /// Holds the words of members, or the first refusal, against those that are wanted.
 fn places(rt: &impl Abort, alloc: Global, cases: &[Case<'_>]) -> Result<(), Fail> {

@@ -1,6 +1,6 @@
 //! Units with many parts and with deep nests. Each would take hours, were every structure to read
 //! all that stands deeper than its members.
-use super::{ABBREVIATIONS, file_of, info_of, types_in};
+use super::{file_of, types_in};
 use std::alloc::{AllocError, Global};
 use std::test::Fail;
 use type_attributes::fault::TypeFault;
@@ -16,8 +16,7 @@ fn put_times(entries: &mut Vec<u8>, bytes: &[u8], times: u32) -> Result<(), Allo
 /// How many types a unit of these entries has, and how many parts these have together; or its
 /// refusal.
 fn counts(alloc: Global, entries: &[u8]) -> Result<Result<(usize, usize), TypeFault>, Fail> {
-    let info = info_of(alloc, entries)?;
-    let file = file_of(alloc, info.as_slice(), ABBREVIATIONS, &[])?;
+    let file = file_of(alloc, entries)?;
     let found = match types_in(alloc, file.as_slice())? {
         Ok(found) => found,
         Err(fault) => return Ok(Err(fault)),
@@ -33,6 +32,9 @@ fn counts(alloc: Global, entries: &[u8]) -> Result<Result<(usize, usize), TypeFa
     Ok(Ok((types, parts)))
 }
 
+/// What comes of a type at 13 with one part too many.
+const TOO_MANY: Result<(usize, usize), TypeFault> = Err(TypeFault::TooMany(13, 65_536));
+
 /// A type has at most 65,535 parts. Too many of them are refused at the type, before a refusal of a
 /// part and before those of higher numbers.
 #[test]
@@ -45,58 +47,16 @@ fn many_parts(rt: HostRuntime) -> Result<(), Fail> {
     let rest: &[u8] = &[28, 0];
     let cases: [(&[u8], &[u8], u32, &[u8], Result<(usize, usize), TypeFault>); 11] = [
         (structure, member, 65_535, &[0], Ok((1, 65_535))),
-        (
-            structure,
-            member,
-            65_536,
-            &[0],
-            Err(TypeFault::TooMany(13, 65_536)),
-        ),
+        (structure, member, 65_536, &[0], TOO_MANY),
         (enumeration, enumerator, 65_535, &[0], Ok((1, 65_535))),
-        (
-            enumeration,
-            enumerator,
-            65_536,
-            &[0],
-            Err(TypeFault::TooMany(13, 65_536)),
-        ),
-        (
-            &[15, 0x65, 0, 3],
-            enumerator,
-            65_536,
-            &[0],
-            Err(TypeFault::TooMany(13, 65_536)),
-        ),
+        (enumeration, enumerator, 65_536, &[0], TOO_MANY),
+        (&[15, 0x65, 0, 3], enumerator, 65_536, &[0], TOO_MANY),
         (&[25], parameter, 65_535, &[0], Ok((1, 65_535))),
-        (
-            &[25],
-            parameter,
-            65_536,
-            &[0],
-            Err(TypeFault::TooMany(13, 65_536)),
-        ),
+        (&[25], parameter, 65_536, &[0], TOO_MANY),
         (&[25], parameter, 65_534, rest, Ok((1, 65_535))),
-        (
-            &[25],
-            parameter,
-            65_535,
-            rest,
-            Err(TypeFault::TooMany(13, 65_536)),
-        ),
-        (
-            structure,
-            &[10, 0x6d, 0],
-            65_536,
-            &[0],
-            Err(TypeFault::TooMany(13, 65_536)),
-        ),
-        (
-            &[35, 0x73, 0, 0x7f],
-            member,
-            65_536,
-            &[0],
-            Err(TypeFault::TooMany(13, 65_536)),
-        ),
+        (&[25], parameter, 65_535, rest, TOO_MANY),
+        (structure, &[10, 0x6d, 0], 65_536, &[0], TOO_MANY),
+        (&[35, 0x73, 0, 0x7f], member, 65_536, &[0], TOO_MANY),
     ];
     for (head, part, times, tail, wanted) in cases {
         let mut entries = Vec::from_slice(rt.alloc(), &[1])?;

@@ -1,9 +1,10 @@
 //! Refusals: the least entries that have each, which of two comes first, and the last values that
 //! are accepted.
-use super::{compare, file_of, info_of, lines, lines_in};
+use super::{compare, is_wanted, lines, lines_in};
 use dwarf_abbrev::AbbrevFault;
 use dwarf_forms::FormFault;
 use entry_tree::WalkFault;
+use small_files::bytes::{info_of, plain_file};
 use std::alloc::Global;
 use std::process::Abort;
 use std::test::Fail;
@@ -19,10 +20,11 @@ fn refuses(rt: &impl Abort, alloc: Global, cases: &[Refused<'_>]) -> Result<(), 
         let mut bytes = Vec::from_slice(alloc, &[1])?;
         bytes.extend_from_slice(entries)?;
         bytes.push(0)?;
-        match lines(alloc, bytes.as_slice())? {
-            Ok(_) => assert!(rt; false, "{entries:?}: no {fault:?}"),
-            Err(found) => assert_eq!(rt; found, *fault, "{entries:?}"),
-        }
+        let found = lines(alloc, bytes.as_slice())?;
+        assert!(rt;
+            is_wanted(&found, Err(*fault)),
+            "{entries:?}: {found:?}, no {fault:?}"
+        );
     }
     Ok(())
 }
@@ -320,7 +322,7 @@ fn walk_first(rt: HostRuntime) -> Result<(), Fail> {
 /// A fault of the abbreviations comes before one of the root.
 #[test]
 fn abbreviations_first(rt: HostRuntime) -> Result<(), Fail> {
-    let info = info_of(rt.alloc(), &[0])?;
+    let info = info_of(rt.alloc(), &[&[0]])?;
     let tables: [(&[u8], TypeFault); 3] = [
         (
             &[1, 0x24, 2, 0, 0, 0],
@@ -336,11 +338,12 @@ fn abbreviations_first(rt: HostRuntime) -> Result<(), Fail> {
         ),
     ];
     for (table, fault) in tables {
-        let file = file_of(rt.alloc(), info.as_slice(), table, &[])?;
-        match lines_in(rt.alloc(), file.as_slice())? {
-            Ok(_) => assert!(rt; false, "no {fault:?}"),
-            Err(found) => assert_eq!(rt; found, fault),
-        }
+        let file = plain_file(rt.alloc(), &info, table)?;
+        let found = lines_in(rt.alloc(), file.as_slice())?;
+        assert!(rt;
+            is_wanted(&found, Err(fault)),
+            "{table:?}: {found:?}, no {fault:?}"
+        );
     }
     Ok(())
 }

@@ -1,22 +1,13 @@
 //! What the reader of types makes of made units, against the stated types, which stand here once
 //! more: written from the sizes alone.
-use super::sizes_by;
-use crate::files::{types_of, units_of};
+use super::{sizes_by, types_of};
 use c_model::Label;
 use c_types::{SourceType, Target};
 use dwarf_gen::{elf_of, spec_of};
+use small_files::texts::{append, text_of};
+use small_files::units::units_of;
 use std::alloc::{AllocError, Global};
 use std::test::Fail;
-
-/// A name as text.
-fn text_of(bytes: &[u8]) -> &str {
-    std::str::from_utf8(bytes).unwrap_or("")
-}
-
-/// Appends a piece, if there was memory for it.
-fn append(text: &mut String, piece: Result<String, AllocError>) -> Result<(), AllocError> {
-    text.push_str(piece?.as_str())
-}
 
 /// Appends an offset, and a label: kind, name, size, what else it tells, and parts.
 fn write_label(

@@ -1,7 +1,7 @@
 use Rattle.std.proofs.Common.{◌≡◌, ℕ, List, All}
 use Rattle.unit_graph.specs.Sources.{IsReadable}
 use Rattle.unit_graph.specs.Tables.{AreOf}
-use Rattle.reading_tests.proofs.unit_encoder_tests.push_units.Given as goal
+use Rattle.small_files.proofs.units.push_units.Given as goal
 
 abbrev pub invariant-loop-i : goal.invariant-loop-i
 invariant-loop-i l = record {

@@ -1,7 +1,7 @@
 use Rattle.std.proofs.Common.{◌≡◌, ℕ, ◌==◌, List, if◌then◌else◌, refl}
 use Rattle.std.proofs.lemmas.List.Elements.{All-nil}
 use Rattle.unit_graph.specs.Sources.{FileUnit}
-use Rattle.reading_tests.proofs.unit_encoder_tests.units_of_two.Goals as goal
+use Rattle.small_files.proofs.units.units_of_two.Goals as goal
 
 two_files : List ℕ → List ℕ → ℕ → List ℕ
 two_files first second n = if n == 0 then first else second

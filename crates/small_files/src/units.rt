@@ -1,0 +1,87 @@
+//! The units of files, as those calls want them that read the units of several files.
+ghost use Rattle.std.specs.Prelude.{◌≡◌, ℕ, List, All, IfOk, OnOk};
+ghost use Rattle.elf_sections.specs.Images.{file_of as bytes_of};
+ghost use Rattle.entry_tree.specs.Contexts.{IsUnitOf};
+ghost use Rattle.unit_graph.specs.Sources.{IsReadable};
+ghost use Rattle.unit_graph.specs.Tables.{AreOf, AreOfFiles};
+
+use elf_sections::{ElfFault, Image};
+use entry_tree::{Unit, UnitFault, units};
+use std::alloc::{AllocError, Global};
+use thiserror::Error;
+use unit_graph::UnitAt;
+
+/// Why a file has no units.
+#[derive(Clone, Copy, Debug, PartialEq, Eq, Error)]
+pub enum NoUnits {
+    #[error("the file: {0}")]
+    File(#[from] ElfFault),
+    #[error("a header: {0}")]
+    Header(#[from] UnitFault),
+    #[error("out of memory")]
+    Memory(#[from] AllocError),
+}
+
+/// Puts one unit more, where it has fewer than 2^32 bytes.
+#[tactic(auto, using(crate::proofs::Keeping::files_more))]
+fn push_readable<'a>(
+    all: &mut Vec<UnitAt<'a>>,
+    file: u32,
+    image: Image<'a>,
+    unit: Unit,
+) -> Result<(), AllocError>
+    requires unit { IsUnitOf (bytes_of image) unit }
+    requires readable { All IsReadable all.old.items }
+    ensures readable { OnOk result (All IsReadable all.new.items) }
+    ensures files { OnOk result ((files : ℕ → List ℕ) → bytes_of image.entry ≡ files file
+        → AreOf files all.old.items → AreOf files all.new.items) }
+{
+    if unit.end.saturating_sub(unit.at) < 1 << 32 {
+        all.push(UnitAt { file, image, unit })?;
+    }
+    Ok(())
+}
+
+/// Puts the units of a file of this number behind others.
+pub fn push_units<'a>(
+    alloc: Global,
+    all: &mut Vec<UnitAt<'a>>,
+    file: u32,
+    bytes: &'a [u8],
+) -> Result<(), NoUnits>
+    requires readable { All IsReadable all.old.items }
+    ensures readable { OnOk result (All IsReadable all.new.items) }
+    ensures files { OnOk result ((files : ℕ → List ℕ) → bytes.now ≡ files file
+        → AreOf files all.old.items → AreOf files all.new.items) }
+{
+    let image = Image::read(bytes)?;
+    let list = units(alloc, &image)?;
+    for i in 0..list.items().len() {
+        push_readable(all, file, image, list.items()[i])?;
+    }
+    Ok(())
+}
+
+/// The units of one file, which has the number 0.
+pub fn units_of<'a>(alloc: Global, bytes: &'a [u8]) -> Result<Vec<UnitAt<'a>>, NoUnits>
+    ensures { IfOk result (λ v. All IsReadable v.items) }
+{
+    let mut all = Vec::new(alloc);
+    push_units(alloc, &mut all, 0, bytes)?;
+    Ok(all)
+}
+
+/// The units of two files, which have the numbers 0 and 1.
+pub fn units_of_two<'a>(
+    alloc: Global,
+    first: &'a [u8],
+    second: &'a [u8],
+) -> Result<Vec<UnitAt<'a>>, NoUnits>
+    ensures readable { IfOk result (λ v. All IsReadable v.items) }
+    ensures files { IfOk result (λ v. AreOfFiles v.items) }
+{
+    let mut all = Vec::new(alloc);
+    push_units(alloc, &mut all, 0, first)?;
+    push_units(alloc, &mut all, 1, second)?;
+    Ok(all)
+}
