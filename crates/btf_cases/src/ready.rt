@@ -1,41 +1,28 @@
 //! What calls ask of a table, tested.
 ghost use Rattle.std.specs.Prelude.{◌≡◌, ◌<◌, ◌≤◌, ◌^◌, IsTrue, All, length};
 ghost use Rattle.std.specs.List.{flat_map};
-ghost use Rattle.c_model.specs.Graph.{IsBelow, RefersWithin};
 ghost use Rattle.btf_codec.specs.Fields.{fields_of};
 ghost use Rattle.btf_codec.specs.Gives.{IsBefore};
 ghost use Rattle.btf_codec.specs.Spelling.{HasOffset, IsReady, IsReadyType};
 
 use btf_codec::{Table, TableOut};
 use btf_strings::Strings;
-use c_model::{CType, Part, Ref};
+use c_model::{CType, Part};
 use dw_base::Name;
+use small_graphs::fitting::{are_below, refer_to_one_another};
 
 /// Whether a table can come before another one.
 pub fn is_before(table: &Table<'_>) -> bool
     ensures { IsTrue result → IsBefore table.now }
 {
-    let types = table.types.items();
     let names = table.names;
-    if types.len() > 1_000_000 || names.is_empty() || names.len() > 1_000_000 {
+    if names.is_empty() || names.len() > 1_000_000 {
         return false;
     }
     table.base == 0
         && names[0] == 0
         && names[names.len() - 1] == 0
-        && refer_within(types.len() as u32, types)
-}
-
-/// Whether each reference of these types is void or to a type below `count`.
-fn refer_within(count: u32, types: &[CType<'_>]) -> bool
-    ensures { IsTrue result → RefersWithin count types.now }
-{
-    for t in types {
-        if !is_within(count, t.targets.items()) {
-            return false;
-        }
-    }
-    true
+        && refer_to_one_another(table.types.items())
 }
 
 /// Whether a table meets the conditions of `write`.
@@ -82,7 +69,7 @@ fn is_ready_type(strings: &Strings<'_>, count: u32, t: &CType<'_>) -> bool
 {
     has_offset(strings, &t.label.name)
         && has_offsets(strings, t.label.parts.items())
-        && is_within(count, t.targets.items())
+        && are_below(count, t.targets.items())
 }
 
 fn has_offset(strings: &Strings<'_>, name: &Name<'_>) -> bool
@@ -96,20 +83,6 @@ fn has_offsets(strings: &Strings<'_>, parts: &[Part<'_>]) -> bool
 {
     for part in parts {
         if !has_offset(strings, &part.name) {
-            return false;
-        }
-    }
-    true
-}
-
-/// Whether each target is void or a type below `count`.
-fn is_within(count: u32, targets: &[Ref]) -> bool
-    ensures { IsTrue result → All (IsBelow count) targets.now }
-{
-    for target in targets {
-        if let Ref::Node(number) = target
-            && *number >= count
-        {
             return false;
         }
     }

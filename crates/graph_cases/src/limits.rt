@@ -5,7 +5,7 @@ use crate::sizes::{
     Large, all_differ, classes_of_fours, empty_rounds, long_name_table, merged_large,
     ring_has_two_classes, table_len,
 };
-use crate::told::{tell, tell_holds, tell_number, tell_table};
+use crate::told::{tell, tell_found, tell_holds, tell_number};
 use split_base::TableFault;
 use std::alloc::Global;
 use std::thread::Threads;
@@ -42,9 +42,9 @@ pub fn fours_hold<R: Print + Threads + Sync>(rt: &R, alloc: Global) -> Result<bo
 fn are_apart<R: Print>(rt: &R, alloc: Global, ints: &Found<'_>) -> Result<bool, Fault> {
     let apart = all_differ(alloc, ints.refined.classes.numbers())?;
     let apart = tell_holds(rt, "1048576 sizes of INT, all differ", apart)?;
-    let table = table_len(alloc, ints)?;
-    tell_table(rt, "  their table", &table)?;
-    Ok(apart && table == Err(TableFault::TooManyTypes(1_048_576)))
+    let too_many = Err(TableFault::TooManyTypes(1_048_576));
+    let refused = tell_found(rt, "  their table", &table_len(alloc, ints)?, &too_many)?;
+    Ok(apart && refused)
 }
 
 /// A graph of more types than a table can have, no two of one class.
@@ -61,7 +61,5 @@ pub fn name_holds<R: Print + Threads + Sync>(
     bytes: usize,
     wanted: Result<usize, TableFault>,
 ) -> Result<bool, Fault> {
-    let table = long_name_table(rt, alloc, bytes)?;
-    tell_table(rt, what, &table)?;
-    Ok(table == wanted)
+    tell_found(rt, what, &long_name_table(rt, alloc, bytes)?, &wanted)
 }

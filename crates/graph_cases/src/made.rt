@@ -1,7 +1,7 @@
 //! Made graphs: rows are drawn, and mostly repeated with their references moved, so that equal
 //! types and cycles occur. Definitions are now and then replaced by declarations.
-use crate::rows::{ENUM, ENUM64, FWD, INT, NONE, PTR, Row, STRUCT, TYPEDEF, Table, UNION, bare};
-use small_graphs::rows::{Head, Piece};
+use crate::rows::{ENUM, ENUM64, FWD, INT, NONE, PTR, Row, STRUCT, TYPEDEF, Table, UNION, X, bare};
+use small_graphs::rows::{Head, POINTER, Piece};
 use std::alloc::{AllocError, Global};
 
 /// Numbers that look drawn, by a linear congruence modulo 2^64.
@@ -33,21 +33,8 @@ struct Pattern {
     steps: [u64; 2],
 }
 
-const ONE: &[Piece] = &[Piece {
-    name: b"x",
-    value: 0,
-}];
-
-const TWO: &[Piece] = &[
-    Piece {
-        name: b"x",
-        value: 0,
-    },
-    Piece {
-        name: b"y",
-        value: 64,
-    },
-];
+/// Two members of 64 bits, or two enumerators.
+const TWO: &[Piece] = &[(b"x", 0), (b"y", 64)];
 
 /// A name, seldom empty.
 fn drawn_name(draws: &mut Draws) -> &'static [u8] {
@@ -58,33 +45,26 @@ fn drawn_name(draws: &mut Draws) -> &'static [u8] {
     }
 }
 
-/// A type without parts, of no name.
-const PLAIN: Head = Head {
-    kind: PTR,
-    name: b"",
-    flag: false,
-    size: 0,
-    extra: 0,
-    pieces: &[],
-};
-
 /// A structure of one member.
 const SINGLE: Head = Head {
     kind: STRUCT,
     size: 16,
-    pieces: ONE,
-    ..PLAIN
+    pieces: X,
+    ..POINTER
 };
 
 /// A declared structure.
-const FORWARD: Head = Head { kind: FWD, ..PLAIN };
+const FORWARD: Head = Head {
+    kind: FWD,
+    ..POINTER
+};
 
 /// What drawn types say of themselves, apart from their names.
 const DRAWN: &[Head] = &[
-    PLAIN,
-    PLAIN,
-    PLAIN,
-    PLAIN,
+    POINTER,
+    POINTER,
+    POINTER,
+    POINTER,
     SINGLE,
     SINGLE,
     SINGLE,
@@ -114,16 +94,16 @@ const DRAWN: &[Head] = &[
     Head {
         kind: INT,
         size: 4,
-        ..PLAIN
+        ..POINTER
     },
     Head {
         kind: TYPEDEF,
-        ..PLAIN
+        ..POINTER
     },
     Head {
         kind: ENUM,
         size: 4,
-        ..PLAIN
+        ..POINTER
     },
 ];
 

@@ -105,118 +105,88 @@ fn are_same_classes(numbers: &[u32], wanted: &[u32]) -> bool {
         || (numbers.len() <= COMPARED_AT_MOST as usize && is_one_relation(numbers, wanted))
 }
 
-/// Whether so many workers find the same classes by halves, behind a guess, and in a large graph of
-/// the same numbers. Where a graph has fewer than 2^d nodes, it takes at most 2 d steps for each
-/// reference.
-fn is_found_by<R: Threads + Sync, L: Ledger>(
-    rt: &R,
-    alloc: Global,
-    workers: u32,
-    graph: &PackedGraph<'_>,
-    forwards: &FwdIndex,
-    wanted: &Classes,
-    steps: &mut Steps<L>,
-) -> Result<bool, AllocError>
-    requires index { IsIndexOf graph.now forwards.now }
-    requires fitting { HasFittingForwards graph.now }
-    ensures cost { OnOk result ((d : ℕ) → length graph.now.nodes < 2 ^ d
-        → steps.new ≤ steps.old + 2 * (references graph.now.nodes * d)) }
-{
-    let found = classes_by_halves(rt, alloc, workers, graph, forwards, steps)?;
-    Ok(are_same_classes(found.numbers(), wanted.numbers()))
+/// A way to find classes by halves.
+#[derive(Clone, Copy)]
+enum Way {
+    /// Split from labels on.
+    Split,
+    /// Behind a guess, by so many workers.
+    Guessed(u32),
 }
 
-/// Whether classes by halves that are split from labels on are the same. Where a graph has fewer
-/// than 2^d nodes, it takes at most 2 d steps for each reference.
-fn is_split_to<L: Ledger>(
-    alloc: Global,
-    graph: &PackedGraph<'_>,
-    forwards: &FwdIndex,
-    wanted: &Classes,
-    steps: &mut Steps<L>,
-) -> Result<bool, AllocError>
-    requires index { IsIndexOf graph.now forwards.now }
-    requires fitting { HasFittingForwards graph.now }
-    ensures cost { OnOk result ((d : ℕ) → length graph.now.nodes < 2 ^ d
-        → steps.new ≤ steps.old + 2 * (references graph.now.nodes * d)) }
-{
-    let split = split_by_halves(alloc, graph, forwards, steps)?;
-    Ok(is_one_relation(split.numbers(), wanted.numbers()))
-}
-
-/// Whether the classes of a large graph have the same numbers whatever number of workers finds
-/// them.
-fn workers_agree<R: Threads + Sync, L: Ledger>(
-    rt: &R,
-    alloc: Global,
-    graph: &PackedGraph<'_>,
-    forwards: &FwdIndex,
-    wanted: &Classes,
-    steps: &mut Steps<L>,
-) -> Result<bool, AllocError>
-    requires index { IsIndexOf graph.now forwards.now }
-    requires fitting { HasFittingForwards graph.now }
-{
-    let alone = is_found_by(rt, alloc, 1, graph, forwards, wanted, steps)?;
-    let together = is_found_by(rt, alloc, 7, graph, forwards, wanted, steps)?;
-    Ok(alone && together)
-}
-
-/// Whether classes by halves are the same, both split from labels on and behind a guess. Where a
-/// graph has fewer than 2^d nodes, each of the two takes at most 2 d steps for each reference.
-fn others_agree<R: Threads + Sync, L: Ledger>(
-    rt: &R,
-    alloc: Global,
-    graph: &PackedGraph<'_>,
-    forwards: &FwdIndex,
-    wanted: &Classes,
-    steps: &mut Steps<L>,
-) -> Result<bool, AllocError>
-    requires index { IsIndexOf graph.now forwards.now }
-    requires fitting { HasFittingForwards graph.now }
-    ensures cost { OnOk result ((d : ℕ) → length graph.now.nodes < 2 ^ d
-        → steps.new ≤ steps.old + 2 * (2 * (references graph.now.nodes * d))) }
-{
-    let split = is_split_to(alloc, graph, forwards, wanted, steps)?;
-    let found = is_found_by(rt, alloc, 2, graph, forwards, wanted, steps)?;
-    Ok(split && found)
-}
-
-/// Whether all ways find the same classes of a packed graph that is not too large for them.
-fn all_agree<R: Threads + Sync, L: Ledger>(
-    rt: &R,
-    alloc: Global,
-    graph: &PackedGraph<'_>,
-    forwards: &FwdIndex,
-    wanted: &Classes,
-    steps: &mut Steps<L>,
-) -> Result<bool, AllocError>
-    requires index { IsIndexOf graph.now forwards.now }
-    requires fitting { HasFittingForwards graph.now }
-{
-    if graph.len() <= COMPARED_AT_MOST {
-        return others_agree(rt, alloc, graph, forwards, wanted, steps);
+/// The ways that are tried of a graph of so many nodes. A large one is found by several numbers of
+/// workers, and of one that is too large no way is tried.
+fn ways_for(nodes: u32) -> &'static [Way] {
+    if nodes <= COMPARED_AT_MOST {
+        &[Way::Split, Way::Guessed(2)]
+    } else if nodes <= SHARED_AT_MOST {
+        &[Way::Guessed(1), Way::Guessed(7)]
+    } else {
+        &[]
     }
-    workers_agree(rt, alloc, graph, forwards, wanted, steps)
 }
 
-/// The same of a graph that is packed for it, or is too large.
-fn all_agree_packed<R: Threads + Sync, L: Ledger>(
+/// The classes that a way finds. Where a graph has fewer than 2^d nodes, it takes at most 2 d steps
+/// for each reference.
+fn found_by<R: Threads + Sync, L: Ledger>(
+    rt: &R,
+    alloc: Global,
+    way: Way,
+    graph: &PackedGraph<'_>,
+    forwards: &FwdIndex,
+    steps: &mut Steps<L>,
+) -> Result<Classes, AllocError>
+    requires index { IsIndexOf graph.now forwards.now }
+    requires fitting { HasFittingForwards graph.now }
+    ensures cost { OnOk result ((d : ℕ) → length graph.now.nodes < 2 ^ d
+        → steps.new ≤ steps.old + 2 * (references graph.now.nodes * d)) }
+{
+    match way {
+        Way::Split => split_by_halves(alloc, graph, forwards, steps),
+        Way::Guessed(workers) => classes_by_halves(rt, alloc, workers, graph, forwards, steps),
+    }
+}
+
+/// Whether each of these ways finds the same classes.
+fn ways_agree<R: Threads + Sync, L: Ledger>(
+    rt: &R,
+    alloc: Global,
+    ways: &[Way],
+    graph: &PackedGraph<'_>,
+    forwards: &FwdIndex,
+    wanted: &[u32],
+    steps: &mut Steps<L>,
+) -> Result<bool, AllocError>
+    requires index { IsIndexOf graph.now forwards.now }
+    requires fitting { HasFittingForwards graph.now }
+{
+    for way in ways {
+        let found = found_by(rt, alloc, *way, graph, forwards, steps)?;
+        if !are_same_classes(found.numbers(), wanted) {
+            return Ok(false);
+        }
+    }
+    Ok(true)
+}
+
+/// Whether all ways find the same classes of a graph, which is packed for them.
+fn all_agree<R: Threads + Sync, L: Ledger>(
     rt: &R,
     alloc: Global,
     graph: &Graph<'_>,
     forwards: &FwdIndex,
-    wanted: &Classes,
+    wanted: &[u32],
     steps: &mut Steps<L>,
 ) -> Result<bool, AllocError>
     requires index { IsIndexOf graph.now forwards.now }
     requires fitting { HasFittingForwards graph.now }
 {
-    if graph.len() > SHARED_AT_MOST {
+    let ways = ways_for(graph.len());
+    if ways.is_empty() {
         return Ok(true);
     }
     let kept_once = packed(alloc, graph)?;
-    all_agree(rt, alloc, &kept_once, forwards, wanted, steps)
+    ways_agree(rt, alloc, ways, &kept_once, forwards, wanted, steps)
 }
 
 /// The coarsest partition of a graph with these open forwards, where all ways find the same.
@@ -231,7 +201,7 @@ fn classes_with<R: Threads + Sync, L: Ledger>(
     requires fitting { HasFittingForwards graph.now }
 {
     let refined = classes(rt, alloc, graph, forwards, steps)?;
-    if !all_agree_packed(rt, alloc, graph, forwards, &refined.classes, steps)? {
+    if !all_agree(rt, alloc, graph, forwards, refined.classes.numbers(), steps)? {
         return Err(Fault::Differs);
     }
     Ok(refined)

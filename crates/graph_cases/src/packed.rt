@@ -5,51 +5,24 @@ use crate::told::tell_holds;
 use c_model::Ref;
 use packed_graph::PackedNodes;
 use small_graphs::packed::{Listed, are_joined, listed, push_types};
-use small_graphs::rows::{Head, Piece};
+use small_graphs::rows::{Head, POINTER, Piece};
 use std::alloc::{AllocError, Global};
 
-const A: Piece = Piece {
-    name: b"a",
-    value: 0,
-};
+const A: Piece = (b"a", 0);
 
-const B: Piece = Piece {
-    name: b"b",
-    value: 32,
-};
+const B: Piece = (b"b", 32);
 
 /// The members of a structure.
 const PAIR: &[Piece] = &[A, B];
 
 /// Its members with another name of the last.
-const RENAMED: &[Piece] = &[
-    A,
-    Piece {
-        name: b"c",
-        value: 32,
-    },
-];
+const RENAMED: &[Piece] = &[A, (b"c", 32)];
 
 /// Its members with another place of the last.
-const MOVED: &[Piece] = &[
-    A,
-    Piece {
-        name: b"b",
-        value: 64,
-    },
-];
+const MOVED: &[Piece] = &[A, (b"b", 64)];
 
 /// Its members with names that are the same bytes when they are put together.
-const REGROUPED: &[Piece] = &[
-    Piece {
-        name: b"ab",
-        value: 0,
-    },
-    Piece {
-        name: b"",
-        value: 32,
-    },
-];
+const REGROUPED: &[Piece] = &[(b"ab", 0), (b"", 32)];
 
 /// A name whose second eight bytes are the multiplier of std's hash: the eight before them make no
 /// difference to it.
@@ -62,10 +35,9 @@ const HIDDEN_TOO: &[u8] = b"an_other\x15\x7c\x4a\x7f\xb9\x79\x37\x9e_of_both";
 const S: Head = Head {
     kind: STRUCT,
     name: b"s",
-    flag: false,
     size: 8,
-    extra: 0,
     pieces: PAIR,
+    ..POINTER
 };
 
 /// A structure of two members, and labels that each differ from one before in one thing, of types

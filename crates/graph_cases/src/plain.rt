@@ -79,8 +79,8 @@ fn defines(head: &Head) -> Option<Sort> {
 
 /// Whether these parts are the same.
 fn are_same_pieces(these: &[Piece], those: &[Piece]) -> bool {
-    for (p, q) in these.iter().zip(those) {
-        if p.name != q.name || p.value != q.value {
+    for ((name, value), (other, number)) in these.iter().zip(those) {
+        if name != other || value != number {
             return false;
         }
     }

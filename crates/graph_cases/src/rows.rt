@@ -1,6 +1,6 @@
 //! Small graphs as tables: a row for each type.
 use c_model::{CType, Ref};
-use small_graphs::rows::{Head, Piece, type_of};
+use small_graphs::rows::{Head, Piece, parted, type_of};
 use std::alloc::{AllocError, Global};
 
 pub const INT: u8 = 1;
@@ -23,6 +23,12 @@ pub const ENUM64: u8 = 19;
 
 /// No node.
 pub const NONE: u32 = u32::MAX;
+
+/// A member `x`.
+pub const X: &[Piece] = &[(b"x", 0)];
+
+/// The same, and a member `y` behind its 32 bits.
+pub const X_AND_Y: &[Piece] = &[(b"x", 0), (b"y", 32)];
 
 /// A type of a table, which refers to three types at most.
 #[derive(Clone, Copy)]
@@ -71,18 +77,6 @@ pub struct Table {
 /// What a type without parts says of itself.
 pub fn bare(kind: u8, name: &'static [u8], size: u32) -> Head {
     parted(kind, name, size, &[])
-}
-
-/// What a type with these parts says of itself.
-pub fn parted(kind: u8, name: &'static [u8], size: u32, pieces: &'static [Piece]) -> Head {
-    Head {
-        kind,
-        name,
-        flag: false,
-        size,
-        extra: 0,
-        pieces,
-    }
 }
 
 /// The types of these rows.

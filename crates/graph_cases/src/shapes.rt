@@ -1,7 +1,7 @@
 //! Graphs in shapes that are hard to split: rings, chains and trees, references of one node at many
 //! positions, and declarations whose definitions part late.
-use crate::rows::{FWD, NONE, PTR, Row, STRUCT, Table, bare, parted, push_row};
-use small_graphs::rows::Piece;
+use crate::rows::{FWD, NONE, Row, STRUCT, Table, X, X_AND_Y, bare, push_row};
+use small_graphs::rows::{POINTER, parted};
 use std::alloc::{AllocError, Global};
 
 /// A shape of graphs.
@@ -12,8 +12,9 @@ pub enum Shape {
     Rings(&'static [&'static str]),
     /// The same without the last reference.
     Chains(&'static [&'static str]),
-    /// Structures of two members: their sizes, and the numbers of what they refer to.
-    Pairs(&'static [(u32, [u32; 2])]),
+    /// Structures of two members: their sizes, and the numbers of what they refer to. Behind them
+    /// come leaves: the sizes of structures whose two members are void.
+    Pairs(&'static [Pair], &'static [u32]),
     /// Chains, and for each tag a declaration, a pointer to it, and for each chain a definition
     /// that refers to its first structure.
     Tags {
@@ -21,6 +22,9 @@ pub enum Shape {
         ends: &'static [&'static str],
     },
 }
+
+/// The size of a structure of two members, and the numbers of what they refer to.
+pub type Pair = (u32, [u32; 2]);
 
 /// What a shape is called, the shape, and how many classes it has.
 pub type Shaped = (&'static str, Shape, usize);
@@ -64,10 +68,18 @@ pub const SHAPES: &[Shaped] = &[
         Shape::Chains(&["aaaab", "aab", "cb"]),
         6,
     ),
-    ("a tree", Shape::Pairs(&TREE), 3),
-    ("a tree with one other leaf", Shape::Pairs(&ODD_TREE), 5),
-    ("nodes that refer to themselves", Shape::Pairs(&SELVES), 4),
-    ("nodes with one target twice", Shape::Pairs(&TWICE), 10),
+    ("a tree", Shape::Pairs(TREE, &[4, 4, 4, 4]), 3),
+    (
+        "a tree with one other leaf",
+        Shape::Pairs(TREE, &[4, 4, 4, 2]),
+        5,
+    ),
+    (
+        "nodes that refer to themselves",
+        Shape::Pairs(SELVES, &[4]),
+        4,
+    ),
+    ("nodes with one target twice", Shape::Pairs(TWICE, &[]), 10),
     (
         "a tag whose definitions part late",
         Shape::Tags {
@@ -111,30 +123,11 @@ pub const SHAPES: &[Shaped] = &[
 ];
 
 /// Two levels above four leaves.
-const TREE: [(u32, [u32; 2]); 7] = [
-    (8, [1, 2]),
-    (8, [3, 4]),
-    (8, [5, 6]),
-    (4, [NONE, NONE]),
-    (4, [NONE, NONE]),
-    (4, [NONE, NONE]),
-    (4, [NONE, NONE]),
-];
+const TREE: &[Pair] = &[(8, [1, 2]), (8, [3, 4]), (8, [5, 6])];
 
-/// The same, the last leaf of another size.
-const ODD_TREE: [(u32, [u32; 2]); 7] = [
-    (8, [1, 2]),
-    (8, [3, 4]),
-    (8, [5, 6]),
-    (4, [NONE, NONE]),
-    (4, [NONE, NONE]),
-    (4, [NONE, NONE]),
-    (2, [NONE, NONE]),
-];
-
-/// Five nodes that are one by all that they reach, one with a void member, one that reaches another
-/// size, and that.
-const SELVES: [(u32, [u32; 2]); 8] = [
+/// Five nodes that are one by all that they reach, one with a void member, and one that reaches a
+/// leaf.
+const SELVES: &[Pair] = &[
     (8, [0, 0]),
     (8, [1, 1]),
     (8, [2, 0]),
@@ -142,12 +135,11 @@ const SELVES: [(u32, [u32; 2]); 8] = [
     (8, [3, 3]),
     (8, [5, NONE]),
     (8, [6, 7]),
-    (4, [NONE, NONE]),
 ];
 
 /// Two chains of three that differ at the end, and all pairs of their first nodes, one of them
 /// twice.
-const TWICE: [(u32, [u32; 2]); 11] = [
+const TWICE: &[Pair] = &[
     (8, [1, NONE]),
     (8, [2, NONE]),
     (4, [NONE, NONE]),
@@ -159,22 +151,6 @@ const TWICE: [(u32, [u32; 2]); 11] = [
     (8, [3, 0]),
     (8, [3, 3]),
     (8, [0, 0]),
-];
-
-const ONE: &[Piece] = &[Piece {
-    name: b"x",
-    value: 0,
-}];
-
-const TWO: &[Piece] = &[
-    Piece {
-        name: b"x",
-        value: 0,
-    },
-    Piece {
-        name: b"y",
-        value: 32,
-    },
 ];
 
 /// The number of the next row.
@@ -190,7 +166,7 @@ fn push_word(rows: &mut Vec<Row>, word: &str, end: u32) -> Result<(), AllocError
         left = left.saturating_sub(1);
         let next = next_row(rows).saturating_add(1);
         let target = if left == 0 { end } else { next };
-        let head = parted(STRUCT, b"w", u32::from(letter), ONE);
+        let head = parted(STRUCT, b"w", u32::from(letter), X);
         push_row(rows, head, &[target])?;
     }
     Ok(())
@@ -220,8 +196,8 @@ fn first_rows(alloc: Global, words: &[&'static str]) -> Result<Vec<u32>, AllocEr
 fn push_tag(rows: &mut Vec<Row>, tag: &'static str, heads: &[u32]) -> Result<(), AllocError> {
     let declared = next_row(rows);
     push_row(rows, bare(FWD, tag.as_bytes(), 0), &[])?;
-    push_row(rows, bare(PTR, b"", 0), &[declared])?;
-    let definition = parted(STRUCT, tag.as_bytes(), 8, ONE);
+    push_row(rows, POINTER, &[declared])?;
+    let definition = parted(STRUCT, tag.as_bytes(), 8, X);
     for head in heads {
         push_row(rows, definition, &[*head])?;
     }
@@ -243,12 +219,31 @@ fn push_tags(
     Ok(())
 }
 
+/// Appends a structure of two members.
+fn push_pair(rows: &mut Vec<Row>, size: u32, members: [u32; 2]) -> Result<(), AllocError> {
+    push_row(rows, parted(STRUCT, b"p", size, X_AND_Y), &members)
+}
+
 /// Appends structures of two members.
-fn push_pairs(rows: &mut Vec<Row>, pairs: &[(u32, [u32; 2])]) -> Result<(), AllocError> {
+fn push_pairs(rows: &mut Vec<Row>, pairs: &[Pair]) -> Result<(), AllocError> {
     for (size, members) in pairs {
-        push_row(rows, parted(STRUCT, b"p", *size, TWO), members)?;
+        push_pair(rows, *size, *members)?;
     }
     Ok(())
+}
+
+/// Appends structures of two members, which are void.
+fn push_leaves(rows: &mut Vec<Row>, sizes: &[u32]) -> Result<(), AllocError> {
+    for size in sizes {
+        push_pair(rows, *size, [NONE, NONE])?;
+    }
+    Ok(())
+}
+
+/// Appends structures of two members, and leaves behind them.
+fn push_all_pairs(rows: &mut Vec<Row>, pairs: &[Pair], leaves: &[u32]) -> Result<(), AllocError> {
+    push_pairs(rows, pairs)?;
+    push_leaves(rows, leaves)
 }
 
 /// Appends the rows of a shape to no rows.
@@ -256,7 +251,7 @@ fn push_shape(alloc: Global, rows: &mut Vec<Row>, shape: &Shape) -> Result<(), A
     match shape {
         Shape::Rings(words) => push_words(rows, words, true),
         Shape::Chains(words) => push_words(rows, words, false),
-        Shape::Pairs(pairs) => push_pairs(rows, pairs),
+        Shape::Pairs(pairs, leaves) => push_all_pairs(rows, pairs, leaves),
         Shape::Tags { tags, ends } => push_tags(alloc, rows, tags, ends),
     }
 }

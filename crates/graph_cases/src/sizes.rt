@@ -2,12 +2,13 @@
 use crate::compared::class_count;
 use crate::fault::Fault;
 use crate::merged::{Found, merged};
-use crate::rows::{FWD, INT, PTR, Row, STRUCT, bare};
+use crate::rows::{FWD, INT, Row, bare};
 use crate::tables::built;
 use c_model::{CType, Label, Parts, Refs};
 use class_refine::Refined;
 use dw_base::Name;
-use small_graphs::rows::{Head, Piece, type_of};
+use small_graphs::ring::{STRUCTURE, ring, ring_classes};
+use small_graphs::rows::{POINTER, type_of};
 use small_graphs::same::is_one_relation;
 use split_base::TableFault;
 use std::alloc::{AllocError, Global};
@@ -28,16 +29,9 @@ pub fn empty_rounds<R: Threads + Sync>(rt: &R, alloc: Global) -> Result<Option<u
     Ok(rounds_of_nothing(&found.refined))
 }
 
-const NEXT: &[Piece] = &[Piece {
-    name: b"next",
-    value: 0,
-}];
-
 /// Large graphs, whose types are computed from their places.
 #[derive(Clone, Copy)]
 pub enum Large {
-    /// A ring of pointers among equal structures.
-    Ring,
     /// Four types again and again: a structure that refers to a pointer; the pointer, to a
     /// declaration of the structure; that, or behind the first few a pointer to the structure, as
     /// the one before; and an INT of a size of its own.
@@ -49,27 +43,6 @@ pub enum Large {
 /// How many of the structures of fours are declared.
 const DECLARED: u32 = 20;
 
-/// A structure of a pointer.
-const STRUCTURE: Head = Head {
-    kind: STRUCT,
-    name: b"ring",
-    flag: false,
-    size: 8,
-    extra: 0,
-    pieces: NEXT,
-};
-
-/// A type of a ring of so many.
-fn ring_row(x: u32, count: u32) -> Row {
-    let next = x.saturating_add(1).checked_rem(count).unwrap_or(0);
-    let head = if x % 2 == 0 {
-        STRUCTURE
-    } else {
-        bare(PTR, b"", 0)
-    };
-    Row::new(head, &[next])
-}
-
 /// A type of fours.
 fn four_row(x: u32) -> Row {
     let place = x % 4;
@@ -77,17 +50,16 @@ fn four_row(x: u32) -> Row {
     let declared = first < 4 * DECLARED;
     match place {
         0 => Row::new(STRUCTURE, &[first.saturating_add(1)]),
-        1 if declared => Row::new(bare(PTR, b"", 0), &[first.saturating_add(2)]),
+        1 if declared => Row::new(POINTER, &[first.saturating_add(2)]),
         2 if declared => Row::new(bare(FWD, b"ring", 0), &[]),
-        1 | 2 => Row::new(bare(PTR, b"", 0), &[first]),
+        1 | 2 => Row::new(POINTER, &[first]),
         _ => Row::new(bare(INT, b"int", first), &[]),
     }
 }
 
-/// The type in a place of a large graph of so many.
-fn large_row(large: Large, x: u32, count: u32) -> Row {
+/// The type in a place of a large graph.
+fn large_row(large: Large, x: u32) -> Row {
     match large {
-        Large::Ring => ring_row(x, count),
         Large::Fours => four_row(x),
         Large::Ints => Row::new(bare(INT, b"int", x), &[]),
     }
@@ -97,7 +69,7 @@ fn large_row(large: Large, x: u32, count: u32) -> Row {
 fn large_types(alloc: Global, large: Large, count: u32) -> Result<Vec<CType<'static>>, AllocError> {
     let mut types = Vec::new(alloc);
     for x in 0..count {
-        let row = large_row(large, x, count);
+        let row = large_row(large, x);
         types.push(type_of(alloc, &row.head, row.targets())?)?;
     }
     Ok(types)
@@ -118,24 +90,14 @@ pub fn merged_large<R: Threads + Sync>(
     )
 }
 
-/// The numbers from 0 on, of so many, by whether they are odd.
-fn parities(alloc: Global, count: u32) -> Result<Vec<u32>, AllocError> {
-    let mut parities = Vec::new(alloc);
-    for x in 0..count {
-        parities.push(x % 2)?;
-    }
-    Ok(parities)
-}
-
-/// Whether a large graph has the classes of these numbers.
+/// Whether types have the classes of these numbers.
 fn are_classes<R: Threads + Sync>(
     rt: &R,
     alloc: Global,
-    large: Large,
-    count: u32,
+    types: Vec<CType<'static>>,
     wanted: &[u32],
 ) -> Result<bool, Fault> {
-    let found = merged_large(rt, alloc, large, count)?;
+    let found = merged(rt, alloc, Vec::new(alloc), types)?;
     Ok(is_one_relation(found.refined.classes.numbers(), wanted))
 }
 
@@ -146,7 +108,8 @@ pub fn ring_has_two_classes<R: Threads + Sync>(
     pointers: u32,
 ) -> Result<bool, Fault> {
     let count = pointers.saturating_mul(2);
-    are_classes(rt, alloc, Large::Ring, count, &parities(alloc, count)?)
+    let wanted = ring_classes(alloc, count)?;
+    are_classes(rt, alloc, ring(alloc, count)?, &wanted)
 }
 
 /// How many classes so many times four types have, which are so many that workers share them.

@@ -8,7 +8,7 @@ use crate::worked::{DECLARED, DEFINED, DEFINED_OVER_DECLARED, Entry, Worked};
 use btf_codec::{Table, TableOut};
 use c_model::{CType, Classes, Graph, Nodes};
 use dw_base::Order;
-use small_graphs::fitting::{are_formed, graph_from, is_base, refer_below};
+use small_graphs::fitting::{are_formed, graph_from, is_base, refer_to_one_another};
 use small_graphs::rows::type_of;
 use small_graphs::same::are_same;
 use split_base::{TableFault, build, with_base};
@@ -97,7 +97,7 @@ fn base_table(types: Vec<CType<'static>>) -> Option<Table<'static>>
     ensures few { IfSome result (λ t. length t.types < 2 ^ 32) }
     ensures within { IfSome result (λ t. RefersWithin (length t.types) t.types) }
 {
-    if types.len() > 1000 || !refer_below(types.len() as u32, &types) {
+    if !refer_to_one_another(&types) {
         return None;
     }
     Some(Table {

@@ -1,6 +1,6 @@
 //! The lines that are printed.
 use crate::fault::Fault;
-use split_base::TableFault;
+use std::fmt::Debug;
 
 /// Tells what is said of something.
 pub fn tell<R: Print>(rt: &R, what: &str, said: &str) -> Result<(), Fault> {
@@ -20,22 +20,13 @@ pub fn tell_holds<R: Print>(rt: &R, what: &str, holds: bool) -> Result<bool, Fau
     Ok(holds)
 }
 
-/// Tells whether a graph is as it should be, or why there is none.
-pub fn tell_joined<R: Print>(
+/// Tells what was found, and answers whether it is what is wanted.
+pub fn tell_found<R: Print, T: Debug + PartialEq>(
     rt: &R,
     what: &str,
-    joined: &Result<bool, TableFault>,
-) -> Result<(), Fault> {
-    println!(rt; "{what}: {joined:?}")?;
-    Ok(())
-}
-
-/// Tells how many types a table has, or why there is none.
-pub fn tell_table<R: Print>(
-    rt: &R,
-    what: &str,
-    table: &Result<usize, TableFault>,
-) -> Result<(), Fault> {
-    println!(rt; "{what}: {table:?}")?;
-    Ok(())
+    found: &T,
+    wanted: &T,
+) -> Result<bool, Fault> {
+    println!(rt; "{what}: {found:?}")?;
+    Ok(found == wanted)
 }

@@ -1,7 +1,7 @@
 //! Graphs whose coarsest partition is known from C's rules for compatible types, and whose table
 //! follows from it, by hand.
-use crate::rows::{ARRAY, ENUM, FWD, INT, PTR, STRUCT, TYPEDEF, Table, UNION, push_row};
-use small_graphs::rows::{Head, Piece};
+use crate::rows::{ARRAY, ENUM, FWD, INT, STRUCT, TYPEDEF, Table, UNION, X, X_AND_Y, push_row};
+use small_graphs::rows::{Head, POINTER, Piece};
 use std::alloc::{AllocError, Global};
 
 /// What a type says of itself, and the numbers of the types that it refers to.
@@ -33,16 +33,6 @@ pub fn table_of(alloc: Global, base: usize, entries: &[Entry]) -> Result<Table, 
     }
     Ok(Table { base, rows })
 }
-
-/// A pointer.
-const POINTER: Head = Head {
-    kind: PTR,
-    name: b"",
-    flag: false,
-    size: 0,
-    extra: 0,
-    pieces: &[],
-};
 
 /// C's `int`.
 const NUMBER: Head = Head {
@@ -86,70 +76,20 @@ const TAIL: Head = Head {
     ..POINTER
 };
 
-const FIRST_A: &[Piece] = &[Piece {
-    name: b"a",
-    value: 0,
-}];
+const FIRST_A: &[Piece] = &[(b"a", 0)];
 
-const FIRST_B: &[Piece] = &[Piece {
-    name: b"b",
-    value: 0,
-}];
+const FIRST_B: &[Piece] = &[(b"b", 0)];
 
-const FIRST_X: &[Piece] = &[Piece {
-    name: b"x",
-    value: 0,
-}];
-
-const X_AND_Y: &[Piece] = &[
-    Piece {
-        name: b"x",
-        value: 0,
-    },
-    Piece {
-        name: b"y",
-        value: 32,
-    },
-];
-
-const NEXT_AND_PREV: &[Piece] = &[
-    Piece {
-        name: b"next",
-        value: 0,
-    },
-    Piece {
-        name: b"prev",
-        value: 64,
-    },
-];
+const NEXT_AND_PREV: &[Piece] = &[(b"next", 0), (b"prev", 64)];
 
 /// A bit field of three bits at bit 0.
-const BITS_AT_0: &[Piece] = &[Piece {
-    name: b"a",
-    value: 0x300_0000,
-}];
+const BITS_AT_0: &[Piece] = &[(b"a", 0x300_0000)];
 
 /// A bit field of three bits at bit 5.
-const BITS_AT_5: &[Piece] = &[Piece {
-    name: b"a",
-    value: 0x300_0005,
-}];
+const BITS_AT_5: &[Piece] = &[(b"a", 0x300_0005)];
 
 /// Bit fields of 3, 5 and 17 bits.
-const THREE_FIELDS: &[Piece] = &[
-    Piece {
-        name: b"a",
-        value: 0x300_0000,
-    },
-    Piece {
-        name: b"b",
-        value: 0x500_0003,
-    },
-    Piece {
-        name: b"c",
-        value: 0x1100_0008,
-    },
-];
+const THREE_FIELDS: &[Piece] = &[(b"a", 0x300_0000), (b"b", 0x500_0003), (b"c", 0x1100_0008)];
 
 /// A structure of two pointers.
 const LIST_HEAD: Head = Head {
@@ -180,7 +120,7 @@ const B_OF_A: Head = Head {
 const B_OF_X: Head = Head {
     name: b"B",
     size: 4,
-    pieces: FIRST_X,
+    pieces: X,
     ..A_OF_B
 };
 
@@ -300,6 +240,17 @@ pub const DEFINED_OVER_DECLARED: &[Entry] = &[
     (&POINTER, &[3]),
 ];
 
+/// A graph of nothing. Graphs without a base are written as what differs from it.
+const ALONE: Worked = Worked {
+    name: "",
+    base: 0,
+    base_names: None,
+    types: &[],
+    classes: &[],
+    own: &[],
+    names: b"\0",
+};
+
 /// Graphs without declarations.
 pub fn plain_graphs() -> &'static [Worked] {
     PLAIN
@@ -308,28 +259,23 @@ pub fn plain_graphs() -> &'static [Worked] {
 const PLAIN: &[Worked] = &[
     Worked {
         name: "ints of two sizes",
-        base: 0,
-        base_names: None,
         types: &[(&NUMBER, &[]), (&WIDE, &[])],
         classes: &[0, 1],
         own: &[(&NUMBER, &[]), (&WIDE, &[])],
         names: b"\0int\0",
+        ..ALONE
     },
     // A pointer to itself in each of two units.
     Worked {
         name: "pointers to themselves",
-        base: 0,
-        base_names: None,
         types: &[(&POINTER, &[0]), (&POINTER, &[1])],
         classes: &[0, 0],
         own: &[(&POINTER, &[0])],
-        names: b"\0",
+        ..ALONE
     },
     // A structure of two pointers to itself, in each of two units.
     Worked {
         name: "list heads",
-        base: 0,
-        base_names: None,
         types: &[
             (&LIST_HEAD, &[1, 1]),
             (&POINTER, &[0]),
@@ -339,12 +285,11 @@ const PLAIN: &[Worked] = &[
         classes: &[0, 1, 0, 1],
         own: &[(&LIST_HEAD, &[1, 1]), (&POINTER, &[0])],
         names: b"\0list_head\0next\0prev\0",
+        ..ALONE
     },
     // An unnamed union of a bit field, which stands elsewhere in a second unit.
     Worked {
         name: "unions",
-        base: 0,
-        base_names: None,
         types: &[
             (&NUMBER, &[]),
             (&UNION_AT_0, &[0]),
@@ -354,30 +299,27 @@ const PLAIN: &[Worked] = &[
         classes: &[0, 1, 0, 2],
         own: &[(&NUMBER, &[]), (&UNION_AT_0, &[0]), (&UNION_AT_5, &[0])],
         names: b"\0int\0a\0",
+        ..ALONE
     },
     Worked {
         name: "bit fields",
-        base: 0,
-        base_names: None,
         types: &[(&UNSIGNED, &[]), (&FIELDS, &[0, 0, 0])],
         classes: &[0, 1],
         own: &[(&UNSIGNED, &[]), (&FIELDS, &[0, 0, 0])],
         names: b"\0unsigned int\0f\0a\0b\0c\0",
+        ..ALONE
     },
     Worked {
         name: "array",
-        base: 0,
-        base_names: None,
         types: &[(&NUMBER, &[]), (&GRID, &[0, 2]), (&INDEX, &[])],
         classes: &[0, 1, 2],
         own: &[(&NUMBER, &[]), (&GRID, &[0, 2]), (&INDEX, &[])],
         names: b"\0int\0__ARRAY_SIZE_TYPE__\0",
+        ..ALONE
     },
     // An array without a bound in one unit, and one of two bounds in another.
     Worked {
         name: "array without a bound",
-        base: 0,
-        base_names: None,
         types: &[
             (&NUMBER, &[]),
             (&TAIL, &[0, 2]),
@@ -394,6 +336,7 @@ const PLAIN: &[Worked] = &[
             (&GRID, &[0, 2]),
         ],
         names: b"\0int\0__ARRAY_SIZE_TYPE__\0",
+        ..ALONE
     },
 ];
 
@@ -406,19 +349,16 @@ const FORWARD: &[Worked] = &[
     // A structure declared in each of three units.
     Worked {
         name: "declared three times",
-        base: 0,
-        base_names: None,
         types: &[(&SOME_FOO, &[]), (&SOME_FOO, &[]), (&SOME_FOO, &[])],
         classes: &[0, 0, 0],
         own: &[(&SOME_FOO, &[])],
         names: b"\0foo\0",
+        ..ALONE
     },
     // Two structures that point to each other: each in a unit that declares the other, and both in
     // a third.
     Worked {
         name: "through declarations",
-        base: 0,
-        base_names: None,
         types: &[
             (&A_OF_B, &[1]),
             (&POINTER, &[2]),
@@ -439,12 +379,11 @@ const FORWARD: &[Worked] = &[
             (&POINTER, &[0]),
         ],
         names: b"\0A\0b\0B\0a\0",
+        ..ALONE
     },
     // A structure over one that has two definitions, and over its declaration, which stays apart.
     Worked {
         name: "two definitions",
-        base: 0,
-        base_names: None,
         types: &[
             (&NUMBER, &[]),
             (&B_OF_X, &[0]),
@@ -472,13 +411,12 @@ const FORWARD: &[Worked] = &[
             (&A_OF_B, &[8]),
         ],
         names: b"\0int\0B\0x\0A\0b\0y\0",
+        ..ALONE
     },
     // A declared enumeration is with its definition. A declared structure is not with a union of
     // its name.
     Worked {
         name: "sorts of tags",
-        base: 0,
-        base_names: None,
         types: &[
             (&SOME_E, &[]),
             (&E_OF_A, &[]),
@@ -494,6 +432,7 @@ const FORWARD: &[Worked] = &[
             (&UNION_T, &[]),
         ],
         names: b"\0e\0a\0t\0",
+        ..ALONE
     },
 ];
 

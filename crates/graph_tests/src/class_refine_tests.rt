@@ -13,7 +13,8 @@ use class_refine::classes;
 use dw_base::Steps;
 use forward_rule::FwdIndex;
 use small_graphs::fitting::{graph_from, is_fitting};
-use small_graphs::rows::{Head, Piece, type_of};
+use small_graphs::ring::{ring, ring_classes};
+use small_graphs::rows::Piece;
 use small_graphs::same::is_one_relation;
 use std::alloc::{AllocError, Global};
 use std::marker::Brand;
@@ -22,16 +23,10 @@ use std::test::Fail;
 use std::thread::Threads;
 
 /// A member at offset 0.
-const FIRST: &[Piece] = &[Piece {
-    name: b"",
-    value: 0,
-}];
+const FIRST: &[Piece] = &[(b"", 0)];
 
 /// A member at offset 1.
-const SECOND: &[Piece] = &[Piece {
-    name: b"",
-    value: 1,
-}];
+const SECOND: &[Piece] = &[(b"", 1)];
 
 /// Structures that refer to each other, first through declarations, then defined.
 const THROUGH_DECLARATIONS: &[Row] = &[
@@ -48,16 +43,7 @@ const THROUGH_DECLARATIONS: &[Row] = &[
 ];
 
 /// Two members of 32 bits.
-const HALVES: &[Piece] = &[
-    Piece {
-        name: b"",
-        value: 0,
-    },
-    Piece {
-        name: b"",
-        value: 32,
-    },
-];
+const HALVES: &[Piece] = &[(b"", 0), (b"", 32)];
 
 /// A declaration with two definitions that differ.
 const TWO_DEFINITIONS: &[Row] = &[
@@ -75,16 +61,7 @@ const TWO_DEFINITIONS: &[Row] = &[
 ];
 
 /// Two members of 64 bits.
-const LINKS: &[Piece] = &[
-    Piece {
-        name: b"",
-        value: 0,
-    },
-    Piece {
-        name: b"",
-        value: 64,
-    },
-];
+const LINKS: &[Piece] = &[(b"", 0), (b"", 64)];
 
 /// The same structure with its pointer in two units, and pointers to themselves.
 const IN_TWO_UNITS: &[Row] = &[
@@ -107,26 +84,8 @@ const ENUMERATIONS_AND_UNIONS: &[Row] = &[
     (BTF_KIND_UNION, b"t", 8, &[], &[]),
     (BTF_KIND_FWD, b"u", 0, &[], &[]),
     (BTF_KIND_FWD, b"u", 0, &[], &[]),
-    (
-        BTF_KIND_UNION,
-        b"u",
-        4,
-        &[Piece {
-            name: b"",
-            value: 3,
-        }],
-        &[Void],
-    ),
-    (
-        BTF_KIND_UNION,
-        b"u",
-        4,
-        &[Piece {
-            name: b"",
-            value: 5,
-        }],
-        &[Void],
-    ),
+    (BTF_KIND_UNION, b"u", 4, &[(b"", 3)], &[Void]),
+    (BTF_KIND_UNION, b"u", 4, &[(b"", 5)], &[Void]),
 ];
 
 /// Types, and numbers that relate those of one class.
@@ -236,48 +195,10 @@ fn known_graphs_have_their_classes(rt: HostRuntime) -> Result<(), Fail> {
     Ok(())
 }
 
-/// A structure of a ring.
-const STRUCTURE: Head = Head {
-    kind: BTF_KIND_STRUCT,
-    name: b"ring",
-    flag: false,
-    size: 8,
-    extra: 0,
-    pieces: FIRST,
-};
-
-/// A pointer of a ring.
-const POINTER: Head = Head {
-    kind: BTF_KIND_PTR,
-    name: b"",
-    size: 0,
-    pieces: &[],
-    ..STRUCTURE
-};
-
-/// A ring of 1000 pointers among equal structures.
-fn ring(alloc: Global) -> Result<Vec<CType<'static>>, AllocError> {
-    let mut types = Vec::new(alloc);
-    for x in 0..2000u32 {
-        let head = if x % 2 == 0 { &STRUCTURE } else { &POINTER };
-        types.push(type_of(alloc, head, &[Node((x + 1) % 2000)])?)?;
-    }
-    Ok(types)
-}
-
-/// The numbers below 2000, by whether they are odd.
-fn parities(alloc: Global) -> Result<Vec<u32>, AllocError> {
-    let mut parities = Vec::new(alloc);
-    for x in 0..2000u32 {
-        parities.push(x % 2)?;
-    }
-    Ok(parities)
-}
-
-/// Whether a ring has two classes.
+/// Whether a ring of 1000 pointers among equal structures has two classes.
 fn ring_has_two_classes<R: Threads + Sync>(rt: &R, alloc: Global) -> Result<bool, AllocError> {
-    let want = parities(alloc)?;
-    relates(rt, alloc, ring(alloc)?, &want)
+    let want = ring_classes(alloc, 2000)?;
+    relates(rt, alloc, ring(alloc, 2000)?, &want)
 }
 
 #[test]

@@ -4,30 +4,24 @@ ghost use Rattle.c_model.specs.Forwards.{IsForwardIndex};
 
 use c_model::{CType, Classes, Graph, Numbers, Ref};
 use forward_rule::FwdIndex;
-use small_graphs::rows::{Head, Piece, type_of};
+use small_graphs::rows::{Piece, parted, type_of};
 use std::alloc::{AllocError, Global};
 
 /// A type: its kind, as `c_model::kinds` numbers it, its name, its size in bytes, its parts, and
 /// what it refers to.
-pub type Row = (u8, &'static [u8], u32, &'static [Piece], &'static [Ref]);
-
-/// What the type of a row says of itself.
-fn head_of(row: &Row) -> Head {
-    Head {
-        kind: row.0,
-        name: row.1,
-        flag: false,
-        size: row.2,
-        extra: 0,
-        pieces: row.3,
-    }
-}
+pub type Row = (
+    u8,
+    &'static [u8],
+    u32,
+    &'static [Piece<'static>],
+    &'static [Ref],
+);
 
 /// The types of these rows.
 pub fn types_of(alloc: Global, rows: &[Row]) -> Result<Vec<CType<'static>>, AllocError> {
     let mut types = Vec::new(alloc);
-    for row in rows {
-        types.push(type_of(alloc, &head_of(row), row.4)?)?;
+    for (kind, name, size, pieces, targets) in rows {
+        types.push(type_of(alloc, &parted(*kind, name, *size, pieces), targets)?)?;
     }
     Ok(types)
 }

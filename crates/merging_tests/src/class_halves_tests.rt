@@ -34,25 +34,8 @@ fn are_three(classes: &[u32]) -> bool {
     }
 }
 
-/// Whether a graph has three classes, split from labels on.
-fn splits_to_three<L: Ledger>(
-    alloc: Global,
-    graph: &Graph<'_>,
-    blank: Blank,
-) -> Result<bool, AllocError>
-    requires name { blank.name ≡ L.name }
-    requires parts { blank.parts ≡ L.parts }
-    requires some { 0 < L.parts }
-    requires fitting { HasFittingForwards graph.now }
-{
-    let mut steps = Steps::<L>::new(blank);
-    let fwd = FwdIndex::plain(graph);
-    let classes = split_by_halves(alloc, graph, &fwd, &mut steps)?;
-    Ok(are_three(classes.numbers()))
-}
-
-/// Whether a graph has three classes, behind a guess.
-fn has_three<R: Threads + Sync, L: Ledger>(
+/// Whether a graph has three classes, split from labels on and behind a guess.
+fn has_three_both_ways<R: Threads + Sync, L: Ledger>(
     rt: &R,
     alloc: Global,
     graph: &Graph<'_>,
@@ -65,12 +48,13 @@ fn has_three<R: Threads + Sync, L: Ledger>(
 {
     let mut steps = Steps::<L>::new(blank);
     let fwd = FwdIndex::plain(graph);
-    let classes = classes_by_halves(rt, alloc, 2, graph, &fwd, &mut steps)?;
-    Ok(are_three(classes.numbers()))
+    let split = split_by_halves(alloc, graph, &fwd, &mut steps)?;
+    let guessed = classes_by_halves(rt, alloc, 2, graph, &fwd, &mut steps)?;
+    Ok(are_three(split.numbers()) && are_three(guessed.numbers()))
 }
 
-/// Whether a graph whose forwards fit has three classes, found in both ways.
-fn has_three_both_ways<R: Threads + Sync>(
+/// Whether a graph has forwards that fit, and three classes.
+fn has_three<R: Threads + Sync>(
     rt: &R,
     alloc: Global,
     graph: &Graph<'_>,
@@ -78,15 +62,13 @@ fn has_three_both_ways<R: Threads + Sync>(
     if !is_fitting(graph) {
         return Ok(false);
     }
-    let split = splits_to_three::<Brand>(alloc, graph, Blank::new(1))?;
-    let guessed = has_three::<R, Brand>(rt, alloc, graph, Blank::new(1))?;
-    Ok(split && guessed)
+    has_three_both_ways::<R, Brand>(rt, alloc, graph, Blank::new(1))
 }
 
 /// Whether the graph of four nodes that bytes spell has three classes.
 fn four_from<R: Threads + Sync>(rt: &R, alloc: Global, bytes: &[u8]) -> Result<bool, Fail> {
     let graph = graph_of(alloc, 0, bytes)?;
-    Ok(has_three_both_ways(rt, alloc, &graph)?)
+    Ok(has_three(rt, alloc, &graph)?)
 }
 
 #[test]

@@ -1,11 +1,10 @@
 //! Runs of a case whose file `a` is cut off, at each length of a range.
 use crate::case::Case;
-use crate::runs::{is_whole, run_with};
+use crate::runs::{copies_of, is_whole, run_with};
 use crate::stops::Tally;
-use dw_base::Bytes;
 use std::alloc::{AllocError, Global};
 use std::thread::Threads;
-use world_io::{Files, HeldFile, Stops};
+use world_io::Stops;
 
 /// A line of `cuts`: a case, the least and the greatest length of its file, and what is complained
 /// of each.
@@ -30,26 +29,22 @@ pub fn cut_of(line: &str) -> Option<Cut<'_>> {
     })
 }
 
+/// Copies of words.
+fn words_of(alloc: Global, words: &[String]) -> Result<Vec<String>, AllocError> {
+    let mut copies = Vec::new(alloc);
+    for word in words {
+        copies.push(String::from_str(alloc, word.as_str())?)?;
+    }
+    Ok(copies)
+}
+
 /// The case with its file `a` cut to a length, which is refused with this complaint.
 fn cut_to(alloc: Global, case: &Case, length: u64, complaint: &str) -> Result<Case, AllocError> {
-    let mut files = Vec::new(alloc);
-    for file in case.files.items() {
-        let bytes = file.bytes.items();
-        let kept = length.min(bytes.len() as u64) as usize;
-        files.push(HeldFile {
-            name: Bytes::new(Vec::from_slice(alloc, file.name.items())?),
-            bytes: Bytes::new(Vec::from_slice(alloc, &bytes[..kept])?),
-        })?;
-    }
-    let mut words = Vec::new(alloc);
-    for word in case.words.iter() {
-        words.push(String::from_str(alloc, word.as_str())?)?;
-    }
     let mut line = Vec::from_slice(alloc, complaint.as_bytes())?;
     line.push(b'\n')?;
     Ok(Case {
-        words,
-        files: Files::new(files),
+        words: words_of(alloc, &case.words)?,
+        files: copies_of(alloc, &case.files, length)?,
         stops: Stops::new(Vec::new(alloc)),
         limits: case.limits,
         status: 1,

@@ -25,92 +25,117 @@ fn main(rt: HostRuntime) -> ExitCode {
     let alloc = rt.alloc();
     let mut host = HostWorld::new(&rt);
     let mut wrong = Vec::new(alloc);
-    let (Ok(cases), Ok(stopped), Ok(cuts)) = (
-        run_cases(&rt, alloc, &mut host, &mut wrong),
-        run_stopped(&rt, alloc, &mut host, &mut wrong),
-        run_cuts(&rt, alloc, &mut host, &mut wrong),
-    ) else {
+    let Ok(tallies) = run_lists(&rt, alloc, &mut host, &mut wrong) else {
         return ExitCode::from(1);
     };
     for name in wrong.iter() {
         let _ = println!(rt; "{} differs", name.as_str());
     }
-    let _ = println!(rt; "{} cases, {} differ", cases.runs, cases.differ);
-    let _ = println!(rt;
-        "{} runs with a call stopped, {} differ",
-        stopped.runs, stopped.differ
-    );
-    let _ = println!(rt;
-        "{} runs of files cut off, {} differ",
-        cuts.runs, cuts.differ
-    );
+    for (list, tally) in LISTS.iter().zip(&tallies) {
+        let _ = println!(rt; "{} {}, {} differ", tally.runs, list.runs, tally.differ);
+    }
     ExitCode::from(if wrong.is_empty() { 0 } else { 1 })
 }
 
-/// Runs each case of `list`; what differs is wrong.
-fn run_cases<R: Threads + Sync, W: World>(
+/// How a line of a list is run.
+#[derive(Clone, Copy)]
+enum Way {
+    /// It names a case, which is run as it is.
+    Whole,
+    /// It names a case, which is run with each call of the world stopped.
+    Stopped,
+    /// It says to which lengths the file of a case is cut.
+    Cut,
+}
+
+/// A list of `data/`.
+#[derive(Clone, Copy)]
+struct List {
+    file: &'static str,
+    way: Way,
+    /// What its runs are called.
+    runs: &'static str,
+}
+
+const LISTS: [List; 3] = [
+    List {
+        file: "list",
+        way: Way::Whole,
+        runs: "cases",
+    },
+    List {
+        file: "stopped",
+        way: Way::Stopped,
+        runs: "runs with a call stopped",
+    },
+    List {
+        file: "cuts",
+        way: Way::Cut,
+        runs: "runs of files cut off",
+    },
+];
+
+/// Runs all lists; lines of which a run differs are wrong.
+fn run_lists<R: Threads + Sync, W: World>(
     rt: &R,
     alloc: Global,
     host: &mut W,
     wrong: &mut Vec<String>,
-) -> Result<Tally, AllocError> {
-    let mut tally = Tally::new();
-    for name in lines_of(alloc, host, "list")?.iter() {
-        let right = match case_of(alloc, host, name.as_str()) {
-            Ok(case) => passes(rt, alloc, &case)?,
-            Err(_) => false,
-        };
-        if !right {
-            wrong.push(String::from_str(alloc, name.as_str())?)?;
-        }
-        tally.count(right);
+) -> Result<Vec<Tally>, AllocError> {
+    let mut tallies = Vec::new(alloc);
+    for list in LISTS {
+        tallies.push(run_list(rt, alloc, host, list, wrong)?)?;
     }
-    Ok(tally)
+    Ok(tallies)
 }
 
-/// Whether a run of a case, with the stops of its own, answers what it has to.
-fn passes<R: Threads + Sync>(rt: &R, alloc: Global, case: &Case) -> Result<bool, AllocError> {
-    let stops = Stops::new(Vec::from_slice(alloc, case.stops.items())?);
-    let ran = run_with(rt, alloc, case, stops)?;
-    Ok(is_whole(case, &ran))
-}
-
-/// Runs the cases that `stopped` names with each call of the world stopped; what differs is wrong.
-fn run_stopped<R: Threads + Sync, W: World>(
+/// Runs each line of a list; lines of which a run differs are wrong.
+fn run_list<R: Threads + Sync, W: World>(
     rt: &R,
     alloc: Global,
     host: &mut W,
+    list: List,
     wrong: &mut Vec<String>,
 ) -> Result<Tally, AllocError> {
     let mut tally = Tally::new();
-    for name in lines_of(alloc, host, "stopped")?.iter() {
+    for line in lines_of(alloc, host, list.file)?.iter() {
         let before = tally.differ;
-        let case = case_of(alloc, host, name.as_str())?;
-        stop_each(rt, alloc, &case, &mut tally)?;
-        if tally.differ > before {
-            wrong.push(String::from_str(alloc, name.as_str())?)?;
-        }
-    }
-    Ok(tally)
-}
-
-/// Runs the cases of `cuts` with their files cut off; what differs is wrong.
-fn run_cuts<R: Threads + Sync, W: World>(
-    rt: &R,
-    alloc: Global,
-    host: &mut W,
-    wrong: &mut Vec<String>,
-) -> Result<Tally, AllocError> {
-    let mut tally = Tally::new();
-    for line in lines_of(alloc, host, "cuts")?.iter() {
-        let before = tally.differ;
-        if let Some(cut) = cut_of(line.as_str()) {
-            let case = case_of(alloc, host, cut.case)?;
-            cut_each(rt, alloc, &case, &cut, &mut tally)?;
-        }
+        run_line(rt, alloc, host, list.way, line.as_str(), &mut tally)?;
         if tally.differ > before {
             wrong.push(String::from_str(alloc, line.as_str())?)?;
         }
     }
     Ok(tally)
+}
+
+/// Runs what a line says.
+fn run_line<R: Threads + Sync, W: World>(
+    rt: &R,
+    alloc: Global,
+    host: &mut W,
+    way: Way,
+    line: &str,
+    tally: &mut Tally,
+) -> Result<(), AllocError> {
+    match way {
+        Way::Whole => run_whole(rt, alloc, &case_of(alloc, host, line)?, tally),
+        Way::Stopped => stop_each(rt, alloc, &case_of(alloc, host, line)?, tally),
+        Way::Cut => match cut_of(line) {
+            Some(cut) => cut_each(rt, alloc, &case_of(alloc, host, cut.case)?, &cut, tally),
+            None => Ok(()),
+        },
+    }
+}
+
+/// Runs a case with the stops of its own.
+fn run_whole<R: Threads + Sync>(
+    rt: &R,
+    alloc: Global,
+    case: &Case,
+    tally: &mut Tally,
+) -> Result<(), AllocError> {
+    let stops = Stops::new(Vec::from_slice(alloc, case.stops.items())?);
+    let ran = run_with(rt, alloc, case, stops)?;
+    tally.count(is_whole(case, &ran));
+    Ok(())
 }

@@ -13,13 +13,15 @@ pub struct Ran {
     pub status: u64,
 }
 
-/// Copies of files.
-fn copies_of(alloc: Global, files: &Files) -> Result<Files, AllocError> {
+/// Copies of files, of each at most so many bytes.
+pub fn copies_of(alloc: Global, files: &Files, most: u64) -> Result<Files, AllocError> {
     let mut copies = Vec::new(alloc);
     for file in files.items() {
+        let bytes = file.bytes.items();
+        let kept = most.min(bytes.len() as u64) as usize;
         copies.push(HeldFile {
             name: Bytes::new(Vec::from_slice(alloc, file.name.items())?),
-            bytes: Bytes::new(Vec::from_slice(alloc, file.bytes.items())?),
+            bytes: Bytes::new(Vec::from_slice(alloc, &bytes[..kept])?),
         })?;
     }
     Ok(Files::new(copies))
@@ -37,7 +39,7 @@ pub fn run_with<R: Threads + Sync>(
         all_bytes: case.limits.all_bytes.min(SHIPPED.all_bytes),
         nodes: case.limits.nodes,
     };
-    let mut world = MemoryWorld::new(alloc, copies_of(alloc, &case.files)?, stops)?;
+    let mut world = MemoryWorld::new(alloc, copies_of(alloc, &case.files, u64::MAX)?, stops)?;
     let status = run(
         rt,
         alloc,

@@ -1,13 +1,15 @@
 //! Texts of small tables: worked rows, and each form of a declaration written out by hand; sizes,
 //! places of members, and long chains of typedefs.
-use crate::fitting::{is_structure, is_table};
-use crate::rows::{PartRow, Row, Rows, push, push_typedefs, table_of, types_of};
+use crate::fitting::is_structure;
+use crate::rows::{Row, Rows, push, push_typedefs, table_of, types_of};
 use btf_codec::Table;
 use c_model::{CType, Ref};
 use dw_base::Bytes;
 use layout_printer::{
     LayoutFault, Sizes, Slot, TypeLayout, layout, pointer_of, sizes_line, sizes_of, text,
 };
+use small_graphs::fitting::refer_to_one_another;
+use small_graphs::rows::Piece;
 use std::alloc::{AllocError, Global};
 use std::test::Fail;
 
@@ -403,7 +405,7 @@ fn placed(
     id: u32,
 ) -> Result<Result<TypeLayout, LayoutFault>, Fail> {
     let types = table.types.items();
-    if !is_table(types) || !is_structure(types, id) {
+    if !refer_to_one_another(types) || !is_structure(types, id) {
         return Err(Fail::from("no structure"));
     }
     let sizes = sizes_of(alloc, table, pointer_of(table))?;
@@ -669,7 +671,7 @@ fn sizes_of_each_kind(rt: HostRuntime) -> Result<(), Fail> {
 }
 
 /// The offsets of 100 members of 4 bytes.
-fn members<'a>(alloc: Global) -> Result<Vec<PartRow<'a>>, AllocError> {
+fn members<'a>(alloc: Global) -> Result<Vec<Piece<'a>>, AllocError> {
     let mut members = Vec::new(alloc);
     for k in 0..100u64 {
         members.push((b"m".as_slice(), 32 * k))?;
@@ -681,7 +683,7 @@ fn members<'a>(alloc: Global) -> Result<Vec<PartRow<'a>>, AllocError> {
 fn push_structures<'a>(
     alloc: Global,
     types: &mut Vec<CType<'a>>,
-    members: &[PartRow<'a>],
+    members: &[Piece<'a>],
 ) -> Result<(), AllocError> {
     let structure = Row(4, b"t", false, 400, 0, members, &[100_001; 100]);
     for _ in 0..1_000 {
@@ -704,7 +706,7 @@ fn long_chain<'a>(alloc: Global, first: Row<'a, '_>) -> Result<Table<'a>, AllocE
 /// Following the chain for each member takes ten thousand million steps.
 fn are_whole(alloc: Global, table: &Table<'_>) -> Result<bool, Fail> {
     let types = table.types.items();
-    if !is_table(types) {
+    if !refer_to_one_another(types) {
         return Err(Fail::from("no long chain"));
     }
     let sizes = sizes_of(alloc, table, 8)?;

@@ -1,11 +1,9 @@
 //! Tables, made from rows.
 use btf_codec::Table;
-use c_model::{CType, Label, Nodes, Part, Parts, Ref, Refs};
+use c_model::{CType, Label, Nodes, Ref, Refs};
 use dw_base::{Name, Order};
+use small_graphs::rows::{Piece, parts_of};
 use std::alloc::{AllocError, Global};
-
-/// A part by its name and its value.
-pub type PartRow<'a> = (&'a [u8], u64);
 
 /// A type by its kind, its name, its flag, its size, its extra word, its parts, and the ids of its
 /// targets, where 0 is void.
@@ -16,7 +14,7 @@ pub struct Row<'a, 'r>(
     pub bool,
     pub u32,
     pub u32,
-    pub &'r [PartRow<'a>],
+    pub &'r [Piece<'a>],
     pub &'r [u32],
 );
 
@@ -38,17 +36,6 @@ fn refs_of(alloc: Global, ids: &[u32]) -> Result<Refs, AllocError> {
         targets.push(ref_of(*id))?;
     }
     Ok(Refs::new(targets))
-}
-
-fn parts_of<'a>(alloc: Global, rows: &[PartRow<'a>]) -> Result<Parts<'a>, AllocError> {
-    let mut parts = Vec::new(alloc);
-    for (name, value) in rows {
-        parts.push(Part {
-            name: Name::new(name),
-            value: *value,
-        })?;
-    }
-    Ok(Parts::new(parts))
 }
 
 /// The type of a row.

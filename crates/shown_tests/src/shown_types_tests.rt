@@ -2,12 +2,13 @@
 //! 4 bytes */ int y; };`, 12 bytes, and `typedef struct { int z; } t;`.
 mod long;
 
-use crate::fitting::is_table;
 use crate::rows::{Row, Rows, table_of, types_of};
 use btf_codec::Table;
 use command_line::Text;
 use dw_base::Bytes;
-use shown_types::{ShowFault, Style, show};
+use shown_types::ShowFault::{self, NoName, NoSize};
+use shown_types::{Style, show};
+use small_graphs::fitting::refer_to_one_another;
 use std::alloc::{AllocError, Global};
 use std::test::Fail;
 
@@ -80,7 +81,7 @@ fn shown(
     names: Option<&[Text]>,
     style: Style,
 ) -> Result<Result<Bytes, ShowFault>, Fail> {
-    if !is_table(table.types.items()) || style.line == 0 {
+    if !refer_to_one_another(table.types.items()) || style.line == 0 {
         return Err(Fail::from("no table"));
     }
     match names {
@@ -164,64 +165,16 @@ const LINES: &[Case] = &[
     ),
     (EVERY_KIND, 0, Some(&["u", "a"]), 1, Ok(b"a\t12\t1\n")),
     // The structure without a hole is refused too where holes are asked for.
-    (LACKING, 0, Some(&["t", "b"]), 0, Err(ShowFault::NoName(1))),
-    (LACKING, 0, None, 1, Err(ShowFault::NoSize(0))),
-    (
-        EVERY_KIND,
-        0,
-        Some(&["int", "a"]),
-        0,
-        Err(ShowFault::NoName(0)),
-    ),
-    (
-        EVERY_KIND,
-        0,
-        Some(&["a", "e"]),
-        0,
-        Err(ShowFault::NoName(1)),
-    ),
-    (
-        EVERY_KIND,
-        0,
-        Some(&["two", "f"]),
-        0,
-        Err(ShowFault::NoName(1)),
-    ),
-    (
-        EVERY_KIND,
-        0,
-        Some(&["t", "call"]),
-        0,
-        Err(ShowFault::NoName(1)),
-    ),
-    (
-        EVERY_KIND,
-        0,
-        Some(&["v", "w"]),
-        0,
-        Err(ShowFault::NoName(0)),
-    ),
-    (
-        EVERY_KIND,
-        0,
-        Some(&["a", "A"]),
-        0,
-        Err(ShowFault::NoName(1)),
-    ),
-    (
-        EVERY_KIND,
-        0,
-        Some(&["a", "a "]),
-        0,
-        Err(ShowFault::NoName(1)),
-    ),
-    (
-        EVERY_KIND,
-        0,
-        Some(&["tw", "two"]),
-        0,
-        Err(ShowFault::NoName(0)),
-    ),
+    (LACKING, 0, Some(&["t", "b"]), 0, Err(NoName(1))),
+    (LACKING, 0, None, 1, Err(NoSize(0))),
+    (EVERY_KIND, 0, Some(&["int", "a"]), 0, Err(NoName(0))),
+    (EVERY_KIND, 0, Some(&["a", "e"]), 0, Err(NoName(1))),
+    (EVERY_KIND, 0, Some(&["two", "f"]), 0, Err(NoName(1))),
+    (EVERY_KIND, 0, Some(&["t", "call"]), 0, Err(NoName(1))),
+    (EVERY_KIND, 0, Some(&["v", "w"]), 0, Err(NoName(0))),
+    (EVERY_KIND, 0, Some(&["a", "A"]), 0, Err(NoName(1))),
+    (EVERY_KIND, 0, Some(&["a", "a "]), 0, Err(NoName(1))),
+    (EVERY_KIND, 0, Some(&["tw", "two"]), 0, Err(NoName(0))),
 ];
 
 /// What is shown in texts: an empty line is between two.

@@ -17,7 +17,7 @@ use dw_base::Name;
 use forward_rule::FwdIndex;
 use forward_rule::families::declared_family;
 
-/// The most nodes of a graph here.
+/// The most types of a list here.
 const MOST: usize = 4_000_000;
 
 /// Whether a target is void or a node below `limit`.
@@ -54,16 +54,23 @@ pub fn refer_below(limit: u32, nodes: &[CType<'_>]) -> bool
     true
 }
 
+/// Whether these types refer to one another alone, and are no more than a table can have.
+pub fn refer_to_one_another(types: &[CType<'_>]) -> bool
+    ensures few { IsTrue result → length types.now < 2 ^ 31 }
+    ensures within { IsTrue result → RefersWithin (length types.now) types.now }
+{
+    types.len() <= MOST && refer_below(types.len() as u32, types)
+}
+
 /// The graph of these types, the first `base` of them those of a base. `None` where a reference
 /// leaves it.
 pub fn graph_from<'a>(base: u32, nodes: Vec<CType<'a>>) -> Option<Graph<'a>>
     ensures { IfSome result (λ g. (g.base ≡ base) × (g.nodes ≡ nodes.entry.items)) }
 {
-    let len = nodes.len();
-    if len > MOST || base as usize > len {
+    if base as usize > nodes.len() || !refer_to_one_another(&nodes) {
         return None;
     }
-    if !refer_below(len as u32, &nodes) || !refer_below(base, &nodes[..base as usize]) {
+    if !refer_below(base, &nodes[..base as usize]) {
         return None;
     }
     Some(Graph::new(base, Nodes::new(nodes)))

@@ -1,14 +1,11 @@
 //! What a type says of itself in a row, made into a type of a graph.
+use c_model::kinds::BTF_KIND_PTR;
 use c_model::{CType, Label, Part, Parts, Ref, Refs};
 use dw_base::Name;
 use std::alloc::{AllocError, Global};
 
 /// A member or an enumerator: its name and its value.
-#[derive(Clone, Copy)]
-pub struct Piece {
-    pub name: &'static [u8],
-    pub value: u64,
-}
+pub type Piece<'a> = (&'a [u8], u64);
 
 /// What a type says of itself, apart from what it refers to.
 #[derive(Clone, Copy)]
@@ -19,16 +16,37 @@ pub struct Head {
     pub size: u32,
     /// The last word of an INT, the number of elements of an ARRAY.
     pub extra: u32,
-    pub pieces: &'static [Piece],
+    pub pieces: &'static [Piece<'static>],
+}
+
+/// What a pointer says of itself. Other rows are written as what differs from it.
+pub const POINTER: Head = Head {
+    kind: BTF_KIND_PTR,
+    name: b"",
+    flag: false,
+    size: 0,
+    extra: 0,
+    pieces: &[],
+};
+
+/// What a type with these parts says of itself.
+pub fn parted(kind: u8, name: &'static [u8], size: u32, pieces: &'static [Piece<'static>]) -> Head {
+    Head {
+        kind,
+        name,
+        size,
+        pieces,
+        ..POINTER
+    }
 }
 
 /// The parts of a label.
-fn parts_of(alloc: Global, pieces: &'static [Piece]) -> Result<Parts<'static>, AllocError> {
+pub fn parts_of<'a>(alloc: Global, pieces: &[Piece<'a>]) -> Result<Parts<'a>, AllocError> {
     let mut parts = Vec::new(alloc);
-    for piece in pieces {
+    for (name, value) in pieces {
         parts.push(Part {
-            name: Name::new(piece.name),
-            value: piece.value,
+            name: Name::new(name),
+            value: *value,
         })?;
     }
     Ok(Parts::new(parts))

@@ -7,7 +7,8 @@ use btf_codec::Table;
 use c_model::CType;
 use command_line::Text;
 use dw_base::Bytes;
-use shown_types::{ShowFault, Style};
+use shown_types::ShowFault::{self, NoName, NoSize};
+use shown_types::Style;
 use std::alloc::{AllocError, Global};
 use std::test::Fail;
 
@@ -136,29 +137,19 @@ const LONG: &[Long] = &[
         Some((20_000, 5_000, None)),
         Ok((b"", 5_000, OF_BOTH)),
     ),
-    (
-        1,
-        None,
-        Some((20_000, 1, Some("n"))),
-        Err(ShowFault::NoName(20_000)),
-    ),
+    (1, None, Some((20_000, 1, Some("n"))), Err(NoName(20_000))),
     (
         1,
         None,
         Some((20_000, 19_999, Some("n"))),
-        Err(ShowFault::NoName(20_000)),
+        Err(NoName(20_000)),
     ),
-    (
-        1,
-        None,
-        Some((20_000, 0, Some("n"))),
-        Err(ShowFault::NoName(20_000)),
-    ),
+    (1, None, Some((20_000, 0, Some("n"))), Err(NoName(20_000))),
     (
         1,
         None,
         Some((20_000, 5_000, Some("n"))),
-        Err(ShowFault::NoName(20_000)),
+        Err(NoName(20_000)),
     ),
     // All types have one name, which is asked for.
     (0, None, Some((1, 0, None)), Ok((b"", 0, IN_TURN))),
@@ -173,18 +164,18 @@ const LONG: &[Long] = &[
     (1, Some(2), None, Ok((T, 1, OF_STRUCTURES))),
     (1, Some(2), Some((0, 0, Some("t"))), Ok((T, 1, &[]))),
     // Behind a long cycle. A name that nothing shown has comes before sizes.
-    (1, Some(100_002), None, Err(ShowFault::NoSize(100_002))),
+    (1, Some(100_002), None, Err(NoSize(100_002))),
     (
         1,
         Some(100_002),
         Some((20_000, 1, None)),
-        Err(ShowFault::NoSize(100_002)),
+        Err(NoSize(100_002)),
     ),
     (
         1,
         Some(100_002),
         Some((20_000, 1, Some("t"))),
-        Err(ShowFault::NoName(20_000)),
+        Err(NoName(20_000)),
     ),
 ];
 
