@@ -57,15 +57,16 @@ module _ (lists : Ref → List ℕ) (types : List CType) where
   unfolding decl_in
   decl_zero r d = refl
 
-  -- a type is written
+  -- a type is written, and then a next one or none is met
   pub followed : (n k : ℕ) (list : List ℕ) (r : Ref) (front d back front' d' back' : List ℕ)
-      (next : Option Ref) (whole : Written) → k < n → list ≡ lists r
+      (next met : Option Ref) (whole : Written) → k < n → list ≡ lists r
       → around front (decl_in lists (n - k) types r d) back ≡ whole
       → ((rest : Ref → List ℕ → Written) → leads rest front' d' back' next
       ≡ around front (decl_at rest types list (type_of types r) d) back)
-      → leads (decl_in lists (n - (k + 1)) types) front' d' back' next ≡ whole
-  followed n k list r front d back front' d' back' next whole h e inv step =
-      step (decl_in lists (n - (k + 1)) types)
+      → next ≡ met → leads (decl_in lists (n - (k + 1)) types) front' d' back' met ≡ whole
+  followed n k list r front d back front' d' back' next met whole h e inv step is =
+      ap (leads (decl_in lists (n - (k + 1)) types) front' d' back') (sym is)
+      ∙ step (decl_in lists (n - (k + 1)) types)
       ∙ ap (λ (l : List ℕ). around front
       (decl_at (decl_in lists (n - (k + 1)) types) types l (type_of types r) d) back) e
       ∙ ap (λ (w : Written). around front w back)

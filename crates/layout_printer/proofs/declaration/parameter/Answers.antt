@@ -1,33 +1,25 @@
-use Rattle.std.proofs.Common.{◌≡◌, ◌+◌, ◌-◌, ◌∙◌, codes, refl, subst, Option}
+use Rattle.std.proofs.Common.{◌∙◌, codes, refl}
 use Rattle.std.proofs.lemmas.Result.{IfOk-weaker}
-use Rattle.c_model.specs.declared.graph.Ref.{Ref}
-use Rattle.layout_printer.specs.Declarations.{decl_in, hidden, leads, parameter_decl}
+use Rattle.layout_printer.specs.Declarations.{hidden, parameter_decl}
 use Rattle.layout_printer.proofs.Declaring.{followed, cut_off}
 use Rattle.layout_printer.proofs.declaration.parameter.Goals as goal
 
 pub loop-preserved : goal.loop-preserved
 loop-preserved c =
-    subst
-    (λ (next : Option Ref). leads (decl_in hidden (64 - (c.loop.counter + 1)) c.args.types.now)
-    c.follow.new.draft.front.items c.follow.new.draft.name.items c.follow.new.draft.back.items
-    next ≡ (parameter_decl c.args.types.now c.args.r c.args.name.now)) c.in-Some.is
-    (followed hidden c.args.types.now 64 c.loop.counter (codes "...") c.loop.at
+    followed hidden c.args.types.now 64 c.loop.counter (codes "...") c.loop.at
     c.loop.draft.front.items c.loop.draft.name.items c.loop.draft.back.items
     c.follow.new.draft.front.items c.follow.new.draft.name.items c.follow.new.draft.back.items
-    c.in_ok-follow.field-0 (parameter_decl c.args.types.now c.args.r c.args.name.now)
-    c.loop-test.true refl c.loop.invariant c.in_ok-follow.ensures)
+    _ _ (parameter_decl c.args.types.now c.args.r c.args.name.now) c.loop-test.true refl
+    c.loop.invariant c.in_ok-follow.ensures c.in-Some.is
 
 pub returns-in-None : goal.returns-in-None
 returns-in-None c =
-    let whole = subst
-    (λ (next : Option Ref). leads (decl_in hidden (64 - (c.loop.counter + 1)) c.args.types.now)
-    c.follow.new.draft.front.items c.follow.new.draft.name.items c.follow.new.draft.back.items
-    next ≡ (parameter_decl c.args.types.now c.args.r c.args.name.now)) c.in-None.is
-    (followed hidden c.args.types.now 64 c.loop.counter (codes "...") c.loop.at
+    let whole =
+    followed hidden c.args.types.now 64 c.loop.counter (codes "...") c.loop.at
     c.loop.draft.front.items c.loop.draft.name.items c.loop.draft.back.items
     c.follow.new.draft.front.items c.follow.new.draft.name.items c.follow.new.draft.back.items
-    c.in_ok-follow.field-0 (parameter_decl c.args.types.now c.args.r c.args.name.now)
-    c.loop-test.true refl c.loop.invariant c.in_ok-follow.ensures) in
+    _ _ (parameter_decl c.args.types.now c.args.r c.args.name.now) c.loop-test.true refl
+    c.loop.invariant c.in_ok-follow.ensures c.in-None.is in
     IfOk-weaker c.finish.result _ _ (λ w e. e ∙ whole) c.finish.ensures
 
 pub returns : goal.returns
