@@ -1,5 +1,6 @@
 -- Pieces of text.
-use Rattle.std.specs.Prelude.{ℕ, ◌-◌, List, [], ◌∷◌, ◌++◌, decimal, replicate, length}
+use Rattle.std.specs.Prelude.{ℕ, ◌-◌, List, [], ◌∷◌, ◌++◌, decimal, replicate, length, nat_lt}
+use Rattle.std.specs.Prelude.{if◌then◌else◌}
 use Rattle.layout_printer.specs.declared.pieces.Piece.{Piece}
 use Rattle.layout_printer.specs.declared.pieces.Piece.TheVariants.{Text, Left, Number, Wide, Right}
 
@@ -14,6 +15,10 @@ left bytes width = bytes ++ spaces (width - length bytes)
 -- a number, and spaces up to a width before it
 abbrev pub right : ℕ → ℕ → List ℕ
 right number width = spaces (width - length (decimal number)) ++ decimal number
+
+-- a count between two texts; nothing where it is 0
+abbrev pub counted : List ℕ → ℕ → List ℕ → List ℕ
+counted before count after = if nat_lt 0 count then before ++ (decimal count ++ after) else []
 
 abbrev pub text_of : Piece → List ℕ
 text_of (Text bytes) = bytes.now

@@ -9,7 +9,7 @@ use Rattle.c_model.specs.declared.kinds.TheConstants.{BTF_KIND_UNION, BTF_KIND_T
 use Rattle.c_model.specs.declared.graph.CType.{CType}
 use Rattle.c_model.specs.declared.graph.Ref.{Ref}
 use Rattle.layout_printer.specs.Sizes.{ref_of, type_of}
-use Rattle.layout_printer.specs.Pieces.{left, right}
+use Rattle.layout_printer.specs.Pieces.{counted, left, right}
 use Rattle.layout_printer.specs.Declarations.{Written, decl, kind_of, member_name, member_type}
 use Rattle.layout_printer.specs.declared.slots.Slot.{Slot}
 use Rattle.layout_printer.specs.declared.slots.TypeLayout.{TypeLayout}
@@ -57,10 +57,8 @@ foot_text types id =
 abbrev pub hole_text : ℕ → List ℕ
 hole_text hole =
     (if nat_lt 0 hole then codes "\n" else [])
-    ++ ((if nat_lt 0 (hole % 8) then joined (codes "\t/* XXX " ∷ decimal (hole % 8)
-    ∷ codes " bits hole, try to pack */\n" ∷ []) else [])
-    ++ ((if nat_lt 0 (hole / 8) then joined (codes "\t/* XXX " ∷ decimal (hole / 8)
-    ∷ codes " bytes hole, try to pack */\n" ∷ []) else [])
+    ++ (counted (codes "\t/* XXX ") (hole % 8) (codes " bits hole, try to pack */\n")
+    ++ (counted (codes "\t/* XXX ") (hole / 8) (codes " bytes hole, try to pack */\n")
     ++ (if nat_lt 0 hole then codes "\n" else [])))
 
 -- the cache line that a member begins in, where cache lines have so many bytes
@@ -73,8 +71,7 @@ opens line earlier n = nat_lt 0 n && list_all (λ (e : Slot). nat_lt (line_of li
 
 -- the line of a boundary, and how many bytes ago it was
 abbrev pub ago_text : ℕ → List ℕ
-ago_text bytes =
-    if nat_lt 0 bytes then joined (codes "was " ∷ decimal bytes ∷ codes " bytes ago " ∷ []) else []
+ago_text bytes = counted (codes "was ") bytes (codes " bytes ago ")
 
 abbrev pub crossed_text : ℕ → ℕ → ℕ → List ℕ
 crossed_text number boundary byte =
@@ -111,11 +108,18 @@ declared_text type name s =
 abbrev pub written_text : Written → Slot → List ℕ
 written_text w s = declared_text w.type_part (name_text w.name_part s) s
 
--- the lines of the member in a place, given the slots of the earlier ones and its own
+-- the declaration of the member in a place
+abbrev pub member_decl : List CType → Ref → ℕ → Written
+member_decl types r k = decl types (member_type types r k) (member_name types r k)
+
+-- the lines of a member by its declaration, given the slots of the earlier ones and its own
+abbrev pub slot_text : ℕ → List Slot → Written → Slot → List ℕ
+slot_text line earlier w s =
+    hole_text s.hole ++ (boundary_text line earlier s ++ written_text w s)
+
+-- the lines of the member in a place
 abbrev pub member_text : List CType → Ref → ℕ → List Slot → ℕ → Slot → List ℕ
-member_text types r line earlier k s =
-    hole_text s.hole ++ (boundary_text line earlier s
-    ++ written_text (decl types (member_type types r k) (member_name types r k)) s)
+member_text types r line earlier k s = slot_text line earlier (member_decl types r k) s
 
 abbrev pub member_at : List CType → Ref → ℕ → List Slot → ℕ → List ℕ
 member_at types r line slots k =
@@ -169,15 +173,12 @@ holes_text slots = byte_holes_text (all_bits slots) (byte_holes slots) (hole_byt
 
 abbrev pub padding_text : ℕ → List ℕ
 padding_text padding =
-    (if nat_lt 0 (padding / 8)
-    then joined (codes "\t/* padding: " ∷ decimal (padding / 8) ∷ codes " */\n" ∷ []) else [])
-    ++ (if nat_lt 0 (padding % 8) then joined
-    (codes "\t/* bit_padding: " ∷ decimal (padding % 8) ∷ codes " bits */\n" ∷ []) else [])
+    counted (codes "\t/* padding: ") (padding / 8) (codes " */\n")
+    ++ counted (codes "\t/* bit_padding: ") (padding % 8) (codes " bits */\n")
 
 abbrev pub last_line_text : ℕ → ℕ → List ℕ
 last_line_text line size =
-    if nat_lt 0 (size % line) then joined
-    (codes "\t/* last cacheline: " ∷ decimal (size % line) ∷ codes " bytes */\n" ∷ []) else []
+    counted (codes "\t/* last cacheline: ") (size % line) (codes " bytes */\n")
 
 abbrev pub summary_text : ℕ → TypeLayout → List ℕ
 summary_text line shown = size_text line shown

@@ -2,12 +2,12 @@
 ghost use Rattle.std.specs.Prelude.{◌≡◌, ◌++◌, ◌<◌, ◌/◌, ◌*◌, ◌≤◌, List, IfOk, OnOk, max};
 ghost use Rattle.layout_printer.specs.declared.slots.Slot.{Slot};
 ghost use Rattle.layout_printer.specs.Text.{ago_text, boundary_text, crossed_text, declared_text};
-ghost use Rattle.layout_printer.specs.Text.{hole_text, is_in_bits, line_of, member_text};
-ghost use Rattle.layout_printer.specs.Text.{members_text, name_text, place_text};
+ghost use Rattle.layout_printer.specs.Text.{hole_text, is_in_bits, line_of, member_decl};
+ghost use Rattle.layout_printer.specs.Text.{members_text, name_text, place_text, slot_text};
 ghost use Rattle.layout_printer.specs.Lines.{greatest_line};
 
-use crate::declaration::declare;
-use crate::pieces::{Piece, put, put_if};
+use crate::declaration::{Declaration, declare};
+use crate::pieces::{Piece, put, put_count, put_if};
 use crate::shapes::{member_name, member_type};
 use crate::slots::Slot;
 use c_model::{CType, Ref};
@@ -27,32 +27,48 @@ pub fn put_members(
 {
     let mut greatest = 0;
     for (place, slot) in slots.iter().enumerate() {
-        put_member(alloc, out, types, r, line, greatest, place, slot)?;
+        let written = declare_member(alloc, types, r, place)?;
+        put_member(alloc, out, line, greatest, &written, slot)?;
         greatest = later_line(greatest, line_of(line, slot));
     }
     Ok(())
 }
 
-/// Appends the lines of a member. Of the earlier ones `greatest` is the last cache line that one
-/// begins in.
+/// The declaration of the member in a place.
+fn declare_member(
+    alloc: Global,
+    types: &[CType<'_>],
+    r: Ref,
+    place: usize,
+) -> Result<Declaration, AllocError>
+    ensures { IfOk result (λ w. record {
+      type_part = w.type_part.items;
+      name_part = w.name_part.items;
+    } ≡ member_decl types.now r place) }
+{
+    let name = member_name(types, r, place);
+    declare(alloc, types, member_type(types, r, place), name)
+}
+
+/// Appends the lines of a member by its declaration. Of the earlier ones `greatest` is the last
+/// cache line that one begins in.
 fn put_member(
     alloc: Global,
     out: &mut Vec<u8>,
-    types: &[CType<'_>],
-    r: Ref,
     line: u32,
     greatest: u64,
-    place: usize,
+    written: &Declaration,
     slot: &Slot,
 ) -> Result<(), AllocError>
     requires { 0 < line }
     ensures { OnOk result ((earlier : List Slot) → greatest ≡ greatest_line line earlier →
-        out.new.items ≡ out.old.items ++ member_text types.now r line earlier place slot.now) }
+        out.new.items ≡ out.old.items ++ slot_text line earlier (record {
+          type_part = written.now.type_part.items;
+          name_part = written.now.name_part.items;
+        }) slot.now) }
 {
     put_hole(out, slot.hole)?;
     put_boundary(out, line, greatest, slot)?;
-    let name = member_name(types, r, place);
-    let written = declare(alloc, types, member_type(types, r, place), name)?;
     let text = name_text(alloc, &written.name_part, slot)?;
     put_declared(out, &written.type_part, &text, slot)
 }
@@ -63,24 +79,8 @@ fn put_hole(out: &mut Vec<u8>, hole: u64) -> Result<(), AllocError>
     let bits = hole % 8;
     let bytes = hole / 8;
     put_if(out, hole > 0, &[Piece::Text(b"\n")])?;
-    put_if(
-        out,
-        bits > 0,
-        &[
-            Piece::Text(b"\t/* XXX "),
-            Piece::Number(bits),
-            Piece::Text(b" bits hole, try to pack */\n"),
-        ],
-    )?;
-    put_if(
-        out,
-        bytes > 0,
-        &[
-            Piece::Text(b"\t/* XXX "),
-            Piece::Number(bytes),
-            Piece::Text(b" bytes hole, try to pack */\n"),
-        ],
-    )?;
+    put_count(out, b"\t/* XXX ", bits, b" bits hole, try to pack */\n")?;
+    put_count(out, b"\t/* XXX ", bytes, b" bytes hole, try to pack */\n")?;
     put_if(out, hole > 0, &[Piece::Text(b"\n")])
 }
 
@@ -114,16 +114,7 @@ fn put_crossed(out: &mut Vec<u8>, number: u64, boundary: u64, byte: u64) -> Resu
             Piece::Text(b" bytes) "),
         ],
     )?;
-    let ago = byte - boundary;
-    put_if(
-        out,
-        ago > 0,
-        &[
-            Piece::Text(b"was "),
-            Piece::Number(ago),
-            Piece::Text(b" bytes ago "),
-        ],
-    )?;
+    put_count(out, b"was ", byte - boundary, b" bytes ago ")?;
     put(out, &[Piece::Text(b"--- */\n")])
 }
 

@@ -1,7 +1,7 @@
 //! Pieces of text.
 ghost use Rattle.std.specs.Prelude.{◌≡◌, ◌++◌, ◌≤◌, OnOk, length, decimal, replicate};
 ghost use Rattle.std.specs.Prelude.{if◌then◌else◌, [], ◌-◌};
-ghost use Rattle.layout_printer.specs.Pieces.{text_of, texts, spaces};
+ghost use Rattle.layout_printer.specs.Pieces.{counted, text_of, texts, spaces};
 
 use itoa::Buffer;
 use std::alloc::AllocError;
@@ -36,6 +36,26 @@ pub fn put_if(out: &mut Vec<u8>, holds: bool, pieces: &[Piece<'_>]) -> Result<()
     ensures { OnOk result (out.new.items ≡ out.old.items ++ (if holds then texts pieces.now else [])) }
 {
     if holds { put(out, pieces) } else { Ok(()) }
+}
+
+/// Appends a count between two texts; nothing where it is 0.
+pub fn put_count<'p>(
+    out: &mut Vec<u8>,
+    before: &'p [u8],
+    count: u64,
+    after: &'p [u8],
+) -> Result<(), AllocError>
+    ensures { OnOk result (out.new.items ≡ out.old.items ++ counted before.now count after.now) }
+{
+    put_if(
+        out,
+        count > 0,
+        &[
+            Piece::Text(before),
+            Piece::Number(count),
+            Piece::Text(after),
+        ],
+    )
 }
 
 fn put_piece(out: &mut Vec<u8>, piece: &Piece<'_>) -> Result<(), AllocError>

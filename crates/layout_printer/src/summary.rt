@@ -3,7 +3,7 @@ ghost use Rattle.std.specs.Prelude.{◌≡◌, ◌++◌, ◌<◌, OnOk};
 ghost use Rattle.layout_printer.specs.Text.{last_line_text, padding_text, size_text, summary_text};
 ghost use Rattle.layout_printer.specs.Totals.{AreTotals, sums_text};
 
-use crate::pieces::{Piece, put, put_if};
+use crate::pieces::{Piece, put, put_count, put_if};
 use crate::slots::{Slot, TypeLayout};
 use std::alloc::AllocError;
 
@@ -112,26 +112,8 @@ fn put_holes(out: &mut Vec<u8>, all: Totals) -> Result<(), AllocError>
 fn put_padding(out: &mut Vec<u8>, padding: u64) -> Result<(), AllocError>
     ensures { OnOk result (out.new.items ≡ out.old.items ++ padding_text padding) }
 {
-    let bytes = padding / 8;
-    let bits = padding % 8;
-    put_if(
-        out,
-        bytes > 0,
-        &[
-            Piece::Text(b"\t/* padding: "),
-            Piece::Number(bytes),
-            Piece::Text(b" */\n"),
-        ],
-    )?;
-    put_if(
-        out,
-        bits > 0,
-        &[
-            Piece::Text(b"\t/* bit_padding: "),
-            Piece::Number(bits),
-            Piece::Text(b" bits */\n"),
-        ],
-    )
+    put_count(out, b"\t/* padding: ", padding / 8, b" */\n")?;
+    put_count(out, b"\t/* bit_padding: ", padding % 8, b" bits */\n")
 }
 
 /// Appends the line of the last cache line, where it is not full.
@@ -139,14 +121,6 @@ fn put_last_line(out: &mut Vec<u8>, line: u32, size: u32) -> Result<(), AllocErr
     requires { 0 < line }
     ensures { OnOk result (out.new.items ≡ out.old.items ++ last_line_text line size) }
 {
-    let rest = size % line;
-    put_if(
-        out,
-        rest > 0,
-        &[
-            Piece::Text(b"\t/* last cacheline: "),
-            Piece::Number(u64::from(rest)),
-            Piece::Text(b" bytes */\n"),
-        ],
-    )
+    let rest = u64::from(size % line);
+    put_count(out, b"\t/* last cacheline: ", rest, b" bytes */\n")
 }

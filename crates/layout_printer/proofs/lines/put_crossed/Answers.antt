@@ -4,4 +4,4 @@ use Rattle.layout_printer.proofs.lines.put_crossed.Goals as goal
 
 pub returns : goal.returns
 returns c = on_ok_weaker c.put-2.result
-    (three _ _ _ _ _ _ _ c.in_ok-put.ensures c.in_ok-put_if.ensures) c.put-2.ensures
+    (three _ _ _ _ _ _ _ c.in_ok-put.ensures c.in_ok-put_count.ensures) c.put-2.ensures
