@@ -154,14 +154,33 @@ fn types_in<'a>(
     Ok(Ok(all))
 }
 
-/// The lines of the types of a file, or its refusal.
-fn lines_in(alloc: Global, file: &[u8]) -> Result<Result<Vec<String>, TypeFault>, Fail> {
+/// What is told of a unit as a whole.
+fn heading(unit: &UnitTypes<'_>) -> &'static str {
+    if !unit.read {
+        "unit passed over"
+    } else if unit.has_array {
+        "unit with an array"
+    } else {
+        "unit"
+    }
+}
+
+/// The lines of the types of a file, where it is asked for behind a heading for each unit, or its
+/// refusal.
+fn lines_in(
+    alloc: Global,
+    file: &[u8],
+    with_headings: bool,
+) -> Result<Result<Vec<String>, TypeFault>, Fail> {
     let found = match types_in(alloc, file)? {
         Ok(found) => found,
         Err(fault) => return Ok(Err(fault)),
     };
     let mut all = Vec::new(alloc);
     for unit in &found {
+        if with_headings {
+            all.push(format!(in alloc; "{}", heading(unit))?)?;
+        }
         for one in unit.types.items() {
             all.push(line(alloc, one)?)?;
         }
@@ -171,7 +190,7 @@ fn lines_in(alloc: Global, file: &[u8]) -> Result<Result<Vec<String>, TypeFault>
 
 /// The lines of the types of a unit of these entries, or its refusal.
 fn lines(alloc: Global, entries: &[u8]) -> Result<Result<Vec<String>, TypeFault>, Fail> {
-    lines_in(alloc, &file_of(alloc, entries)?)
+    lines_in(alloc, &file_of(alloc, entries)?, false)
 }
 
 /// Whether lines are those that are wanted.

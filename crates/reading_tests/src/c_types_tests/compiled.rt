@@ -107,7 +107,7 @@ fn compiled_unit(rt: HostRuntime) -> Result<(), Fail> {
         line_text: &[],
     };
     let file = file_of(rt.alloc(), Order::Little, sections)?;
-    let found = lines_in(rt.alloc(), file.as_slice())?;
+    let found = lines_in(rt.alloc(), file.as_slice(), false)?;
     assert!(rt; is_wanted(&found, Ok(&wanted)), "{found:?}");
     Ok(())
 }

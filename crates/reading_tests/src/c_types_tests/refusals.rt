@@ -339,7 +339,7 @@ fn abbreviations_first(rt: HostRuntime) -> Result<(), Fail> {
     ];
     for (table, fault) in tables {
         let file = plain_file(rt.alloc(), &info, table)?;
-        let found = lines_in(rt.alloc(), file.as_slice())?;
+        let found = lines_in(rt.alloc(), file.as_slice(), false)?;
         assert!(rt;
             is_wanted(&found, Err(fault)),
             "{table:?}: {found:?}, no {fault:?}"

@@ -1,12 +1,11 @@
 //! Units that were written out by hand, entry by entry, and the types that the rules give them. The
 //! types were written down from the entries, before the bytes were read.
-use super::{is_wanted, line, types_in};
+use super::{is_wanted, lines_in};
 use dw_base::Order;
 use small_files::bytes::{Sections, file_of, joined, put_unit};
 use std::alloc::{AllocError, Global};
 use std::test::Fail;
 use type_attributes::fault::TypeFault;
-use type_attributes::source::UnitTypes;
 
 /// Units, each with its entries in order.
 type Units = &'static [&'static [&'static [u8]]];
@@ -314,33 +313,6 @@ fn info_of(alloc: Global, order: Order, units: &[&[&[u8]]]) -> Result<Vec<u8>, A
     Ok(info)
 }
 
-/// What is told of a unit as a whole.
-fn heading(unit: &UnitTypes<'_>) -> &'static str {
-    if !unit.read {
-        "unit passed over"
-    } else if unit.has_array {
-        "unit with an array"
-    } else {
-        "unit"
-    }
-}
-
-/// A heading for each unit of a file, and a line for each of its types; or the refusal.
-fn report(alloc: Global, file: &[u8]) -> Result<Result<Vec<String>, TypeFault>, Fail> {
-    let found = match types_in(alloc, file)? {
-        Ok(found) => found,
-        Err(fault) => return Ok(Err(fault)),
-    };
-    let mut all = Vec::new(alloc);
-    for unit in &found {
-        all.push(format!(in alloc; "{}", heading(unit))?)?;
-        for one in unit.types.items() {
-            all.push(line(alloc, one)?)?;
-        }
-    }
-    Ok(Ok(all))
-}
-
 /// The types of units of little-endian files.
 #[test]
 fn worked_units(rt: HostRuntime) -> Result<(), Fail> {
@@ -484,7 +456,7 @@ fn worked_units(rt: HostRuntime) -> Result<(), Fail> {
             line_text: case.line_strings,
         };
         let file = file_of(rt.alloc(), Order::Little, sections)?;
-        let found = report(rt.alloc(), file.as_slice())?;
+        let found = lines_in(rt.alloc(), file.as_slice(), true)?;
         assert!(rt; is_wanted(&found, case.wanted), "{}: {found:?}", case.name);
     }
     Ok(())
@@ -502,7 +474,7 @@ fn big_endian_unit(rt: HostRuntime) -> Result<(), Fail> {
         line_text: &[],
     };
     let file = file_of(rt.alloc(), Order::Big, sections)?;
-    let found = report(rt.alloc(), file.as_slice())?;
+    let found = lines_in(rt.alloc(), file.as_slice(), true)?;
     assert!(rt; is_wanted(&found, Ok(wanted)), "{found:?}");
     Ok(())
 }
