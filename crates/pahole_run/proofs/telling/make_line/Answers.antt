@@ -1,9 +1,8 @@
-use Rattle.std.proofs.Common.{◌≡◌, ℕ, Err, List, None, false, rules}
+use Rattle.std.proofs.Common.{◌≡◌, Err, None, false, rules}
 use Rattle.command_line.specs.declared.job.Format.TheVariants.{Dwarf}
 use Rattle.pahole_run.specs.Files.{Inputs, base_in}
 use Rattle.pahole_run.specs.Layers.{of_make}
 use Rattle.pahole_run.specs.Steps.{ended_as, inputs_from}
-use Rattle.pahole_run.specs.Tables.{btf_of}
 use Rattle.pahole_run.specs.Tasks.Output.{Told}
 use Rattle.pahole_run.proofs.TableLemmas.{bytes_unmade, line_made, line_unwritten}
 use Rattle.pahole_run.proofs.telling.make_line.Goals as goal
@@ -21,8 +20,7 @@ returns-in_err-bytes g c =
     let inputs : Inputs = inputs_from c.args.files.now None false in
     rw gone
     (line_unwritten c.args.context.now.limits inputs c.in_ok-made.made
-    (λ (v : List ℕ). v ≡ btf_of c.order_in.result (base_in Dwarf inputs)
-    c.in_ok-made.made.table.types) (of_make c.in_err-bytes.field-0.0) c.in_ok-made.ensures.made
+    (of_make c.in_err-bytes.field-0.0) c.in_ok-made.ensures.made
     (c.in_err-bytes.ensures.told (base_in Dwarf inputs) c.in_ok-made.ensures.made.over)
     c.in_err-bytes.ensures.own)
 
