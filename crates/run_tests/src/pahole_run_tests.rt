@@ -331,7 +331,7 @@ fn refuses_in_order(rt: HostRuntime) -> Result<(), Fail> {
     let int = file_with(alloc, Order::Little, &[INT])?;
     let big = file_with(alloc, Order::Big, &[INT])?;
     let (one, big) = (int.as_slice(), big.as_slice());
-    let size = one.len() as u64;
+    let size = u32::try_from(one.len()).unwrap_or(u32::MAX);
     let cases = [
         (
             NO_ELF.as_slice(),
@@ -404,7 +404,7 @@ fn refuses_in_order(rt: HostRuntime) -> Result<(), Fail> {
         let mut world = world(alloc, files, None)?;
         let words = words(alloc, "--btf_encode_detached=o a b")?;
         let limits = Limits {
-            file_bytes,
+            file_bytes: u64::from(file_bytes),
             all_bytes: SHIPPED.all_bytes,
             nodes: 1,
         };
