@@ -1,3 +1,4 @@
+//! Words of a command line, and the job or the complaint that they are read as.
 use command_line::job::{Format, Job, JobFault, Text, Texts};
 use command_line::scan::job_of;
 use std::alloc::{AllocError, Global};
