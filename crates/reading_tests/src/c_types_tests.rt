@@ -212,133 +212,137 @@ fn is_wanted(found: &Result<Vec<String>, TypeFault>, wanted: Result<&[&str], Typ
     }
 }
 
+/// The entries of a unit: its root, and these, which begin at offset 13.
+fn under_root(alloc: Global, entries: &[u8]) -> Result<Vec<u8>, AllocError> {
+    [&[1], entries, &[0]].concat(alloc)
+}
+
 /// Holds the types of entries behind the root, which begin at offset 13, against lines.
 fn compare(rt: &impl Abort, alloc: Global, entries: &[u8], wanted: &[&str]) -> Result<(), Fail> {
-    let mut bytes = Vec::from_slice(alloc, &[1])?;
-    bytes.extend_from_slice(entries)?;
-    bytes.push(0)?;
-    let found = lines(alloc, bytes.as_slice())?;
+    let found = lines(alloc, &under_root(alloc, entries)?)?;
     assert!(rt; is_wanted(&found, Ok(wanted)), "{entries:?}: {found:?}");
     Ok(())
 }
 
+/// Entries behind the root, and the lines of their types.
+const IN_LINES: [(&[u8], &[&str]); 18] = [
+    (
+        &[67, 68, 69, 70, 71, 0x6e, 0, 72, 0x74, 0, 74, 0x76, 0],
+        &[
+            "13 2 - false 0 0 void",
+            "14 10 - false 0 0 void",
+            "15 9 - false 0 0 void",
+            "16 11 - false 0 0 void",
+            "17 4 n false 0 0",
+            "20 8 t false 0 0 void",
+        ],
+    ),
+    (
+        &[
+            2, 0x62, 0, 1, 2, 2, 0x63, 0, 1, 6, 2, 0x75, 0, 1, 8, 2, 0x77, 0, 4, 16, 2, 0x71, 0,
+            16, 7, 2, 0x6c, 0, 16, 4,
+        ],
+        &[
+            "13 1 b false 1 67108872",
+            "18 1 c false 1 16777224",
+            "23 1 u false 1 8",
+            "28 1 w false 4 32",
+            "33 1 q false 16 128",
+            "38 16 l false 16 0",
+        ],
+    ),
+    (
+        &[
+            2, 0x7a, 0, 16, 3, 2, 0x70, 0, 3, 5, 73, 0x6e, 0, 4, 5, 32, 73, 0x6d, 0, 4, 5, 31,
+        ],
+        &[
+            "13 4 z false 16 0",
+            "18 4 p false 3 0",
+            "23 1 n false 4 16777248",
+            "29 4 m false 4 0",
+        ],
+    ),
+    (
+        &[2, 0x69, 0, 4, 5, 2, 0x66, 0, 4, 4, 2, 0x78, 0, 3, 5],
+        &[
+            "13 1 i false 4 16777248",
+            "18 16 f false 4 0",
+            "23 4 x false 3 0",
+        ],
+    ),
+    (
+        &[31, 12, 0, 0, 0, 32, 0x75, 0],
+        &["13 8 _Atomic false 0 0 13:12", "18 7 u true 0 0"],
+    ),
+    (
+        &[
+            8, 0x73, 0, 8, 9, 0x6d, 0, 13, 0, 0, 0, 4, 12, 13, 0, 0, 0, 3, 33, 0,
+        ],
+        &["13 4 s true 8 0 m=32 -=50331681 17:13 25:13"],
+    ),
+    (
+        &[8, 0x73, 0, 8, 44, 13, 2, 0x23, 4, 0],
+        &["13 4 s false 8 0 -=32 17:13"],
+    ),
+    (
+        &[
+            8, 0x73, 0, 8, 8, 0x74, 0, 4, 0, 9, 0x6d, 0, 13, 0, 0, 0, 4, 0,
+        ],
+        &["13 4 s false 8 0 m=32 22:13", "17 4 t false 4 0"],
+    ),
+    (
+        &[
+            13, 13, 0, 0, 0, 24, 4, 24, 5, 0, 13, 13, 0, 0, 0, 0, 13, 13, 0, 0, 0, 14, 0x7f, 0,
+        ],
+        &[
+            "13 3 - false 0 30 13:13 index",
+            "23 3 - false 0 0 23:13 index",
+            "29 3 - false 0 0 29:13 index",
+        ],
+    ),
+    (
+        &[25, 27, 13, 0, 0, 0, 28, 0],
+        &["13 13 - false 0 0 -=0 -=0 void 14:13 void"],
+    ),
+    (
+        &[15, 0x65, 0, 4, 16, 0x41, 0, 0x7f, 16, 0x42, 0, 1, 0],
+        &["13 6 e true 4 0 A=4294967295 B=1"],
+    ),
+    (
+        &[15, 0x65, 0, 8, 16, 0x41, 0, 0x7e, 0],
+        &["13 19 e true 8 0 A=18446744073709551614"],
+    ),
+    (
+        &[
+            8, 0x73, 0, 8, 9, 0x6d, 0, 13, 0, 0, 0, 0, 76, 75, 33, 13, 0, 0, 36, 33, 13, 0, 72,
+            0x74, 0, 9, 0x6e, 0, 13, 0, 0, 0, 4, 0,
+        ],
+        &[
+            "13 4 s false 8 0 m=0 n=32 17:13 38:13",
+            "31 4 - false 8 0 -=0 32:13",
+            "35 8 t false 0 0 void",
+        ],
+    ),
+    (
+        &[13, 13, 0, 0, 0, 14, 3, 13, 13, 0, 0, 0, 14, 5, 0, 14, 2, 0],
+        &[
+            "13 3 - false 0 6 13:13 index",
+            "20 3 - false 0 5 20:13 index",
+        ],
+    ),
+    (
+        &[76, 75, 15, 0x65, 0, 4, 16, 0x41, 0, 1, 0, 0, 0, 72, 0x74, 0],
+        &["15 6 e false 4 0 A=1", "26 8 t false 0 0 void"],
+    ),
+    (&[77, 4, 33, 13], &["13 4 - false 4 0"]),
+    (&[15, 0x65, 0, 2, 0], &["13 6 e false 4 0"]),
+    (&[15, 0, 2, 0], &["13 6 - false 2 0"]),
+];
+
 /// The types of entries: offset, kind, name, flag, size, last word, parts, and what they refer to.
 #[test]
 fn types_in_lines(rt: HostRuntime) -> Result<(), Fail> {
-    let cases: [(&[u8], &[&str]); 18] = [
-        (
-            &[67, 68, 69, 70, 71, 0x6e, 0, 72, 0x74, 0, 74, 0x76, 0],
-            &[
-                "13 2 - false 0 0 void",
-                "14 10 - false 0 0 void",
-                "15 9 - false 0 0 void",
-                "16 11 - false 0 0 void",
-                "17 4 n false 0 0",
-                "20 8 t false 0 0 void",
-            ],
-        ),
-        (
-            &[
-                2, 0x62, 0, 1, 2, 2, 0x63, 0, 1, 6, 2, 0x75, 0, 1, 8, 2, 0x77, 0, 4, 16, 2, 0x71,
-                0, 16, 7, 2, 0x6c, 0, 16, 4,
-            ],
-            &[
-                "13 1 b false 1 67108872",
-                "18 1 c false 1 16777224",
-                "23 1 u false 1 8",
-                "28 1 w false 4 32",
-                "33 1 q false 16 128",
-                "38 16 l false 16 0",
-            ],
-        ),
-        (
-            &[
-                2, 0x7a, 0, 16, 3, 2, 0x70, 0, 3, 5, 73, 0x6e, 0, 4, 5, 32, 73, 0x6d, 0, 4, 5, 31,
-            ],
-            &[
-                "13 4 z false 16 0",
-                "18 4 p false 3 0",
-                "23 1 n false 4 16777248",
-                "29 4 m false 4 0",
-            ],
-        ),
-        (
-            &[2, 0x69, 0, 4, 5, 2, 0x66, 0, 4, 4, 2, 0x78, 0, 3, 5],
-            &[
-                "13 1 i false 4 16777248",
-                "18 16 f false 4 0",
-                "23 4 x false 3 0",
-            ],
-        ),
-        (
-            &[31, 12, 0, 0, 0, 32, 0x75, 0],
-            &["13 8 _Atomic false 0 0 13:12", "18 7 u true 0 0"],
-        ),
-        (
-            &[
-                8, 0x73, 0, 8, 9, 0x6d, 0, 13, 0, 0, 0, 4, 12, 13, 0, 0, 0, 3, 33, 0,
-            ],
-            &["13 4 s true 8 0 m=32 -=50331681 17:13 25:13"],
-        ),
-        (
-            &[8, 0x73, 0, 8, 44, 13, 2, 0x23, 4, 0],
-            &["13 4 s false 8 0 -=32 17:13"],
-        ),
-        (
-            &[
-                8, 0x73, 0, 8, 8, 0x74, 0, 4, 0, 9, 0x6d, 0, 13, 0, 0, 0, 4, 0,
-            ],
-            &["13 4 s false 8 0 m=32 22:13", "17 4 t false 4 0"],
-        ),
-        (
-            &[
-                13, 13, 0, 0, 0, 24, 4, 24, 5, 0, 13, 13, 0, 0, 0, 0, 13, 13, 0, 0, 0, 14, 0x7f, 0,
-            ],
-            &[
-                "13 3 - false 0 30 13:13 index",
-                "23 3 - false 0 0 23:13 index",
-                "29 3 - false 0 0 29:13 index",
-            ],
-        ),
-        (
-            &[25, 27, 13, 0, 0, 0, 28, 0],
-            &["13 13 - false 0 0 -=0 -=0 void 14:13 void"],
-        ),
-        (
-            &[15, 0x65, 0, 4, 16, 0x41, 0, 0x7f, 16, 0x42, 0, 1, 0],
-            &["13 6 e true 4 0 A=4294967295 B=1"],
-        ),
-        (
-            &[15, 0x65, 0, 8, 16, 0x41, 0, 0x7e, 0],
-            &["13 19 e true 8 0 A=18446744073709551614"],
-        ),
-        (
-            &[
-                8, 0x73, 0, 8, 9, 0x6d, 0, 13, 0, 0, 0, 0, 76, 75, 33, 13, 0, 0, 36, 33, 13, 0, 72,
-                0x74, 0, 9, 0x6e, 0, 13, 0, 0, 0, 4, 0,
-            ],
-            &[
-                "13 4 s false 8 0 m=0 n=32 17:13 38:13",
-                "31 4 - false 8 0 -=0 32:13",
-                "35 8 t false 0 0 void",
-            ],
-        ),
-        (
-            &[13, 13, 0, 0, 0, 14, 3, 13, 13, 0, 0, 0, 14, 5, 0, 14, 2, 0],
-            &[
-                "13 3 - false 0 6 13:13 index",
-                "20 3 - false 0 5 20:13 index",
-            ],
-        ),
-        (
-            &[76, 75, 15, 0x65, 0, 4, 16, 0x41, 0, 1, 0, 0, 0, 72, 0x74, 0],
-            &["15 6 e false 4 0 A=1", "26 8 t false 0 0 void"],
-        ),
-        (&[77, 4, 33, 13], &["13 4 - false 4 0"]),
-        (&[15, 0x65, 0, 2, 0], &["13 6 e false 4 0"]),
-        (&[15, 0, 2, 0], &["13 6 - false 2 0"]),
-    ];
-    for (entries, wanted) in cases {
+    for (entries, wanted) in IN_LINES {
         compare(&rt, rt.alloc(), entries, wanted)?;
     }
     Ok(())

@@ -100,44 +100,70 @@ const UNTYPED: &[u8] = b"\x01\x04u\0\x06x\0\0\0";
 /// Two functions at 13 and 21, which return themselves.
 const OUT: &[u8] = b"\x01\x03p\0\x0d\0\0\0\0\x03q\0\x15\0\0\0\0\0";
 
-/// The unit of this number, of the second file, is refused by a parameter at 46.
-fn refused(unit: u32) -> FuncFault {
-    FuncFault::Unit {
-        file: 1,
-        unit,
-        fault: TypeFault::MissingType(46),
+/// Why there are no functions.
+#[derive(Clone, Copy)]
+enum Why {
+    /// There are too many nodes, so many with the first unit that has them.
+    Nodes(u64),
+    /// The unit of this number, of the second file, is refused by a parameter at 46.
+    Unit(u32),
+    /// The function at this offset of the second file returns a function there.
+    Out(u64),
+}
+
+/// The fault that a reason stands for.
+fn fault_of(why: Why) -> FuncFault {
+    match why {
+        Why::Nodes(nodes) => FuncFault::NodesTooMany(nodes),
+        Why::Unit(unit) => FuncFault::Unit {
+            file: 1,
+            unit,
+            fault: TypeFault::MissingType(46),
+        },
+        Why::Out(at) => FuncFault::TypeRefOut {
+            file: 1,
+            from: at,
+            to: u128::from(at),
+            tag: 0x2e,
+        },
     }
 }
 
-/// The function at this offset of the second file returns a function there.
-fn out(at: u64) -> FuncFault {
-    FuncFault::TypeRefOut {
-        file: 1,
-        from: at,
-        to: u128::from(at),
-        tag: 0x2e,
+/// Whether what came of units is what is wanted.
+fn is_wanted(found: &Result<String, FuncFault>, wanted: Result<&str, Why>) -> bool {
+    match (found, wanted) {
+        (Ok(line), Ok(wanted)) => line.as_str() == wanted,
+        (Err(fault), Err(why)) => *fault == fault_of(why),
+        _ => false,
     }
 }
 
 /// The units of two files, the most nodes, and what comes of them.
+const PROTOTYPES: [(&[&[u8]], &[&[u8]], u32, Result<&str, Why>); 7] = [
+    (&[], &[], 0, Ok("")),
+    (
+        &[FIRST, SECOND],
+        &[OTHER],
+        9,
+        Ok("f true 3:13,1,0; g false 4:13,void,0; h false 5:13,void,2; "),
+    ),
+    (&[FIRST, SECOND], &[OTHER], 8, Err(Why::Nodes(9))),
+    (&[SECOND], &[OUT], 99, Err(Why::Out(13))),
+    (&[SECOND], &[OUT], 6, Err(Why::Nodes(7))),
+    (
+        &[FIRST, SECOND],
+        &[OTHER, UNTYPED, UNTYPED],
+        99,
+        Err(Why::Unit(3)),
+    ),
+    (&[OUT], &[OTHER, UNTYPED], 0, Err(Why::Unit(2))),
+];
+
 #[test]
 fn prototypes_in_lines(rt: HostRuntime) -> Result<(), Fail> {
-    let two: &[&[u8]] = &[FIRST, SECOND];
-    let all = "f true 3:13,1,0; g false 4:13,void,0; h false 5:13,void,2; ";
-    let cases: [(&[&[u8]], &[&[u8]], u32, Result<&str, FuncFault>); 7] = [
-        (&[], &[], 0, Ok("")),
-        (two, &[OTHER], 9, Ok(all)),
-        (two, &[OTHER], 8, Err(FuncFault::NodesTooMany(9))),
-        (&[SECOND], &[OUT], 99, Err(out(13))),
-        (&[SECOND], &[OUT], 6, Err(FuncFault::NodesTooMany(7))),
-        (two, &[OTHER, UNTYPED, UNTYPED], 99, Err(refused(3))),
-        (&[OUT], &[OTHER, UNTYPED], 0, Err(refused(2))),
-    ];
-    for (first, second, most, wanted) in cases {
-        match answer(&rt, rt.alloc(), most, first, second)? {
-            Ok(text) => assert_eq!(rt; Ok(text.as_str()), wanted),
-            Err(fault) => assert_eq!(rt; Err(fault), wanted),
-        }
+    for (first, second, most, wanted) in PROTOTYPES {
+        let found = answer(&rt, rt.alloc(), most, first, second)?;
+        assert!(rt; is_wanted(&found, wanted), "{found:?}");
     }
     Ok(())
 }

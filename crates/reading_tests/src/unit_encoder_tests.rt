@@ -105,22 +105,44 @@ fn one_file(alloc: Global, units: &[&[u8]]) -> Result<Vec<Vec<u8>>, AllocError> 
     Ok(files)
 }
 
-/// A reference of the first file that names no type.
-fn out(from: u64, to: u128, tag: u64) -> EncodeFault {
-    EncodeFault::TypeRefOut {
-        file: 0,
-        from,
-        to,
-        tag,
+/// What is wanted: the graph in a line, or why there is none.
+type Wanted = Result<&'static str, Why>;
+
+/// Why units have no graph.
+#[derive(Clone, Copy)]
+enum Why {
+    /// There are too many nodes, so many with the first unit that has them.
+    Nodes(u64),
+    /// A reference of a file, from an offset to another, names an entry of this tag, or none (0).
+    Out(u32, u64, u128, u64),
+    /// A unit of the first file is refused.
+    Unit(u32, TypeFault),
+}
+
+/// The fault that a reason stands for.
+fn fault_of(why: Why) -> EncodeFault {
+    match why {
+        Why::Nodes(nodes) => EncodeFault::NodesTooMany(nodes),
+        Why::Out(file, from, to, tag) => EncodeFault::TypeRefOut {
+            file,
+            from,
+            to,
+            tag,
+        },
+        Why::Unit(unit, fault) => EncodeFault::Unit {
+            file: 0,
+            unit,
+            fault,
+        },
     }
 }
 
-/// A unit of the first file that is refused.
-fn refused(unit: u32, fault: TypeFault) -> EncodeFault {
-    EncodeFault::Unit {
-        file: 0,
-        unit,
-        fault,
+/// Whether what came of units is what is wanted.
+fn is_wanted(found: &Result<String, EncodeFault>, wanted: Wanted) -> bool {
+    match (found, wanted) {
+        (Ok(line), Ok(wanted)) => line.as_str() == wanted,
+        (Err(fault), Err(why)) => *fault == fault_of(why),
+        _ => false,
     }
 }
 
@@ -138,159 +160,168 @@ const TO_FUNCTION: &[u8] = b"\x01\x0a\x03\x0d\0\0\0\0";
 /// A pointer to an offset of 64 bits, all of them set, in its unit.
 const FAR: &[u8] = b"\x01\x0b\xff\xff\xff\xff\xff\xff\xff\xff\0";
 
+const FORWARD: &[u8] = b"\x01\x03\x12\0\0\0\x02i\0\x04\x05\0";
+
+const BACKWARD: &[u8] = b"\x01\x02i\0\x04\x05\x03\x0d\0\0\0\0";
+/// A pointer to the first type of a file whose first unit is one of another language.
+const OVER_OTHER: &[u8] = b"\x01\x04\x0e\0\0\0\0";
+
+const TO_ROOT: &[u8] = b"\x01\x03\x0c\0\0\0\0";
+/// A pointer to the middle of an entry.
+const TO_MIDDLE: &[u8] = b"\x01\x02i\0\x04\x05\x03\x0e\0\0\0\0";
+/// A subroutine type with a parameter without a type.
+const UNTYPED: &[u8] = b"\x01\x07\x08\0\0";
+/// A unit of another language.
+const OTHER: &[u8] = b"\x09\x04\x02i\0\x04\x05\0";
+
+const ROOT: &[u8] = b"\x01\0";
+/// The same as `UNTYPED`, behind two base types.
+const LATE: &[u8] = b"\x01\x02i\0\x04\x05\x02i\0\x04\x05\x07\x08\0\0";
+
 /// The units of one file, the most nodes, and what comes of them.
+const GRAPHS: [(&[&[u8]], u32, Wanted); 24] = [
+    (&[], 0, Ok("")),
+    (&[ROOT], 0, Ok("")),
+    (&[FORWARD], 8, Ok("2:0,1 1:16777248 ")),
+    (&[BACKWARD], 8, Ok("1:16777248 2:0,0 ")),
+    (&[ITSELF, ITSELF], 2, Ok("2:0,0 2:0,1 ")),
+    (&[ITSELF, ITSELF], 1, Err(Why::Nodes(2))),
+    (&[INT, OVER], 8, Ok("1:16777248 2:0,0 ")),
+    (&[OVER, INT], 8, Ok("2:0,0 1:16777248 ")),
+    (&[AHEAD, INT], 8, Ok("2:0,1 1:16777248 ")),
+    (&[ARRAY], 3, Ok("1:16777248 3:30,0,2 1:32 ")),
+    (&[ARRAY], 2, Err(Why::Nodes(3))),
+    (
+        &[ARRAY, ARRAY],
+        6,
+        Ok("1:16777248 3:30,0,2 1:32 1:16777248 3:30,3,5 1:32 "),
+    ),
+    (&[TO_ROOT], 8, Err(Why::Out(0, 13, 12, 0x11))),
+    (&[TO_FUNCTION], 8, Err(Why::Out(0, 14, 13, 0x2e))),
+    (&[AHEAD, TO_FUNCTION], 8, Err(Why::Out(0, 13, 32, 0x2e))),
+    (&[TO_MIDDLE], 8, Err(Why::Out(0, 18, 14, 0))),
+    (
+        &[FAR],
+        8,
+        Err(Why::Out(0, 13, 18_446_744_073_709_551_615, 0)),
+    ),
+    (
+        &[ITSELF, FAR],
+        8,
+        Err(Why::Out(0, 32, 18_446_744_073_709_551_634, 0)),
+    ),
+    (&[OTHER, OVER_OTHER], 8, Err(Why::Out(0, 33, 14, 0))),
+    (&[TO_ROOT, FAR], 1, Err(Why::Nodes(2))),
+    (
+        &[ITSELF, UNTYPED],
+        0,
+        Err(Why::Unit(1, TypeFault::MissingType(33))),
+    ),
+    (
+        &[UNTYPED, UNTYPED],
+        0,
+        Err(Why::Unit(0, TypeFault::MissingType(14))),
+    ),
+    (
+        &[LATE, UNTYPED],
+        0,
+        Err(Why::Unit(0, TypeFault::MissingType(24))),
+    ),
+    (
+        &[UNTYPED, LATE],
+        0,
+        Err(Why::Unit(0, TypeFault::MissingType(14))),
+    ),
+];
+
 #[test]
 fn graphs(rt: HostRuntime) -> Result<(), Fail> {
     let alloc = rt.alloc();
-    let forward: &[u8] = b"\x01\x03\x12\0\0\0\x02i\0\x04\x05\0";
-    let backward: &[u8] = b"\x01\x02i\0\x04\x05\x03\x0d\0\0\0\0";
-    let over_other: &[u8] = b"\x01\x04\x0e\0\0\0\0";
-    let to_root: &[u8] = b"\x01\x03\x0c\0\0\0\0";
-    let to_middle: &[u8] = b"\x01\x02i\0\x04\x05\x03\x0e\0\0\0\0";
-    let untyped: &[u8] = b"\x01\x07\x08\0\0";
-    let other: &[u8] = b"\x09\x04\x02i\0\x04\x05\0";
-    let root: &[u8] = b"\x01\0";
-    let late: &[u8] = b"\x01\x02i\0\x04\x05\x02i\0\x04\x05\x07\x08\0\0";
-    let cases: [(&[&[u8]], u32, Result<&str, EncodeFault>); 24] = [
-        (&[], 0, Ok("")),
-        (&[root], 0, Ok("")),
-        (&[forward], 8, Ok("2:0,1 1:16777248 ")),
-        (&[backward], 8, Ok("1:16777248 2:0,0 ")),
-        (&[ITSELF, ITSELF], 2, Ok("2:0,0 2:0,1 ")),
-        (&[ITSELF, ITSELF], 1, Err(EncodeFault::NodesTooMany(2))),
-        (&[INT, OVER], 8, Ok("1:16777248 2:0,0 ")),
-        (&[OVER, INT], 8, Ok("2:0,0 1:16777248 ")),
-        (&[AHEAD, INT], 8, Ok("2:0,1 1:16777248 ")),
-        (&[ARRAY], 3, Ok("1:16777248 3:30,0,2 1:32 ")),
-        (&[ARRAY], 2, Err(EncodeFault::NodesTooMany(3))),
-        (
-            &[ARRAY, ARRAY],
-            6,
-            Ok("1:16777248 3:30,0,2 1:32 1:16777248 3:30,3,5 1:32 "),
-        ),
-        (&[to_root], 8, Err(out(13, 12, 0x11))),
-        (&[TO_FUNCTION], 8, Err(out(14, 13, 0x2e))),
-        (&[AHEAD, TO_FUNCTION], 8, Err(out(13, 32, 0x2e))),
-        (&[to_middle], 8, Err(out(18, 14, 0))),
-        (&[FAR], 8, Err(out(13, 18_446_744_073_709_551_615, 0))),
-        (
-            &[ITSELF, FAR],
-            8,
-            Err(out(32, 18_446_744_073_709_551_634, 0)),
-        ),
-        (&[other, over_other], 8, Err(out(33, 14, 0))),
-        (&[to_root, FAR], 1, Err(EncodeFault::NodesTooMany(2))),
-        (
-            &[ITSELF, untyped],
-            0,
-            Err(refused(1, TypeFault::MissingType(33))),
-        ),
-        (
-            &[untyped, untyped],
-            0,
-            Err(refused(0, TypeFault::MissingType(14))),
-        ),
-        (
-            &[late, untyped],
-            0,
-            Err(refused(0, TypeFault::MissingType(24))),
-        ),
-        (
-            &[untyped, late],
-            0,
-            Err(refused(0, TypeFault::MissingType(14))),
-        ),
-    ];
-    for (units, most, wanted) in cases {
+    for (units, most, wanted) in GRAPHS {
         let files = one_file(alloc, units)?;
         for jobs in [1, 2, 4, 256] {
-            match answer_of(&rt, alloc, &OpenGate, jobs, most, &[0], files.as_slice())? {
-                Ok(found) => assert_eq!(rt; Ok(found.as_str()), wanted),
-                Err(fault) => assert_eq!(rt; Err(fault), wanted),
-            }
+            let found = answer_of(&rt, alloc, &OpenGate, jobs, most, &[0], files.as_slice())?;
+            assert!(rt; is_wanted(&found, wanted), "{found:?}");
         }
     }
     Ok(())
 }
+
+const TWO: &[u8] = b"\x01\x02i\0\x04\x05\x03\x12\0\0\0\0";
+/// A pointer to the second type of `TWO`, which ends behind this unit.
+const PAST: &[u8] = b"\x01\x04\x12\0\0\0\0";
+
+/// The number of a file and its unit, those of another, and what comes of them.
+const FILES: [(u32, &[u8], u32, &[u8], Wanted); 6] = [
+    (0, INT, 1, OVER, Ok("1:16777248 2:0,1 ")),
+    (1, INT, 0, OVER, Ok("1:16777248 2:0,1 ")),
+    (0, TWO, 0, PAST, Ok("1:16777248 2:0,1 2:0,1 ")),
+    (0, TWO, 1, PAST, Err(Why::Out(1, 13, 18, 0))),
+    (1, PAST, 0, TWO, Err(Why::Out(1, 13, 18, 0))),
+    (0, ITSELF, 0, ITSELF, Ok("2:0,1 2:0,1 ")),
+];
 
 /// A reference never leaves its file. Files may come in any order, and one may come again: then the
 /// last node at a place counts.
 #[test]
 fn files(rt: HostRuntime) -> Result<(), Fail> {
     let alloc = rt.alloc();
-    let two: &[u8] = b"\x01\x02i\0\x04\x05\x03\x12\0\0\0\0";
-    let past: &[u8] = b"\x01\x04\x12\0\0\0\0";
-    let past_out = EncodeFault::TypeRefOut {
-        file: 1,
-        from: 13,
-        to: 18,
-        tag: 0,
-    };
-    let cases: [(u32, &[u8], u32, &[u8], Result<&str, EncodeFault>); 6] = [
-        (0, INT, 1, OVER, Ok("1:16777248 2:0,1 ")),
-        (1, INT, 0, OVER, Ok("1:16777248 2:0,1 ")),
-        (0, two, 0, past, Ok("1:16777248 2:0,1 2:0,1 ")),
-        (0, two, 1, past, Err(past_out)),
-        (1, past, 0, two, Err(past_out)),
-        (0, ITSELF, 0, ITSELF, Ok("2:0,1 2:0,1 ")),
-    ];
-    for (first, unit, second, other, wanted) in cases {
+    for (first, unit, second, other, wanted) in FILES {
         let mut files = one_file(alloc, &[unit])?;
         files.push(file_of(alloc, &[other])?)?;
-        match answer_of(
-            &rt,
-            alloc,
-            &OpenGate,
-            1,
-            8,
-            &[first, second],
-            files.as_slice(),
-        )? {
-            Ok(found) => assert_eq!(rt; Ok(found.as_str()), wanted),
-            Err(fault) => assert_eq!(rt; Err(fault), wanted),
-        }
+        let numbers = [first, second];
+        let found = answer_of(&rt, alloc, &OpenGate, 1, 8, &numbers, files.as_slice())?;
+        assert!(rt; is_wanted(&found, wanted), "{found:?}");
     }
     Ok(())
 }
 
-/// Units as compilers write them, and the numbers that the gate is told.
+/// Units as compilers write them: a base type, one without a name, a typedef of the unit's root, a
+/// structure with pointers to itself, and structures with pointers to each other.
+const LONG_INT: &[u8] = b"\x09\x1d\x02int\0\x04\x05\0";
+
+const NAMELESS: &[u8] = b"\x09\x1d\x02\0\x04\x05\0\0\0\0";
+
+const TYPEDEF_OF_ROOT: &[u8] = b"\x09\x1d\x0ft\0\x0c\0\0\0\0";
+
+const LIST_HEAD: &[u8] =
+    b"\x09\x1d\x0clist_head\0\x10\x0dnext\0\x31\0\0\0\0\x0dprev\0\x31\0\0\0\x08\0\x03\x0e\0\0\0\0";
+
+const A_TO_DECLARED: &[u8] = b"\x09\x1d\x0cA\0\x08\x0db\0\x1b\0\0\0\0\0\x03\x20\0\0\0\x0eB\0\0";
+
+const B_TO_DECLARED: &[u8] = b"\x09\x1d\x0cB\0\x08\x0da\0\x1b\0\0\0\0\0\x03\x20\0\0\0\x0eA\0\0";
+
+const BOTH: &[u8] =
+    b"\x09\x1d\x0cA\0\x08\x0db\0\x1b\0\0\0\0\0\x03\x20\0\0\0\x0cB\0\x08\x0da\0\x2d\0\0\0\0\0\x03\x0e\0\0\0\0";
+
+/// Units, the digits of those that the gate is told, and what comes of them.
+const COMPILED: [(&[&[u8]], u64, Wanted); 4] = [
+    (
+        &[LIST_HEAD, LIST_HEAD],
+        12,
+        Ok("4:0,1,1 2:0,0 4:0,3,3 2:0,2 "),
+    ),
+    (
+        &[A_TO_DECLARED, B_TO_DECLARED, BOTH],
+        123,
+        Ok("4:0,1 2:0,2 7:0 4:0,4 2:0,5 7:0 4:0,7 2:0,8 4:0,9 2:0,6 "),
+    ),
+    (
+        &[LONG_INT, NAMELESS, LONG_INT, LONG_INT, NAMELESS, LONG_INT],
+        12,
+        Err(Why::Unit(1, TypeFault::MissingName(36))),
+    ),
+    (&[TYPEDEF_OF_ROOT], 1, Err(Why::Out(0, 14, 12, 0x11))),
+];
+
 #[test]
 fn compiled_units(rt: HostRuntime) -> Result<(), Fail> {
     let alloc = rt.alloc();
-    let int: &[u8] = b"\x09\x1d\x02int\0\x04\x05\0";
-    let nameless: &[u8] = b"\x09\x1d\x02\0\x04\x05\0\0\0\0";
-    let typedef_of_root: &[u8] = b"\x09\x1d\x0ft\0\x0c\0\0\0\0";
-    let list_head: &[u8] =
-        b"\x09\x1d\x0clist_head\0\x10\x0dnext\0\x31\0\0\0\0\x0dprev\0\x31\0\0\0\x08\0\x03\x0e\0\0\0\0";
-    let a_to_declared: &[u8] = b"\x09\x1d\x0cA\0\x08\x0db\0\x1b\0\0\0\0\0\x03\x20\0\0\0\x0eB\0\0";
-    let b_to_declared: &[u8] = b"\x09\x1d\x0cB\0\x08\x0da\0\x1b\0\0\0\0\0\x03\x20\0\0\0\x0eA\0\0";
-    let both: &[u8] =
-        b"\x09\x1d\x0cA\0\x08\x0db\0\x1b\0\0\0\0\0\x03\x20\0\0\0\x0cB\0\x08\x0da\0\x2d\0\0\0\0\0\x03\x0e\0\0\0\0";
-    let cases: [(&[&[u8]], u64, Result<&str, EncodeFault>); 4] = [
-        (
-            &[list_head, list_head],
-            12,
-            Ok("4:0,1,1 2:0,0 4:0,3,3 2:0,2 "),
-        ),
-        (
-            &[a_to_declared, b_to_declared, both],
-            123,
-            Ok("4:0,1 2:0,2 7:0 4:0,4 2:0,5 7:0 4:0,7 2:0,8 4:0,9 2:0,6 "),
-        ),
-        (
-            &[int, nameless, int, int, nameless, int],
-            12,
-            Err(refused(1, TypeFault::MissingName(36))),
-        ),
-        (&[typedef_of_root], 1, Err(out(14, 12, 0x11))),
-    ];
-    for (units, told, wanted) in cases {
+    for (units, told, wanted) in COMPILED {
         let gate = Told::new();
         let files = one_file(alloc, units)?;
-        match answer_of(&rt, alloc, &gate, 1, 10, &[0], files.as_slice())? {
-            Ok(found) => assert_eq!(rt; Ok(found.as_str()), wanted),
-            Err(fault) => assert_eq!(rt; Err(fault), wanted),
-        }
+        let found = answer_of(&rt, alloc, &gate, 1, 10, &[0], files.as_slice())?;
+        assert!(rt; is_wanted(&found, wanted), "{found:?}");
         assert_eq!(rt; gate.digits(), told);
     }
     Ok(())
@@ -302,12 +333,9 @@ fn two_workers(rt: HostRuntime) -> Result<(), Fail> {
     let alloc = rt.alloc();
     let gate = Held::new();
     let files = one_file(alloc, &[ITSELF, INT])?;
-    let answer = answer_of(&rt, alloc, &gate, 2, 8, &[0], files.as_slice())?;
+    let found = answer_of(&rt, alloc, &gate, 2, 8, &[0], files.as_slice())?;
     assert!(rt; gate.has_seen());
-    match answer {
-        Ok(found) => assert_eq!(rt; found.as_str(), "2:0,0 1:16777248 "),
-        Err(fault) => return Err(Fail::from(fault)),
-    }
+    assert!(rt; is_wanted(&found, Ok("2:0,0 1:16777248 ")), "{found:?}");
     Ok(())
 }
 
@@ -347,36 +375,40 @@ fn ints_at(alloc: Global, offsets: &[u64]) -> Result<Vec<u8>, AllocError> {
     Ok(info)
 }
 
-/// A table is read by the place that a unit names in its own file. Each unit has the entries of
-/// `INT`, which are those of a base type by the first file's table at 0 and the second's at 17, and
-/// of a structure by the two others.
+/// The abbreviations of the first files, with the entries of `INT` as those of a base type at 0, and
+/// those of the second, with them as those of a structure at 0. The others stand behind them.
+fn abbreviations(alloc: Global) -> Result<(Vec<u8>, Vec<u8>), AllocError> {
+    let base_type = &ABBREVIATIONS[..16];
+    let first = [base_type, &[0], AS_STRUCTURE].concat(alloc)?;
+    let second = [AS_STRUCTURE, base_type, &[0]].concat(alloc)?;
+    Ok((first, second))
+}
+
+/// Where the units of a first file and of a second one have their abbreviations, and what comes of
+/// them.
+const TABLES: [(&[u64], &[u64], Wanted); 5] = [
+    (&[0, 0, 0], &[], Ok("1:16777248 1:16777248 1:16777248 ")),
+    (&[0, 17, 17, 0], &[], Ok("1:16777248 4:0 4:0 1:16777248 ")),
+    (&[0, 0], &[0, 0], Ok("1:16777248 1:16777248 4:0 4:0 ")),
+    (&[17, 0], &[0, 17], Ok("4:0 1:16777248 4:0 1:16777248 ")),
+    (
+        &[0, 0, 999, 0],
+        &[0],
+        Err(Why::Unit(2, TypeFault::Abbrev(AbbrevFault::AbbrevTruncated(999)))),
+    ),
+];
+
+/// A table is read by the place that a unit names in its own file.
 #[test]
 fn tables(rt: HostRuntime) -> Result<(), Fail> {
     let alloc = rt.alloc();
-    let mut ints_first = Vec::new(alloc);
-    ints_first.extend_from_slice(&ABBREVIATIONS[..16])?;
-    ints_first.push(0)?;
-    ints_first.extend_from_slice(AS_STRUCTURE)?;
-    let mut structures_first = Vec::new(alloc);
-    structures_first.extend_from_slice(AS_STRUCTURE)?;
-    structures_first.extend_from_slice(&ABBREVIATIONS[..16])?;
-    structures_first.push(0)?;
-    let truncated = refused(2, TypeFault::Abbrev(AbbrevFault::AbbrevTruncated(999)));
-    let cases: [(&[u64], &[u64], Result<&str, EncodeFault>); 5] = [
-        (&[0, 0, 0], &[], Ok("1:16777248 1:16777248 1:16777248 ")),
-        (&[0, 17, 17, 0], &[], Ok("1:16777248 4:0 4:0 1:16777248 ")),
-        (&[0, 0], &[0, 0], Ok("1:16777248 1:16777248 4:0 4:0 ")),
-        (&[17, 0], &[0, 17], Ok("4:0 1:16777248 4:0 1:16777248 ")),
-        (&[0, 0, 999, 0], &[0], Err(truncated)),
-    ];
-    for (first, second, wanted) in cases {
-        let file = plain_file(alloc, &ints_at(alloc, first)?, ints_first.as_slice())?;
-        let other = plain_file(alloc, &ints_at(alloc, second)?, structures_first.as_slice())?;
+    let (ints_first, structures_first) = abbreviations(alloc)?;
+    for (first, second, wanted) in TABLES {
+        let file = plain_file(alloc, &ints_at(alloc, first)?, &ints_first)?;
+        let other = plain_file(alloc, &ints_at(alloc, second)?, &structures_first)?;
         for jobs in [1, 2, 256] {
-            match answer_of_two(&rt, alloc, jobs, file.as_slice(), other.as_slice())? {
-                Ok(found) => assert_eq!(rt; Ok(found.as_str()), wanted),
-                Err(fault) => assert_eq!(rt; Err(fault), wanted),
-            }
+            let found = answer_of_two(&rt, alloc, jobs, file.as_slice(), other.as_slice())?;
+            assert!(rt; is_wanted(&found, wanted), "{found:?}");
         }
     }
     Ok(())

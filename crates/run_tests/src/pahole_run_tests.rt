@@ -1,8 +1,10 @@
 //! Runs over a world in memory.
+ghost use Rattle.std.specs.Prelude.{◌<◌, ◌^◌};
+
 use dw_base::{Bytes, Limits, Order, SHIPPED};
 use pahole_run::run;
 use small_files::bytes::{INFO_AT, Sections, file_of, put_unit};
-use small_files::gates::Held;
+use small_files::gates;
 use std::alloc::{AllocError, Global};
 use std::test::Fail;
 use world_io::{Files, HeldFile, MemoryWorld, OpenGate, Stop, Stops};
@@ -133,117 +135,162 @@ fn words(alloc: Global, text: &str) -> Result<Vec<String>, AllocError> {
 
 const WORDS: &str = "--btf_encode_detached=o a";
 
-/// Each case has the words, the file `a`, a stop of the world, and then the status, the complaint
-/// and what is stored under `o`.
+/// What the file `a` holds.
+#[derive(Clone, Copy)]
+enum Held {
+    /// There is no such file.
+    Absent,
+    Bytes(&'static [u8]),
+    /// An ELF file of these units.
+    Units(Order, &'static [&'static [u8]]),
+}
+
+const ONE_INT: Held = Held::Units(Order::Little, &[INT]);
+
+const ONE_FUNC: Held = Held::Units(Order::Little, &[FUNC]);
+
+const INT_TABLE: Held = Held::Bytes(ONE_INT_BTF);
+
+/// The words, the file `a`, a stop of the world, and then the status, the complaint and what is
+/// stored under `o`.
+type Run = (
+    &'static str,
+    Held,
+    Option<(u64, u64)>,
+    u8,
+    &'static str,
+    Option<&'static [u8]>,
+);
+
+const RUNS: [Run; 20] = [
+    (WORDS, ONE_INT, None, 0, "", Some(ONE_INT_BTF)),
+    (
+        "a -j4 a --btf_encode_detached=o",
+        ONE_INT,
+        None,
+        0,
+        "",
+        Some(ONE_INT_BTF),
+    ),
+    (
+        WORDS,
+        Held::Units(Order::Big, &[INT]),
+        None,
+        0,
+        "",
+        Some(BIG_INT_BTF),
+    ),
+    (
+        WORDS,
+        Held::Units(Order::Little, &[LIST_HEAD, LIST_HEAD]),
+        None,
+        0,
+        "",
+        Some(LIST_HEAD_BTF),
+    ),
+    (
+        "--funcs --btf_encode_detached=o a",
+        ONE_FUNC,
+        None,
+        0,
+        "",
+        Some(ONE_FUNC_BTF),
+    ),
+    (WORDS, ONE_FUNC, None, 0, "", Some(ONE_INT_BTF)),
+    (
+        WORDS,
+        Held::Bytes(b""),
+        None,
+        1,
+        "pahole: a: image 0: error 10\n",
+        None,
+    ),
+    (
+        WORDS,
+        ONE_INT,
+        Some((1, 7)),
+        3,
+        "pahole: cannot store o\n",
+        Some(b"\x9f\xeb\x01\x00\x18\x00\x00"),
+    ),
+    (
+        WORDS,
+        ONE_INT,
+        Some((0, 7)),
+        3,
+        "pahole: cannot read a\n",
+        None,
+    ),
+    (
+        WORDS,
+        Held::Absent,
+        None,
+        3,
+        "pahole: cannot read a\n",
+        None,
+    ),
+    (WORDS, Held::Absent, Some((1, 9)), 3, "pahole: c", None),
+    ("", Held::Absent, None, 2, "pahole: word 0: usage 6\n", None),
+    (
+        "--btf_base=b --btf_encode_detached=o a",
+        ONE_INT,
+        None,
+        3,
+        "pahole: cannot read b\n",
+        None,
+    ),
+    (
+        "--btf_base=a --btf_encode_detached=o a",
+        ONE_INT,
+        None,
+        1,
+        "pahole: a: btf 0: error 90\n",
+        None,
+    ),
+    ("-s a", ONE_INT, None, 0, "", None),
+    ("-C b a", ONE_INT, None, 5, "pahole: no type b\n", None),
+    (
+        "-F btf a",
+        ONE_INT,
+        None,
+        1,
+        "pahole: a: btf 0: error 90\n",
+        None,
+    ),
+    ("-F btf a", Held::Bytes(BIG_INT_BTF), None, 0, "", None),
+    (
+        "-F btf -C int a",
+        INT_TABLE,
+        None,
+        5,
+        "pahole: no type int\n",
+        None,
+    ),
+    ("-F btf --btf_base=a a", INT_TABLE, None, 0, "", None),
+];
+
+/// The files of a world with at most one, `a`.
+fn files_of(alloc: Global, held: Held) -> Result<Vec<HeldFile>, AllocError> {
+    let mut files = Vec::new(alloc);
+    match held {
+        Held::Absent => {}
+        Held::Bytes(bytes) => add_file(alloc, &mut files, b"a", bytes, &[])?,
+        Held::Units(order, units) => {
+            let bytes = file_with(alloc, order, units)?;
+            add_file(alloc, &mut files, b"a", &bytes, &[])?;
+        }
+    }
+    Ok(files)
+}
+
 #[test]
 fn encodes_one_file(rt: HostRuntime) -> Result<(), Fail> {
     let alloc = rt.alloc();
-    let int = file_with(alloc, Order::Little, &[INT])?;
-    let big = file_with(alloc, Order::Big, &[INT])?;
-    let lists = file_with(alloc, Order::Little, &[LIST_HEAD, LIST_HEAD])?;
-    let func = file_with(alloc, Order::Little, &[FUNC])?;
-    let one = Some(int.as_slice());
-    let cases = [
-        (WORDS, one, None, 0, "", Some(ONE_INT_BTF)),
-        (
-            "a -j4 a --btf_encode_detached=o",
-            one,
-            None,
-            0,
-            "",
-            Some(ONE_INT_BTF),
-        ),
-        (WORDS, Some(big.as_slice()), None, 0, "", Some(BIG_INT_BTF)),
-        (
-            WORDS,
-            Some(lists.as_slice()),
-            None,
-            0,
-            "",
-            Some(LIST_HEAD_BTF),
-        ),
-        (
-            "--funcs --btf_encode_detached=o a",
-            Some(func.as_slice()),
-            None,
-            0,
-            "",
-            Some(ONE_FUNC_BTF),
-        ),
-        (WORDS, Some(func.as_slice()), None, 0, "", Some(ONE_INT_BTF)),
-        (
-            WORDS,
-            Some(b"".as_slice()),
-            None,
-            1,
-            "pahole: a: image 0: error 10\n",
-            None,
-        ),
-        (
-            WORDS,
-            one,
-            Some((1, 7)),
-            3,
-            "pahole: cannot store o\n",
-            Some(b"\x9f\xeb\x01\x00\x18\x00\x00".as_slice()),
-        ),
-        (WORDS, one, Some((0, 7)), 3, "pahole: cannot read a\n", None),
-        (WORDS, None, None, 3, "pahole: cannot read a\n", None),
-        (WORDS, None, Some((1, 9)), 3, "pahole: c", None),
-        ("", None, None, 2, "pahole: word 0: usage 6\n", None),
-        (
-            "--btf_base=b --btf_encode_detached=o a",
-            one,
-            None,
-            3,
-            "pahole: cannot read b\n",
-            None,
-        ),
-        (
-            "--btf_base=a --btf_encode_detached=o a",
-            one,
-            None,
-            1,
-            "pahole: a: btf 0: error 90\n",
-            None,
-        ),
-        ("-s a", one, None, 0, "", None),
-        ("-C b a", one, None, 5, "pahole: no type b\n", None),
-        (
-            "-F btf a",
-            one,
-            None,
-            1,
-            "pahole: a: btf 0: error 90\n",
-            None,
-        ),
-        ("-F btf a", Some(BIG_INT_BTF), None, 0, "", None),
-        (
-            "-F btf -C int a",
-            Some(ONE_INT_BTF),
-            None,
-            5,
-            "pahole: no type int\n",
-            None,
-        ),
-        (
-            "-F btf --btf_base=a a",
-            Some(ONE_INT_BTF),
-            None,
-            0,
-            "",
-            None,
-        ),
-    ];
-    for (text, file, stop, status, complaint, stored) in cases {
-        let mut files = Vec::new(alloc);
-        if let Some(bytes) = file {
-            add_file(alloc, &mut files, b"a", bytes, &[])?;
-        }
-        let mut world = world(alloc, files, stop)?;
+    for (text, held, stop, status, complaint, stored) in RUNS {
+        let mut world = world(alloc, files_of(alloc, held)?, stop)?;
         let words = words(alloc, text)?;
         let answer = run(&rt, alloc, &mut world, &OpenGate, SHIPPED, words.as_slice());
-        assert_eq!(rt; answer, status);
+        assert_eq!(rt; answer, status, "{text}");
         assert_eq!(rt; world.complained(), complaint.as_bytes());
         assert_eq!(rt; world.stored("o"), stored);
         assert_eq!(rt; world.printed(), b"".as_slice());
@@ -251,35 +298,44 @@ fn encodes_one_file(rt: HostRuntime) -> Result<(), Fail> {
     Ok(())
 }
 
-/// A made input is neither loaded nor stored, and one line tells of its table. Each case has the
-/// words, a stop of the world, and then the status, the complaint and what is printed.
+/// The words, a stop of the world, and then the status, the complaint and what is printed.
+type Line = (
+    &'static str,
+    Option<(u64, u64)>,
+    u8,
+    &'static str,
+    &'static str,
+);
+
+const LINES: [Line; 3] = [
+    (
+        "--selfmade=0",
+        None,
+        0,
+        "",
+        "units 1, entries 5, types 5, bytes 144\n",
+    ),
+    (
+        "-j4 --selfmade=1049602",
+        None,
+        0,
+        "",
+        "units 3, entries 21, types 11, bytes 296\n",
+    ),
+    (
+        "--selfmade=0",
+        Some((0, 7)),
+        3,
+        "pahole: cannot print\n",
+        "units 1",
+    ),
+];
+
+/// A made input is neither loaded nor stored, and one line tells of its table.
 #[test]
 fn tells_of_a_made_input(rt: HostRuntime) -> Result<(), Fail> {
     let alloc = rt.alloc();
-    let cases = [
-        (
-            "--selfmade=0",
-            None,
-            0,
-            "",
-            "units 1, entries 5, types 5, bytes 144\n",
-        ),
-        (
-            "-j4 --selfmade=1049602",
-            None,
-            0,
-            "",
-            "units 3, entries 21, types 11, bytes 296\n",
-        ),
-        (
-            "--selfmade=0",
-            Some((0, 7)),
-            3,
-            "pahole: cannot print\n",
-            "units 1",
-        ),
-    ];
-    for (text, stop, status, complaint, printed) in cases {
+    for (text, stop, status, complaint, printed) in LINES {
         let mut world = world(alloc, Vec::new(alloc), stop)?;
         let words = words(alloc, text)?;
         let answer = run(&rt, alloc, &mut world, &OpenGate, SHIPPED, words.as_slice());
@@ -295,7 +351,7 @@ fn tells_of_a_made_input(rt: HostRuntime) -> Result<(), Fail> {
 #[test]
 fn reads_units_at_once(rt: HostRuntime) -> Result<(), Fail> {
     let alloc = rt.alloc();
-    let gate = Held::new();
+    let gate = gates::Held::new();
     let lists = file_with(alloc, Order::Little, &[LIST_HEAD, LIST_HEAD])?;
     let mut files = Vec::new(alloc);
     add_file(alloc, &mut files, b"a", lists.as_slice(), &[])?;
@@ -322,92 +378,105 @@ const OLD: [(usize, u8); 1] = [(INFO_AT + 4, 3)];
 /// The file does not begin as an ELF file.
 const NO_ELF: [(usize, u8); 1] = [(3, 0)];
 
+/// What is changed in the file `a`, the byte order of `b`, how many bytes fewer than `a` has a file
+/// may have, what is changed in `b`, and the complaint.
+type Refusal = (Changes, Order, u64, Changes, &'static str);
+
+/// Places in a file, and the bytes that stand there instead.
+type Changes = &'static [(usize, u8)];
+
+const REFUSALS: [Refusal; 9] = [
+    (
+        &NO_ELF,
+        Order::Little,
+        1,
+        &[],
+        "pahole: a: image 0: error 110\n",
+    ),
+    (
+        &NO_ELF,
+        Order::Little,
+        0,
+        &OLD,
+        "pahole: a: image 0: error 10\n",
+    ),
+    (
+        &OLD,
+        Order::Little,
+        0,
+        &NO_ELF,
+        "pahole: b: image 0: error 10\n",
+    ),
+    (&OLD, Order::Big, 0, &[], "pahole: b: image 4: error 16\n"),
+    (
+        &NAMELESS,
+        Order::Little,
+        0,
+        &OLD,
+        "pahole: b: .debug_info 0: error 21 3\n",
+    ),
+    (
+        &OLD,
+        Order::Little,
+        0,
+        &NAMELESS,
+        "pahole: a: .debug_info 0: error 21 3\n",
+    ),
+    (
+        &NAMELESS,
+        Order::Little,
+        0,
+        &NAMELESS,
+        "pahole: a: .debug_info 14: error 60\n",
+    ),
+    (
+        &[],
+        Order::Little,
+        0,
+        &NAMELESS,
+        "pahole: b: .debug_info 14: error 60\n",
+    ),
+    (
+        &[],
+        Order::Little,
+        0,
+        &[],
+        "pahole: -: table 0: error 111 2\n",
+    ),
+];
+
+/// Limits of so many bytes for a file, below 2^32, and of one node.
+fn one_node(file_bytes: u64) -> Limits
+    ensures file { result.file_bytes < 2 ^ 32 }
+    ensures all { result.all_bytes < 2 ^ 32 }
+{
+    Limits {
+        file_bytes: file_bytes.min(0xffff_ffff),
+        all_bytes: SHIPPED.all_bytes,
+        nodes: 1,
+    }
+}
+
 /// The first refusal of two files, each of which may have a fault of its own: the loads come before
 /// all images, the images before the comparison of the files, and that before all headers of units,
 /// which come before all types.
 #[test]
 fn refuses_in_order(rt: HostRuntime) -> Result<(), Fail> {
     let alloc = rt.alloc();
-    let int = file_with(alloc, Order::Little, &[INT])?;
-    let big = file_with(alloc, Order::Big, &[INT])?;
-    let (one, big) = (int.as_slice(), big.as_slice());
-    let size = u32::try_from(one.len()).unwrap_or(u32::MAX);
-    let cases = [
-        (
-            NO_ELF.as_slice(),
-            one,
-            size.saturating_sub(1),
-            [].as_slice(),
-            "pahole: a: image 0: error 110\n",
-        ),
-        (
-            NO_ELF.as_slice(),
-            one,
-            size,
-            OLD.as_slice(),
-            "pahole: a: image 0: error 10\n",
-        ),
-        (
-            OLD.as_slice(),
-            one,
-            size,
-            NO_ELF.as_slice(),
-            "pahole: b: image 0: error 10\n",
-        ),
-        (
-            OLD.as_slice(),
-            big,
-            size,
-            [].as_slice(),
-            "pahole: b: image 4: error 16\n",
-        ),
-        (
-            NAMELESS.as_slice(),
-            one,
-            size,
-            OLD.as_slice(),
-            "pahole: b: .debug_info 0: error 21 3\n",
-        ),
-        (
-            OLD.as_slice(),
-            one,
-            size,
-            NAMELESS.as_slice(),
-            "pahole: a: .debug_info 0: error 21 3\n",
-        ),
-        (
-            NAMELESS.as_slice(),
-            one,
-            size,
-            NAMELESS.as_slice(),
-            "pahole: a: .debug_info 14: error 60\n",
-        ),
-        (
-            [].as_slice(),
-            one,
-            size,
-            NAMELESS.as_slice(),
-            "pahole: b: .debug_info 14: error 60\n",
-        ),
-        (
-            [].as_slice(),
-            one,
-            size,
-            [].as_slice(),
-            "pahole: -: table 0: error 111 2\n",
-        ),
-    ];
-    for (first, second, file_bytes, changes, complaint) in cases {
+    for (first, order, fewer, changes, complaint) in REFUSALS {
+        let one = file_with(alloc, Order::Little, &[INT])?;
         let mut files = Vec::new(alloc);
-        add_file(alloc, &mut files, b"a", one, first)?;
-        add_file(alloc, &mut files, b"b", second, changes)?;
+        add_file(alloc, &mut files, b"a", &one, first)?;
+        add_file(
+            alloc,
+            &mut files,
+            b"b",
+            &file_with(alloc, order, &[INT])?,
+            changes,
+        )?;
         let mut world = world(alloc, files, None)?;
         let words = words(alloc, "--btf_encode_detached=o a b")?;
-        let limits = Limits {
-            file_bytes: u64::from(file_bytes),
-            all_bytes: SHIPPED.all_bytes,
-            nodes: 1,
-        };
+        let limits = one_node((one.len() as u64).saturating_sub(fewer));
         let answer = run(&rt, alloc, &mut world, &OpenGate, limits, words.as_slice());
         assert_eq!(rt; answer, 1);
         assert_eq!(rt; world.complained(), complaint.as_bytes());

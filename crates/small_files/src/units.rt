@@ -1,9 +1,11 @@
 //! The units of files, as those calls want them that read the units of several files.
-ghost use Rattle.std.specs.Prelude.{◌≡◌, ℕ, List, All, IfOk, OnOk};
+ghost use Rattle.std.specs.Prelude.{◌≡◌, ◌++◌, ⊤, [], ◌∷◌, map, All, IfOk, IfErr, OnOk};
+ghost use Rattle.std.specs.Prelude.{◌⊎◌};
 ghost use Rattle.elf_sections.specs.Images.{file_of as bytes_of};
 ghost use Rattle.entry_tree.specs.Contexts.{IsUnitOf};
 ghost use Rattle.unit_graph.specs.Sources.{IsReadable};
-ghost use Rattle.unit_graph.specs.Tables.{AreOf, AreOfFiles};
+ghost use Rattle.unit_graph.specs.Tables.{AreOfFiles};
+ghost use Rattle.small_files.specs.Units.{unit_in, units_in, IsWhy};
 
 use elf_sections::{ElfFault, Image};
 use entry_tree::{Unit, UnitFault, units};
@@ -18,27 +20,30 @@ pub enum NoUnits {
     File(#[from] ElfFault),
     #[error("a header: {0}")]
     Header(#[from] UnitFault),
+    #[error("a unit has 2^32 bytes or more")]
+    Long,
     #[error("out of memory")]
     Memory(#[from] AllocError),
 }
 
-/// Puts one unit more, where it has fewer than 2^32 bytes.
-#[tactic(auto, using(crate::proofs::Keeping::files_more))]
-fn push_readable<'a>(
+/// Puts one unit more.
+fn push_unit<'a>(
     all: &mut Vec<UnitAt<'a>>,
     file: u32,
     image: Image<'a>,
     unit: Unit,
-) -> Result<(), AllocError>
+) -> Result<(), NoUnits>
     requires unit { IsUnitOf (bytes_of image) unit }
     requires readable { All IsReadable all.old.items }
+    ensures units { OnOk result
+        (all.new.items ≡ all.old.items ++ unit_in file (bytes_of image) unit ∷ []) }
+    ensures refused { IfErr result (IsWhy (bytes_of image)) }
     ensures readable { OnOk result (All IsReadable all.new.items) }
-    ensures files { OnOk result ((files : ℕ → List ℕ) → bytes_of image.entry ≡ files file
-        → AreOf files all.old.items → AreOf files all.new.items) }
 {
-    if unit.end.saturating_sub(unit.at) < 1 << 32 {
-        all.push(UnitAt { file, image, unit })?;
+    if unit.end.saturating_sub(unit.at) >= 1 << 32 {
+        return Err(NoUnits::Long);
     }
+    all.push(UnitAt { file, image, unit })?;
     Ok(())
 }
 
@@ -50,21 +55,23 @@ pub fn push_units<'a>(
     bytes: &'a [u8],
 ) -> Result<(), NoUnits>
     requires readable { All IsReadable all.old.items }
+    ensures units { OnOk result (all.new.items ≡ all.old.items ++ units_in file bytes.now) }
+    ensures refused { IfErr result (IsWhy bytes.now) }
     ensures readable { OnOk result (All IsReadable all.new.items) }
-    ensures files { OnOk result ((files : ℕ → List ℕ) → bytes.now ≡ files file
-        → AreOf files all.old.items → AreOf files all.new.items) }
 {
     let image = Image::read(bytes)?;
     let list = units(alloc, &image)?;
     for i in 0..list.items().len() {
-        push_readable(all, file, image, list.items()[i])?;
+        push_unit(all, file, image, list.items()[i])?;
     }
     Ok(())
 }
 
 /// The units of one file, which has the number 0.
 pub fn units_of<'a>(alloc: Global, bytes: &'a [u8]) -> Result<Vec<UnitAt<'a>>, NoUnits>
-    ensures { IfOk result (λ v. All IsReadable v.items) }
+    ensures units { IfOk result (λ v. v.items ≡ units_in 0 bytes.now) }
+    ensures refused { IfErr result (IsWhy bytes.now) }
+    ensures readable { IfOk result (λ v. All IsReadable v.items) }
 {
     let mut all = Vec::new(alloc);
     push_units(alloc, &mut all, 0, bytes)?;
@@ -77,6 +84,8 @@ pub fn units_of_two<'a>(
     first: &'a [u8],
     second: &'a [u8],
 ) -> Result<Vec<UnitAt<'a>>, NoUnits>
+    ensures units { IfOk result (λ v. v.items ≡ units_in 0 first.now ++ units_in 1 second.now) }
+    ensures refused { IfErr result (λ why. IsWhy first.now why ⊎ IsWhy second.now why) }
     ensures readable { IfOk result (λ v. All IsReadable v.items) }
     ensures files { IfOk result (λ v. AreOfFiles v.items) }
 {

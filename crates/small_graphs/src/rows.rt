@@ -1,4 +1,7 @@
 //! What a type says of itself in a row, made into a type of a graph.
+ghost use Rattle.std.specs.Prelude.{◌≡◌, false, IfOk};
+ghost use Rattle.small_graphs.specs.Made.{parts_in, label_in, type_in};
+
 use c_model::kinds::BTF_KIND_PTR;
 use c_model::{CType, Label, Part, Parts, Ref, Refs};
 use dw_base::Name;
@@ -30,7 +33,10 @@ pub const POINTER: Head = Head {
 };
 
 /// What a type with these parts says of itself.
-pub fn parted(kind: u8, name: &'static [u8], size: u32, pieces: &'static [Piece<'static>]) -> Head {
+pub fn parted(kind: u8, name: &'static [u8], size: u32, pieces: &'static [Piece<'static>]) -> Head
+    ensures { label_in result ≡ record { kind = kind; name = name.now; flag = false; size = size;
+        extra = 0; parts = parts_in pieces.now } }
+{
     Head {
         kind,
         name,
@@ -41,7 +47,9 @@ pub fn parted(kind: u8, name: &'static [u8], size: u32, pieces: &'static [Piece<
 }
 
 /// The parts of a label.
-pub fn parts_of<'a>(alloc: Global, pieces: &[Piece<'a>]) -> Result<Parts<'a>, AllocError> {
+pub fn parts_of<'a>(alloc: Global, pieces: &[Piece<'a>]) -> Result<Parts<'a>, AllocError>
+    ensures { IfOk result (λ parts. parts ≡ parts_in pieces.now) }
+{
     let mut parts = Vec::new(alloc);
     for (name, value) in pieces {
         parts.push(Part {
@@ -53,7 +61,9 @@ pub fn parts_of<'a>(alloc: Global, pieces: &[Piece<'a>]) -> Result<Parts<'a>, Al
 }
 
 /// The label of a row.
-pub fn label_of(alloc: Global, head: &Head) -> Result<Label<'static>, AllocError> {
+pub fn label_of(alloc: Global, head: &Head) -> Result<Label<'static>, AllocError>
+    ensures { IfOk result (λ label. label ≡ label_in head.now) }
+{
     let parts = parts_of(alloc, head.pieces)?;
     Ok(Label {
         kind: head.kind,
@@ -66,7 +76,9 @@ pub fn label_of(alloc: Global, head: &Head) -> Result<Label<'static>, AllocError
 }
 
 /// The type of a row that refers to these.
-pub fn type_of(alloc: Global, head: &Head, targets: &[Ref]) -> Result<CType<'static>, AllocError> {
+pub fn type_of(alloc: Global, head: &Head, targets: &[Ref]) -> Result<CType<'static>, AllocError>
+    ensures { IfOk result (λ t. t ≡ type_in head.now targets.now) }
+{
     let label = label_of(alloc, head)?;
     let targets = Vec::from_slice(alloc, targets)?;
     Ok(CType {

@@ -35,30 +35,52 @@ fn counts(alloc: Global, entries: &[u8]) -> Result<Result<(usize, usize), TypeFa
 /// What comes of a type at 13 with one part too many.
 const TOO_MANY: Result<(usize, usize), TypeFault> = Err(TypeFault::TooMany(13, 65_536));
 
+/// A member, an enumerator and a parameter.
+const MEMBER: &[u8] = &[33, 13];
+
+const ENUMERATOR: &[u8] = &[16, 0x41, 0, 1];
+
+const PARAMETER: &[u8] = &[34, 13];
+
+/// A structure, an enumeration and a subroutine type, and how the last ends where it takes further
+/// arguments of any type.
+const STRUCTURE: &[u8] = &[8, 0x73, 0, 4];
+
+const ENUMERATION: &[u8] = &[15, 0x65, 0, 4];
+
+const SUBROUTINE: &[u8] = &[25];
+
+const REST: &[u8] = &[28, 0];
+
+/// What a type begins with, one of its parts, how many there are, what stands behind them, and what
+/// comes of it.
+type Parted = (
+    &'static [u8],
+    &'static [u8],
+    u32,
+    &'static [u8],
+    Result<(usize, usize), TypeFault>,
+);
+
+const MANY_PARTS: [Parted; 11] = [
+    (STRUCTURE, MEMBER, 65_535, &[0], Ok((1, 65_535))),
+    (STRUCTURE, MEMBER, 65_536, &[0], TOO_MANY),
+    (ENUMERATION, ENUMERATOR, 65_535, &[0], Ok((1, 65_535))),
+    (ENUMERATION, ENUMERATOR, 65_536, &[0], TOO_MANY),
+    (&[15, 0x65, 0, 3], ENUMERATOR, 65_536, &[0], TOO_MANY),
+    (SUBROUTINE, PARAMETER, 65_535, &[0], Ok((1, 65_535))),
+    (SUBROUTINE, PARAMETER, 65_536, &[0], TOO_MANY),
+    (SUBROUTINE, PARAMETER, 65_534, REST, Ok((1, 65_535))),
+    (SUBROUTINE, PARAMETER, 65_535, REST, TOO_MANY),
+    (STRUCTURE, &[10, 0x6d, 0], 65_536, &[0], TOO_MANY),
+    (&[35, 0x73, 0, 0x7f], MEMBER, 65_536, &[0], TOO_MANY),
+];
+
 /// A type has at most 65,535 parts. Too many of them are refused at the type, before a refusal of a
 /// part and before those of higher numbers.
 #[test]
 fn many_parts(rt: HostRuntime) -> Result<(), Fail> {
-    let member: &[u8] = &[33, 13];
-    let enumerator: &[u8] = &[16, 0x41, 0, 1];
-    let parameter: &[u8] = &[34, 13];
-    let structure: &[u8] = &[8, 0x73, 0, 4];
-    let enumeration: &[u8] = &[15, 0x65, 0, 4];
-    let rest: &[u8] = &[28, 0];
-    let cases: [(&[u8], &[u8], u32, &[u8], Result<(usize, usize), TypeFault>); 11] = [
-        (structure, member, 65_535, &[0], Ok((1, 65_535))),
-        (structure, member, 65_536, &[0], TOO_MANY),
-        (enumeration, enumerator, 65_535, &[0], Ok((1, 65_535))),
-        (enumeration, enumerator, 65_536, &[0], TOO_MANY),
-        (&[15, 0x65, 0, 3], enumerator, 65_536, &[0], TOO_MANY),
-        (&[25], parameter, 65_535, &[0], Ok((1, 65_535))),
-        (&[25], parameter, 65_536, &[0], TOO_MANY),
-        (&[25], parameter, 65_534, rest, Ok((1, 65_535))),
-        (&[25], parameter, 65_535, rest, TOO_MANY),
-        (structure, &[10, 0x6d, 0], 65_536, &[0], TOO_MANY),
-        (&[35, 0x73, 0, 0x7f], member, 65_536, &[0], TOO_MANY),
-    ];
-    for (head, part, times, tail, wanted) in cases {
+    for (head, part, times, tail, wanted) in MANY_PARTS {
         let mut entries = Vec::from_slice(rt.alloc(), &[1])?;
         entries.extend_from_slice(head)?;
         put_times(&mut entries, part, times)?;

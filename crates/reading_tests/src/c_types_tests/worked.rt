@@ -2,7 +2,7 @@
 //! types were written down from the entries, before the bytes were read.
 use super::{is_wanted, lines_in};
 use dw_base::Order;
-use small_files::bytes::{Sections, file_of, joined, put_unit};
+use small_files::bytes::{Sections, file_of, put_unit};
 use std::alloc::{AllocError, Global};
 use std::test::Fail;
 use type_attributes::fault::TypeFault;
@@ -272,192 +272,198 @@ const TYPE_OF_ROOT_ABBREVIATIONS: &[u8] = &[
 /// A base type, of the abbreviations of `BOUNDS`.
 const INT: &[&[u8]] = &[b"\x01\x1d", b"\x02int\0\x04\x05", b"\0"];
 
-/// Some units, and what is wanted of them.
-#[derive(Drop)]
-struct Case {
-    name: &'static str,
-    units: Units,
-    /// `.debug_abbrev`
-    abbreviations: &'static [u8],
-    /// `.debug_str`
-    strings: &'static [u8],
-    /// `.debug_line_str`
-    line_strings: &'static [u8],
-    /// A heading for each unit, and a line for each of its types; or the first refusal.
-    wanted: Result<&'static [&'static str], TypeFault>,
-}
+/// `.debug_str` and `.debug_line_str`.
+type Strings = (&'static [u8], &'static [u8]);
 
-/// A case whose names all stand in `.debug_info`.
-fn plain(
-    name: &'static str,
-    units: Units,
-    abbreviations: &'static [u8],
-    wanted: Result<&'static [&'static str], TypeFault>,
-) -> Case {
-    Case {
-        name,
-        units,
-        abbreviations,
-        strings: &[],
-        line_strings: &[],
-        wanted,
-    }
-}
+/// Where all names stand in `.debug_info`.
+const INLINE: Strings = (&[], &[]);
+
+/// Some units and what they are, `.debug_abbrev`, the strings, and a heading for each unit and a
+/// line for each of its types, or the first refusal.
+type Case = (
+    &'static str,
+    Units,
+    &'static [u8],
+    Strings,
+    Result<&'static [&'static str], TypeFault>,
+);
+
+const CASES: [Case; 12] = [
+    (
+        "a structure of pointers to itself, in two units",
+        LISTS,
+        LISTS_ABBREVIATIONS,
+        INLINE,
+        Ok(&[
+            "unit",
+            "14 4 list_head false 16 0 next=0 prev=64 26:49 37:49",
+            "49 2 - false 0 0 49:14",
+            "unit",
+            "69 4 list_head false 16 0 next=0 prev=64 81:104 92:104",
+            "104 2 - false 0 0 104:69",
+        ]),
+    ),
+    (
+        "unions with a bit field at the bit 0, and at the bit 5",
+        UNIONS,
+        UNIONS_ABBREVIATIONS,
+        INLINE,
+        Ok(&[
+            "unit",
+            "14 1 int false 4 16777248",
+            "21 5 - true 4 0 a=50331648 23:14",
+            "unit",
+            "48 1 int false 4 16777248",
+            "55 5 - true 4 0 a=50331653 57:48",
+        ]),
+    ),
+    (
+        "structures with pointers to each other, declared and defined",
+        DECLARATIONS,
+        DECLARATIONS_ABBREVIATIONS,
+        INLINE,
+        Ok(&[
+            "unit",
+            "14 4 A false 8 0 b=0 18:27",
+            "27 2 - false 0 0 27:32",
+            "32 7 B false 0 0",
+            "unit",
+            "50 4 B false 8 0 a=0 54:63",
+            "63 2 - false 0 0 63:68",
+            "68 7 A false 0 0",
+            "unit",
+            "86 4 A false 8 0 b=0 90:99",
+            "99 2 - false 0 0 99:104",
+            "104 4 B false 8 0 a=0 108:117",
+            "117 2 - false 0 0 117:86",
+        ]),
+    ),
+    (
+        "three bit fields",
+        BIT_FIELDS,
+        BIT_FIELDS_ABBREVIATIONS,
+        INLINE,
+        Ok(&[
+            "unit",
+            "14 1 unsigned int false 4 32",
+            "30 4 f true 4 0 a=50331648 b=83886083 c=285212680 34:14 43:14 52:14",
+        ]),
+    ),
+    (
+        "a bit field at the last bit",
+        FARTHEST,
+        FARTHEST_ABBREVIATIONS,
+        INLINE,
+        Ok(&[
+            "unit",
+            "14 1 int false 4 16777248",
+            "21 4 big true 2097156 0 z=33554431 30:14",
+        ]),
+    ),
+    (
+        "a bit field one bit behind the last",
+        TOO_FAR,
+        FARTHEST_ABBREVIATIONS,
+        INLINE,
+        Err(TypeFault::MemberFar(30, 16_777_216)),
+    ),
+    (
+        "an array with the upper bounds 4 and 5",
+        BOUNDS,
+        BOUNDS_ABBREVIATIONS,
+        INLINE,
+        Ok(&[
+            "unit with an array",
+            "14 1 int false 4 16777248",
+            "21 3 - false 0 30 21:14 index",
+        ]),
+    ),
+    (
+        "an array with a subrange without a bound",
+        NO_BOUND,
+        NO_BOUND_ABBREVIATIONS,
+        INLINE,
+        Ok(&[
+            "unit with an array",
+            "14 1 int false 4 16777248",
+            "21 3 - false 0 0 21:14 index",
+        ]),
+    ),
+    (
+        "an array of 65,536 times 65,536 elements",
+        COUNTS,
+        COUNTS_ABBREVIATIONS,
+        INLINE,
+        Err(TypeFault::ArrayLength(21)),
+    ),
+    (
+        "the forms that gcc uses, and a unit of an assembler",
+        REGISTRY,
+        REGISTRY_ABBREVIATIONS,
+        (REGISTRY_STRINGS, REGISTRY_LINE_STRINGS),
+        Ok(&[
+            "unit with an array",
+            "30 1 char false 1 16777224",
+            "37 4 - true 72 0 tag=0 count=64 first=128 name=192 live=16777728 kind=50332161 44:30 55:113 66:130 77:140 88:148 100:148",
+            "113 1 long long int false 8 16777280",
+            "130 2 - false 0 0 130:135",
+            "135 7 node false 0 0",
+            "140 3 - false 0 40 140:30 index",
+            "148 1 unsigned int false 4 32",
+            "155 8 registry false 0 0 155:37",
+            "unit passed over",
+        ]),
+    ),
+    (
+        "an enumeration with the values -1 and 1",
+        NEGATIVE,
+        NEGATIVE_ABBREVIATIONS,
+        INLINE,
+        Ok(&["unit", "14 6 e true 4 0 A=4294967295 B=1"]),
+    ),
+    (
+        "a typedef whose type is the unit's root, which only who links refuses",
+        TYPE_OF_ROOT,
+        TYPE_OF_ROOT_ABBREVIATIONS,
+        INLINE,
+        Ok(&["unit", "14 8 t false 0 0 14:12"]),
+    ),
+];
 
 /// The bytes of these units of version 5, whose abbreviations stand at offset 0.
 fn info_of(alloc: Global, order: Order, units: &[&[&[u8]]]) -> Result<Vec<u8>, AllocError> {
     let mut info = Vec::new(alloc);
     for entries in units {
-        put_unit(&mut info, order, 5, 0, &joined(alloc, entries)?)?;
+        put_unit(&mut info, order, 5, 0, &entries.concat(alloc)?)?;
     }
     Ok(info)
+}
+
+/// What comes of the units of a file.
+fn found_in(
+    alloc: Global,
+    order: Order,
+    units: &[&[&[u8]]],
+    abbrev: &[u8],
+    strings: Strings,
+) -> Result<Result<Vec<String>, TypeFault>, Fail> {
+    let info = info_of(alloc, order, units)?;
+    let sections = Sections {
+        info: &info,
+        abbrev,
+        text: strings.0,
+        line_text: strings.1,
+    };
+    let file = file_of(alloc, order, sections)?;
+    lines_in(alloc, file.as_slice(), true)
 }
 
 /// The types of units of little-endian files.
 #[test]
 fn worked_units(rt: HostRuntime) -> Result<(), Fail> {
-    let cases: [Case; 12] = [
-        plain(
-            "a structure of pointers to itself, in two units",
-            LISTS,
-            LISTS_ABBREVIATIONS,
-            Ok(&[
-                "unit",
-                "14 4 list_head false 16 0 next=0 prev=64 26:49 37:49",
-                "49 2 - false 0 0 49:14",
-                "unit",
-                "69 4 list_head false 16 0 next=0 prev=64 81:104 92:104",
-                "104 2 - false 0 0 104:69",
-            ]),
-        ),
-        plain(
-            "unions with a bit field at the bit 0, and at the bit 5",
-            UNIONS,
-            UNIONS_ABBREVIATIONS,
-            Ok(&[
-                "unit",
-                "14 1 int false 4 16777248",
-                "21 5 - true 4 0 a=50331648 23:14",
-                "unit",
-                "48 1 int false 4 16777248",
-                "55 5 - true 4 0 a=50331653 57:48",
-            ]),
-        ),
-        plain(
-            "structures with pointers to each other, declared and defined",
-            DECLARATIONS,
-            DECLARATIONS_ABBREVIATIONS,
-            Ok(&[
-                "unit",
-                "14 4 A false 8 0 b=0 18:27",
-                "27 2 - false 0 0 27:32",
-                "32 7 B false 0 0",
-                "unit",
-                "50 4 B false 8 0 a=0 54:63",
-                "63 2 - false 0 0 63:68",
-                "68 7 A false 0 0",
-                "unit",
-                "86 4 A false 8 0 b=0 90:99",
-                "99 2 - false 0 0 99:104",
-                "104 4 B false 8 0 a=0 108:117",
-                "117 2 - false 0 0 117:86",
-            ]),
-        ),
-        plain(
-            "three bit fields",
-            BIT_FIELDS,
-            BIT_FIELDS_ABBREVIATIONS,
-            Ok(&[
-                "unit",
-                "14 1 unsigned int false 4 32",
-                "30 4 f true 4 0 a=50331648 b=83886083 c=285212680 34:14 43:14 52:14",
-            ]),
-        ),
-        plain(
-            "a bit field at the last bit",
-            FARTHEST,
-            FARTHEST_ABBREVIATIONS,
-            Ok(&[
-                "unit",
-                "14 1 int false 4 16777248",
-                "21 4 big true 2097156 0 z=33554431 30:14",
-            ]),
-        ),
-        plain(
-            "a bit field one bit behind the last",
-            TOO_FAR,
-            FARTHEST_ABBREVIATIONS,
-            Err(TypeFault::MemberFar(30, 16_777_216)),
-        ),
-        plain(
-            "an array with the upper bounds 4 and 5",
-            BOUNDS,
-            BOUNDS_ABBREVIATIONS,
-            Ok(&[
-                "unit with an array",
-                "14 1 int false 4 16777248",
-                "21 3 - false 0 30 21:14 index",
-            ]),
-        ),
-        plain(
-            "an array with a subrange without a bound",
-            NO_BOUND,
-            NO_BOUND_ABBREVIATIONS,
-            Ok(&[
-                "unit with an array",
-                "14 1 int false 4 16777248",
-                "21 3 - false 0 0 21:14 index",
-            ]),
-        ),
-        plain(
-            "an array of 65,536 times 65,536 elements",
-            COUNTS,
-            COUNTS_ABBREVIATIONS,
-            Err(TypeFault::ArrayLength(21)),
-        ),
-        Case {
-            name: "the forms that gcc uses, and a unit of an assembler",
-            units: REGISTRY,
-            abbreviations: REGISTRY_ABBREVIATIONS,
-            strings: REGISTRY_STRINGS,
-            line_strings: REGISTRY_LINE_STRINGS,
-            wanted: Ok(&[
-                "unit with an array",
-                "30 1 char false 1 16777224",
-                "37 4 - true 72 0 tag=0 count=64 first=128 name=192 live=16777728 kind=50332161 44:30 55:113 66:130 77:140 88:148 100:148",
-                "113 1 long long int false 8 16777280",
-                "130 2 - false 0 0 130:135",
-                "135 7 node false 0 0",
-                "140 3 - false 0 40 140:30 index",
-                "148 1 unsigned int false 4 32",
-                "155 8 registry false 0 0 155:37",
-                "unit passed over",
-            ]),
-        },
-        plain(
-            "an enumeration with the values -1 and 1",
-            NEGATIVE,
-            NEGATIVE_ABBREVIATIONS,
-            Ok(&["unit", "14 6 e true 4 0 A=4294967295 B=1"]),
-        ),
-        plain(
-            "a typedef whose type is the unit's root, which only who links refuses",
-            TYPE_OF_ROOT,
-            TYPE_OF_ROOT_ABBREVIATIONS,
-            Ok(&["unit", "14 8 t false 0 0 14:12"]),
-        ),
-    ];
-    for case in &cases {
-        let info = info_of(rt.alloc(), Order::Little, case.units)?;
-        let sections = Sections {
-            info: &info,
-            abbrev: case.abbreviations,
-            text: case.strings,
-            line_text: case.line_strings,
-        };
-        let file = file_of(rt.alloc(), Order::Little, sections)?;
-        let found = lines_in(rt.alloc(), file.as_slice(), true)?;
-        assert!(rt; is_wanted(&found, case.wanted), "{}: {found:?}", case.name);
+    for (name, units, abbreviations, strings, wanted) in CASES {
+        let found = found_in(rt.alloc(), Order::Little, units, abbreviations, strings)?;
+        assert!(rt; is_wanted(&found, wanted), "{name}: {found:?}");
     }
     Ok(())
 }
@@ -466,15 +472,7 @@ fn worked_units(rt: HostRuntime) -> Result<(), Fail> {
 #[test]
 fn big_endian_unit(rt: HostRuntime) -> Result<(), Fail> {
     let wanted: &[&str] = &["unit", "14 1 int false 4 16777248"];
-    let info = info_of(rt.alloc(), Order::Big, &[INT])?;
-    let sections = Sections {
-        info: &info,
-        abbrev: BOUNDS_ABBREVIATIONS,
-        text: &[],
-        line_text: &[],
-    };
-    let file = file_of(rt.alloc(), Order::Big, sections)?;
-    let found = lines_in(rt.alloc(), file.as_slice(), true)?;
+    let found = found_in(rt.alloc(), Order::Big, &[INT], BOUNDS_ABBREVIATIONS, INLINE)?;
     assert!(rt; is_wanted(&found, Ok(wanted)), "{found:?}");
     Ok(())
 }

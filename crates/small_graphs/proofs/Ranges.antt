@@ -1,0 +1,9 @@
+-- What the numbers up to one more are mapped to.
+use Rattle.std.proofs.Common.{◌≡◌, ◌+◌, ◌++◌, ℕ, [], ◌∷◌, map, arith}
+use Rattle.std.proofs.lemmas.List.FromFn.{map-range_with_len_more}
+use Rattle.std.specs.List.{range_with_len}
+
+pub map_range_more :
+    {X : Type 0} (f : ℕ → X) (n : ℕ)
+    → map f (range_with_len 0 (n + 1)) ≡ map f (range_with_len 0 n) ++ f n ∷ []
+map_range_more f n = map-range_with_len_more f 0 n n (omega arith)
