@@ -17,7 +17,9 @@ own files file bytes same = All-map (λ (u : FileUnit). u.bytes ≡ files u.file
     (unit_in file bytes) (result_unwrap_or (headers_of bytes) []) (λ k d lt. same)
 
 pub two_files : (first second : List ℕ) → AreOfFiles (units_in 0 first ++ units_in 1 second)
-two_files first second = (files_of first second,
-    All-append (λ (u : FileUnit). u.bytes ≡ files_of first second u.file) (units_in 0 first)
-    (units_in 1 second) (own (files_of first second) 0 first refl)
-    (own (files_of first second) 1 second refl))
+two_files first second = (
+  files_of first second,
+  All-append (λ (u : FileUnit). u.bytes ≡ files_of first second u.file) (units_in 0 first)
+      (units_in 1 second) (own (files_of first second) 0 first refl)
+      (own (files_of first second) 1 second refl),
+)

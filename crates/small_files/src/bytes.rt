@@ -19,16 +19,14 @@ pub fn put(bytes: &mut Vec<u8>, order: Order, number: u64, width: u32) -> Result
     let width = width as usize;
     match order {
         Order::Little => bytes.extend_from_slice(&number.to_le_bytes()[..8.min(width)]),
-        Order::Big => bytes.extend_from_slice(&number.to_be_bytes()[8usize.saturating_sub(width)..]),
+        Order::Big => bytes.extend_from_slice(
+            &number.to_be_bytes()[8usize.saturating_sub(width)..],
+        ),
     }
 }
 
 /// Puts numbers, each with how many bytes it has.
-pub fn put_all(
-    bytes: &mut Vec<u8>,
-    order: Order,
-    numbers: &[(u64, u32)],
-) -> Result<(), AllocError>
+pub fn put_all(bytes: &mut Vec<u8>, order: Order, numbers: &[(u64, u32)]) -> Result<(), AllocError>
     ensures { OnOk result (bytes.new.items ≡ bytes.old.items ++ all_bytes order numbers.now) }
 {
     for (number, width) in numbers {

@@ -34,8 +34,14 @@ pub const POINTER: Head = Head {
 
 /// What a type with these parts says of itself.
 pub fn parted(kind: u8, name: &'static [u8], size: u32, pieces: &'static [Piece<'static>]) -> Head
-    ensures { label_in result ≡ record { kind = kind; name = name.now; flag = false; size = size;
-        extra = 0; parts = parts_in pieces.now } }
+    ensures { label_in result ≡ record {
+      kind = kind;
+      name = name.now;
+      flag = false;
+      size = size;
+      extra = 0;
+      parts = parts_in pieces.now;
+    } }
 {
     Head {
         kind,
