@@ -1,5 +1,5 @@
 -- Units of two files: each has the bytes of the file of its number.
-use Rattle.std.proofs.Common.{◌≡◌, ◌++◌, ℕ, zero, suc, List, refl, map}
+use Rattle.std.proofs.Common.{◌≡◌, ◌++◌, ℕ, zero, suc, List, [], refl, map}
 use Rattle.std.specs.Result.{result_unwrap_or}
 use Rattle.std.proofs.lemmas.List.Elements.{All-append, All-map}
 use Rattle.entry_tree.specs.declared.unit.Unit.{Unit}
@@ -17,6 +17,7 @@ own files file bytes same = All-map (λ (u : FileUnit). u.bytes ≡ files u.file
     (unit_in file bytes) (result_unwrap_or (headers_of bytes) []) (λ k d lt. same)
 
 pub two_files : (first second : List ℕ) → AreOfFiles (units_in 0 first ++ units_in 1 second)
+unfolding files_of
 two_files first second = (
   files_of first second,
   All-append (λ (u : FileUnit). u.bytes ≡ files_of first second u.file) (units_in 0 first)

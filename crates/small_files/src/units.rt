@@ -17,13 +17,13 @@ use unit_graph::UnitAt;
 #[derive(Clone, Copy, Debug, PartialEq, Eq, Error)]
 pub enum NoUnits {
     #[error("the file: {0}")]
-    File(#[from] ElfFault),
+    File(ElfFault),
     #[error("a header: {0}")]
-    Header(#[from] UnitFault),
+    Header(UnitFault),
     #[error("a unit has 2^32 bytes or more")]
     Long,
     #[error("out of memory")]
-    Memory(#[from] AllocError),
+    Memory(AllocError),
 }
 
 /// Puts one unit more.
@@ -36,14 +36,36 @@ fn push_unit<'a>(
     requires unit { IsUnitOf (bytes_of image) unit }
     requires readable { All IsReadable all.old.items }
     ensures units { OnOk result
-        (all.new.items ≡ all.old.items ++ unit_in file (bytes_of image) unit ∷ []) }
-    ensures refused { IfErr result (IsWhy (bytes_of image)) }
+        (all.new.items ≡ all.old.items ++ unit_in file (bytes_of image.entry) unit ∷ []) }
+    ensures refused { IfErr result (IsWhy (bytes_of image.entry)) }
     ensures readable { OnOk result (All IsReadable all.new.items) }
 {
     if unit.end.saturating_sub(unit.at) >= 1 << 32 {
         return Err(NoUnits::Long);
     }
-    all.push(UnitAt { file, image, unit })?;
+    match all.push(UnitAt { file, image, unit }) {
+        Ok(()) => Ok(()),
+        Err(full) => Err(NoUnits::Memory(full.into())),
+    }
+}
+
+/// Puts units of a file behind others.
+fn push_all<'a>(
+    all: &mut Vec<UnitAt<'a>>,
+    file: u32,
+    image: Image<'a>,
+    units: &[Unit],
+) -> Result<(), NoUnits>
+    requires units { All (IsUnitOf (bytes_of image)) units.now }
+    requires readable { All IsReadable all.old.items }
+    ensures units { OnOk result
+        (all.new.items ≡ all.old.items ++ map (unit_in file (bytes_of image.entry)) units.now) }
+    ensures refused { IfErr result (IsWhy (bytes_of image.entry)) }
+    ensures readable { OnOk result (All IsReadable all.new.items) }
+{
+    for unit in units {
+        push_unit(all, file, image, *unit)?;
+    }
     Ok(())
 }
 
@@ -59,12 +81,14 @@ pub fn push_units<'a>(
     ensures refused { IfErr result (IsWhy bytes.now) }
     ensures readable { OnOk result (All IsReadable all.new.items) }
 {
-    let image = Image::read(bytes)?;
-    let list = units(alloc, &image)?;
-    for i in 0..list.items().len() {
-        push_unit(all, file, image, list.items()[i])?;
+    let image = match Image::read(bytes) {
+        Ok(image) => image,
+        Err(fault) => return Err(NoUnits::File(fault)),
+    };
+    match units(alloc, &image) {
+        Ok(list) => push_all(all, file, image, list.items()),
+        Err(fault) => Err(NoUnits::Header(fault)),
     }
-    Ok(())
 }
 
 /// The units of one file, which has the number 0.

@@ -1,16 +1,17 @@
-use Rattle.std.proofs.Common.{◌≡◌, ℕ, ◌==◌, List, if◌then◌else◌, refl}
-use Rattle.std.proofs.lemmas.List.Elements.{All-nil}
+use Rattle.std.proofs.Common.{◌≡◌, ◌++◌, List, sym, ap, ◌∙◌, subst}
 use Rattle.unit_graph.specs.Sources.{FileUnit}
+use Rattle.unit_graph.specs.Tables.{AreOfFiles}
+use Rattle.small_files.specs.Units.{units_in}
+use Rattle.small_files.proofs.Files.{two_files}
 use Rattle.small_files.proofs.units.units_of_two.Goals as goal
 
-two_files : List ℕ → List ℕ → ℕ → List ℕ
-two_files first second n = if n == 0 then first else second
-
 pub returns-clause-files : goal.returns-clause-files
-unfolding two_files
 returns-clause-files c =
-    let files = two_files c.args.first.now c.args.second.now in (
-      files,
-      c.in_ok-push_units-2.ensures.files files refl (c.in_ok-push_units.ensures.files files refl
-          (rw c.new-all.ensures.items (All-nil (λ (u : FileUnit). u.bytes ≡ files u.file)))),
-    )
+    let one : c.push_units.new.all.items ≡ units_in 0 c.args.first.now =
+    c.in_ok-push_units.ensures.units
+    ∙ ap (λ (us : List FileUnit). us ++ units_in 0 c.args.first.now) c.new-all.ensures.items in
+    let two : c.push_units-2.new.all.items
+    ≡ units_in 0 c.args.first.now ++ units_in 1 c.args.second.now =
+    c.in_ok-push_units-2.ensures.units
+    ∙ ap (λ (us : List FileUnit). us ++ units_in 1 c.args.second.now) one in
+    subst AreOfFiles (sym two) (two_files c.args.first.now c.args.second.now)
