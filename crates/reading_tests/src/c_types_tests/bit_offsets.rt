@@ -1,5 +1,5 @@
 //! Bit fields of units of version 4, which stand in a storage.
-use super::types_in;
+use super::{types_in, under_root};
 use dw_base::Order;
 use dwarf_forms::FormFault;
 use small_files::bytes::{Sections, file_of, put, put_unit};
@@ -42,11 +42,8 @@ fn unit_file(
     version: u16,
     entries: &[u8],
 ) -> Result<Vec<u8>, AllocError> {
-    let mut all = Vec::from_slice(alloc, &[1])?;
-    all.extend_from_slice(entries)?;
-    all.push(0)?;
     let mut info = Vec::new(alloc);
-    put_unit(&mut info, order, version, 0, all.as_slice())?;
+    put_unit(&mut info, order, version, 0, &under_root(alloc, entries)?)?;
     let sections = Sections {
         info: &info,
         abbrev: ABBREVIATIONS,
@@ -82,269 +79,260 @@ fn words(
 }
 
 /// What the members of a structure come to, in a file of an order and a unit of a version.
-type Case<'x> = (Order, u16, &'x [u8], Result<&'x [u64], TypeFault>);
+type Case = (Order, u16, &'static [u8], Result<&'static [u64], TypeFault>);
+
+/// Whether the words of members, or the first refusal, are those that are wanted.
+fn is_wanted(found: &Result<Vec<u64>, TypeFault>, wanted: &Result<&[u64], TypeFault>) -> bool {
+    match (found, wanted) {
+        (Ok(words), Ok(values)) => words.as_slice() == *values,
+        (Err(found), Err(fault)) => found == fault,
+        _ => false,
+    }
+}
 
 /// Holds the words of members, or the first refusal, against those that are wanted.
-fn places(rt: &impl Abort, alloc: Global, cases: &[Case<'_>]) -> Result<(), Fail> {
+fn places(rt: &impl Abort, alloc: Global, cases: &[Case]) -> Result<(), Fail> {
     for (order, version, entries, wanted) in cases {
         let found = words(alloc, *order, *version, entries)?;
-        match wanted {
-            Ok(values) => match found {
-                Ok(all) => assert_eq!(rt; all.as_slice(), *values, "{entries:?}"),
-                Err(fault) => assert!(rt; false, "{entries:?}: {fault:?}"),
-            },
-            Err(fault) => match found {
-                Ok(_) => assert!(rt; false, "{entries:?}: no {fault:?}"),
-                Err(other) => assert_eq!(rt; other, *fault, "{entries:?}"),
-            },
-        }
+        assert!(rt; is_wanted(&found, wanted), "{entries:?}: {found:?}");
     }
     Ok(())
 }
 
 /// Three bit fields of an `unsigned int` in both orders, and what a big-endian file doesn't read.
+const ORDERS: &[Case] = &[
+    (
+        Order::Little,
+        4,
+        &[
+            2, 0x69, 0, 4, 7, 3, 0x73, 0, 4, 4, 12, 4, 3, 29, 0, 4, 12, 4, 5, 24, 0, 4, 12, 4, 17,
+            7, 0, 0,
+        ],
+        Ok(&[50_331_648, 83_886_083, 285_212_680]),
+    ),
+    (
+        Order::Big,
+        4,
+        &[
+            2, 0x69, 0, 4, 7, 3, 0x73, 0, 4, 4, 12, 4, 3, 0, 0, 4, 12, 4, 5, 3, 0, 4, 12, 4, 17, 8,
+            0, 0,
+        ],
+        Ok(&[50_331_648, 83_886_083, 285_212_680]),
+    ),
+    (
+        Order::Big,
+        4,
+        &[2, 0x69, 0, 4, 7, 3, 0x73, 0, 4, 7, 13, 0, 3, 5, 0],
+        Ok(&[50_331_653]),
+    ),
+    (
+        Order::Little,
+        4,
+        &[2, 0x69, 0, 4, 7, 3, 0x73, 0, 4, 4, 12, 4, 3, 29, 1, 0],
+        Ok(&[50_331_656]),
+    ),
+    (
+        Order::Big,
+        4,
+        &[2, 0x69, 0, 4, 7, 3, 0x73, 0, 4, 4, 12, 4, 3, 29, 1, 0],
+        Ok(&[50_331_685]),
+    ),
+];
+
 #[test]
 fn both_orders(rt: HostRuntime) -> Result<(), Fail> {
-    places(
-        &rt,
-        rt.alloc(),
-        &[
-            (
-                Order::Little,
-                4,
-                &[
-                    2, 0x69, 0, 4, 7, 3, 0x73, 0, 4, 4, 12, 4, 3, 29, 0, 4, 12, 4, 5, 24, 0, 4, 12,
-                    4, 17, 7, 0, 0,
-                ],
-                Ok(&[50_331_648, 83_886_083, 285_212_680]),
-            ),
-            (
-                Order::Big,
-                4,
-                &[
-                    2, 0x69, 0, 4, 7, 3, 0x73, 0, 4, 4, 12, 4, 3, 0, 0, 4, 12, 4, 5, 3, 0, 4, 12,
-                    4, 17, 8, 0, 0,
-                ],
-                Ok(&[50_331_648, 83_886_083, 285_212_680]),
-            ),
-            (
-                Order::Big,
-                4,
-                &[2, 0x69, 0, 4, 7, 3, 0x73, 0, 4, 7, 13, 0, 3, 5, 0],
-                Ok(&[50_331_653]),
-            ),
-            (
-                Order::Little,
-                4,
-                &[2, 0x69, 0, 4, 7, 3, 0x73, 0, 4, 4, 12, 4, 3, 29, 1, 0],
-                Ok(&[50_331_656]),
-            ),
-            (
-                Order::Big,
-                4,
-                &[2, 0x69, 0, 4, 7, 3, 0x73, 0, 4, 4, 12, 4, 3, 29, 1, 0],
-                Ok(&[50_331_685]),
-            ),
-        ],
-    )
+    places(&rt, rt.alloc(), ORDERS)
 }
 
 /// Where the storage comes from: the member, or the entry that its type names.
+const STORAGES: &[Case] = &[
+    (
+        Order::Little,
+        4,
+        &[2, 0x69, 0, 4, 7, 3, 0x73, 0, 4, 5, 12, 3, 29, 0],
+        Ok(&[50_331_648]),
+    ),
+    (
+        Order::Little,
+        4,
+        &[3, 0x73, 0, 4, 5, 21, 3, 29, 0, 2, 0x69, 0, 4, 7],
+        Ok(&[50_331_648]),
+    ),
+    (
+        Order::Little,
+        4,
+        &[2, 0x69, 0, 4, 7, 3, 0x73, 0, 4, 4, 12, 2, 3, 13, 0, 0],
+        Ok(&[50_331_648]),
+    ),
+    (
+        Order::Little,
+        4,
+        &[
+            6, 0x74, 0, 17, 0, 2, 0x69, 0, 4, 7, 3, 0x73, 0, 4, 5, 12, 3, 29, 0,
+        ],
+        Ok(&[50_331_648]),
+    ),
+    (
+        Order::Little,
+        4,
+        &[
+            2, 0x69, 0, 4, 7, 9, 0x74, 0, 2, 12, 3, 0x73, 0, 4, 5, 17, 3, 13, 0,
+        ],
+        Ok(&[50_331_648]),
+    ),
+    (
+        Order::Little,
+        4,
+        &[
+            2, 0x69, 0, 4, 7, 11, 12, 12, 17, 13, 19, 14, 21, 3, 0x73, 0, 4, 5, 23, 3, 29, 0,
+        ],
+        Ok(&[50_331_648]),
+    ),
+    (
+        Order::Little,
+        4,
+        &[2, 0x69, 0, 4, 7, 15, 12, 3, 0x73, 0, 4, 5, 17, 3, 29, 0],
+        Err(TypeFault::MemberPlace(23)),
+    ),
+    (
+        Order::Little,
+        4,
+        &[2, 0x69, 0, 4, 7, 3, 0x73, 0, 4, 5, 13, 3, 29, 0],
+        Err(TypeFault::MemberPlace(21)),
+    ),
+    (
+        Order::Little,
+        4,
+        &[6, 0x74, 0, 12, 0, 3, 0x73, 0, 4, 5, 12, 3, 29, 0],
+        Err(TypeFault::MemberPlace(21)),
+    ),
+    (
+        Order::Little,
+        4,
+        &[
+            2, 0x69, 0, 4, 7, 8, 0x74, 0, 0, 12, 3, 0x73, 0, 4, 5, 17, 3, 29, 0,
+        ],
+        Err(TypeFault::MemberPlace(26)),
+    ),
+    (
+        Order::Little,
+        4,
+        &[
+            2, 0x69, 0, 4, 7, 3, 0x73, 0, 4, 5, 26, 3, 29, 0, 20, 0x74, 0, 12,
+        ],
+        Err(TypeFault::MemberPlace(21)),
+    ),
+];
+
 #[test]
 fn storages(rt: HostRuntime) -> Result<(), Fail> {
-    places(
-        &rt,
-        rt.alloc(),
-        &[
-            (
-                Order::Little,
-                4,
-                &[2, 0x69, 0, 4, 7, 3, 0x73, 0, 4, 5, 12, 3, 29, 0],
-                Ok(&[50_331_648]),
-            ),
-            (
-                Order::Little,
-                4,
-                &[3, 0x73, 0, 4, 5, 21, 3, 29, 0, 2, 0x69, 0, 4, 7],
-                Ok(&[50_331_648]),
-            ),
-            (
-                Order::Little,
-                4,
-                &[2, 0x69, 0, 4, 7, 3, 0x73, 0, 4, 4, 12, 2, 3, 13, 0, 0],
-                Ok(&[50_331_648]),
-            ),
-            (
-                Order::Little,
-                4,
-                &[
-                    6, 0x74, 0, 17, 0, 2, 0x69, 0, 4, 7, 3, 0x73, 0, 4, 5, 12, 3, 29, 0,
-                ],
-                Ok(&[50_331_648]),
-            ),
-            (
-                Order::Little,
-                4,
-                &[
-                    2, 0x69, 0, 4, 7, 9, 0x74, 0, 2, 12, 3, 0x73, 0, 4, 5, 17, 3, 13, 0,
-                ],
-                Ok(&[50_331_648]),
-            ),
-            (
-                Order::Little,
-                4,
-                &[
-                    2, 0x69, 0, 4, 7, 11, 12, 12, 17, 13, 19, 14, 21, 3, 0x73, 0, 4, 5, 23, 3, 29,
-                    0,
-                ],
-                Ok(&[50_331_648]),
-            ),
-            (
-                Order::Little,
-                4,
-                &[2, 0x69, 0, 4, 7, 15, 12, 3, 0x73, 0, 4, 5, 17, 3, 29, 0],
-                Err(TypeFault::MemberPlace(23)),
-            ),
-            (
-                Order::Little,
-                4,
-                &[2, 0x69, 0, 4, 7, 3, 0x73, 0, 4, 5, 13, 3, 29, 0],
-                Err(TypeFault::MemberPlace(21)),
-            ),
-            (
-                Order::Little,
-                4,
-                &[6, 0x74, 0, 12, 0, 3, 0x73, 0, 4, 5, 12, 3, 29, 0],
-                Err(TypeFault::MemberPlace(21)),
-            ),
-            (
-                Order::Little,
-                4,
-                &[
-                    2, 0x69, 0, 4, 7, 8, 0x74, 0, 0, 12, 3, 0x73, 0, 4, 5, 17, 3, 29, 0,
-                ],
-                Err(TypeFault::MemberPlace(26)),
-            ),
-            (
-                Order::Little,
-                4,
-                &[
-                    2, 0x69, 0, 4, 7, 3, 0x73, 0, 4, 5, 26, 3, 29, 0, 20, 0x74, 0, 12,
-                ],
-                Err(TypeFault::MemberPlace(21)),
-            ),
-        ],
-    )
+    places(&rt, rt.alloc(), STORAGES)
 }
 
 /// Which numbers place a bit field, and those that are refused.
+const NUMBERS: &[Case] = &[
+    (
+        Order::Little,
+        4,
+        &[2, 0x69, 0, 4, 7, 3, 0x73, 0, 4, 10, 12, 3, 0x7f, 0],
+        Ok(&[50_331_678]),
+    ),
+    (
+        Order::Little,
+        4,
+        &[2, 0x69, 0, 4, 7, 3, 0x73, 0, 4, 5, 12, 3, 0xff, 0],
+        Err(TypeFault::MemberPlace(21)),
+    ),
+    (
+        Order::Little,
+        4,
+        &[2, 0x69, 0, 4, 7, 3, 0x73, 0, 4, 4, 12, 4, 3, 30, 0, 0],
+        Err(TypeFault::MemberPlace(21)),
+    ),
+    (
+        Order::Little,
+        4,
+        &[
+            2, 0x69, 0, 4, 7, 3, 0x73, 0, 4, 18, 12, 4, 3, 29, 2, 0x23, 1, 0,
+        ],
+        Ok(&[50_331_656]),
+    ),
+    (
+        Order::Little,
+        4,
+        &[
+            2, 0x69, 0, 4, 7, 3, 0x73, 0, 4, 18, 12, 4, 3, 29, 1, 0x30, 0,
+        ],
+        Err(TypeFault::MemberPlace(21)),
+    ),
+    (
+        Order::Little,
+        4,
+        &[2, 0x69, 0, 4, 7, 3, 0x73, 0, 4, 16, 12, 29, 1, 0],
+        Ok(&[8]),
+    ),
+    (
+        Order::Little,
+        4,
+        &[2, 0x69, 0, 4, 7, 3, 0x73, 0, 4, 17, 12, 5, 3, 0, 0],
+        Ok(&[50_331_653]),
+    ),
+    (
+        Order::Little,
+        4,
+        &[2, 0x69, 0, 4, 7, 3, 0x73, 0, 4, 5, 12, 0, 32, 0],
+        Err(TypeFault::BitSize(21, 0)),
+    ),
+    (
+        Order::Little,
+        4,
+        &[2, 0x69, 0, 4, 7, 3, 0x73, 0, 4, 5, 12, 0, 33, 0],
+        Err(TypeFault::MemberPlace(21)),
+    ),
+    (
+        Order::Little,
+        4,
+        &[2, 0x69, 0, 4, 7, 3, 0x73, 0, 4, 7, 12, 0, 3, 29, 0],
+        Err(TypeFault::Form(21, FormFault::WrongClass(0x0b, 0x08))),
+    ),
+    (
+        Order::Little,
+        4,
+        &[2, 0x69, 0, 4, 7, 3, 0x73, 0, 4, 19, 12, 3, 29, 0],
+        Err(TypeFault::Form(21, FormFault::WrongClass(0x49, 0x0b))),
+    ),
+    (
+        Order::Little,
+        4,
+        &[2, 0x69, 0, 4, 7, 3, 0x73, 0, 4, 21, 12, 3, 0, 0, 0],
+        Err(TypeFault::Form(21, FormFault::WrongClass(0x0c, 0x08))),
+    ),
+];
+
 #[test]
 fn numbers(rt: HostRuntime) -> Result<(), Fail> {
-    places(
-        &rt,
-        rt.alloc(),
-        &[
-            (
-                Order::Little,
-                4,
-                &[2, 0x69, 0, 4, 7, 3, 0x73, 0, 4, 10, 12, 3, 0x7f, 0],
-                Ok(&[50_331_678]),
-            ),
-            (
-                Order::Little,
-                4,
-                &[2, 0x69, 0, 4, 7, 3, 0x73, 0, 4, 5, 12, 3, 0xff, 0],
-                Err(TypeFault::MemberPlace(21)),
-            ),
-            (
-                Order::Little,
-                4,
-                &[2, 0x69, 0, 4, 7, 3, 0x73, 0, 4, 4, 12, 4, 3, 30, 0, 0],
-                Err(TypeFault::MemberPlace(21)),
-            ),
-            (
-                Order::Little,
-                4,
-                &[
-                    2, 0x69, 0, 4, 7, 3, 0x73, 0, 4, 18, 12, 4, 3, 29, 2, 0x23, 1, 0,
-                ],
-                Ok(&[50_331_656]),
-            ),
-            (
-                Order::Little,
-                4,
-                &[
-                    2, 0x69, 0, 4, 7, 3, 0x73, 0, 4, 18, 12, 4, 3, 29, 1, 0x30, 0,
-                ],
-                Err(TypeFault::MemberPlace(21)),
-            ),
-            (
-                Order::Little,
-                4,
-                &[2, 0x69, 0, 4, 7, 3, 0x73, 0, 4, 16, 12, 29, 1, 0],
-                Ok(&[8]),
-            ),
-            (
-                Order::Little,
-                4,
-                &[2, 0x69, 0, 4, 7, 3, 0x73, 0, 4, 17, 12, 5, 3, 0, 0],
-                Ok(&[50_331_653]),
-            ),
-            (
-                Order::Little,
-                4,
-                &[2, 0x69, 0, 4, 7, 3, 0x73, 0, 4, 5, 12, 0, 32, 0],
-                Err(TypeFault::BitSize(21, 0)),
-            ),
-            (
-                Order::Little,
-                4,
-                &[2, 0x69, 0, 4, 7, 3, 0x73, 0, 4, 5, 12, 0, 33, 0],
-                Err(TypeFault::MemberPlace(21)),
-            ),
-            (
-                Order::Little,
-                4,
-                &[2, 0x69, 0, 4, 7, 3, 0x73, 0, 4, 7, 12, 0, 3, 29, 0],
-                Err(TypeFault::Form(21, FormFault::WrongClass(0x0b, 0x08))),
-            ),
-            (
-                Order::Little,
-                4,
-                &[2, 0x69, 0, 4, 7, 3, 0x73, 0, 4, 19, 12, 3, 29, 0],
-                Err(TypeFault::Form(21, FormFault::WrongClass(0x49, 0x0b))),
-            ),
-            (
-                Order::Little,
-                4,
-                &[2, 0x69, 0, 4, 7, 3, 0x73, 0, 4, 21, 12, 3, 0, 0, 0],
-                Err(TypeFault::Form(21, FormFault::WrongClass(0x0c, 0x08))),
-            ),
-        ],
-    )
+    places(&rt, rt.alloc(), NUMBERS)
 }
 
 /// A unit of version 5 has no such bit fields, whatever stands there.
+const VERSION_5: &[Case] = &[
+    (
+        Order::Little,
+        5,
+        &[2, 0x69, 0, 4, 7, 3, 0x73, 0, 4, 4, 13, 4, 3, 29, 1, 0],
+        Ok(&[50_331_656]),
+    ),
+    (
+        Order::Little,
+        5,
+        &[2, 0x69, 0, 4, 7, 3, 0x73, 0, 4, 21, 13, 3, 0, 1, 0],
+        Ok(&[50_331_656]),
+    ),
+];
+
 #[test]
 fn version_5(rt: HostRuntime) -> Result<(), Fail> {
-    places(
-        &rt,
-        rt.alloc(),
-        &[
-            (
-                Order::Little,
-                5,
-                &[2, 0x69, 0, 4, 7, 3, 0x73, 0, 4, 4, 13, 4, 3, 29, 1, 0],
-                Ok(&[50_331_656]),
-            ),
-            (
-                Order::Little,
-                5,
-                &[2, 0x69, 0, 4, 7, 3, 0x73, 0, 4, 21, 13, 3, 0, 1, 0],
-                Ok(&[50_331_656]),
-            ),
-        ],
-    )
+    places(&rt, rt.alloc(), VERSION_5)
 }
 
 /// 64 typedefs are followed to the storage, and no more.

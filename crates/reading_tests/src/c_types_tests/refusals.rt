@@ -195,104 +195,100 @@ fn ranges(rt: HostRuntime) -> Result<(), Fail> {
 
 /// Two refusals of one entry: the lower number counts, and of two of one number the one that keeps
 /// the lower value. In the first eight the one that counts is found first, in the rest later.
+const AT_ONE_ENTRY: &[Refused] = &[
+    (&[29], TypeFault::MissingName(13)),
+    (&[50, 14, 0x7e, 0], TypeFault::MissingType(13)),
+    (
+        &[8, 0x73, 0, 4, 12, 13, 0, 0, 0, 0, 0x80, 0x80, 0x80, 8, 0],
+        TypeFault::BitSize(17, 0),
+    ),
+    (
+        &[8, 0x73, 0, 4, 61, 13, 1, 0x30, 0, 0],
+        TypeFault::MemberPlace(17),
+    ),
+    (&[8, 0x73, 0, 4, 48, 1, 0x30, 0], TypeFault::MissingType(17)),
+    (&[15, 0x65, 0, 4, 51, 0], TypeFault::MissingName(17)),
+    (
+        &[8, 0x73, 0, 4, 60, 0, 0, 0, 0, 7, 0],
+        TypeFault::Form(17, FormFault::AltForm(0x1d)),
+    ),
+    (
+        &[8, 0x73, 0, 4, 46, 0, 0, 0, 0, 9, 0, 0, 0, 0],
+        TypeFault::Form(17, FormFault::StringOut(9)),
+    ),
+    (
+        &[38, 0],
+        TypeFault::Form(13, FormFault::WrongClass(0x0b, 0x08)),
+    ),
+    (
+        &[52, 7],
+        TypeFault::Form(13, FormFault::WrongClass(0x49, 0x0b)),
+    ),
+    (
+        &[8, 0x73, 0, 4, 56, 7, 0, 0, 0, 0, 0],
+        TypeFault::Form(17, FormFault::AltForm(0x1c)),
+    ),
+    (
+        &[8, 0x73, 0, 4, 45, 0, 0, 0, 0, 0, 0, 0, 0, 0],
+        TypeFault::Form(17, FormFault::AltForm(0x1c)),
+    ),
+    (
+        &[57, 0x69, 0, 4, 0, 0],
+        TypeFault::Form(13, FormFault::WrongClass(0x0d, 0x08)),
+    ),
+    (
+        &[8, 0x73, 0, 4, 58, 0, 0],
+        TypeFault::Form(17, FormFault::WrongClass(0x38, 0x08)),
+    ),
+];
+
 #[test]
 fn two_at_one_entry(rt: HostRuntime) -> Result<(), Fail> {
-    refuses(
-        &rt,
-        rt.alloc(),
-        &[
-            (&[29], TypeFault::MissingName(13)),
-            (&[50, 14, 0x7e, 0], TypeFault::MissingType(13)),
-            (
-                &[8, 0x73, 0, 4, 12, 13, 0, 0, 0, 0, 0x80, 0x80, 0x80, 8, 0],
-                TypeFault::BitSize(17, 0),
-            ),
-            (
-                &[8, 0x73, 0, 4, 61, 13, 1, 0x30, 0, 0],
-                TypeFault::MemberPlace(17),
-            ),
-            (&[8, 0x73, 0, 4, 48, 1, 0x30, 0], TypeFault::MissingType(17)),
-            (&[15, 0x65, 0, 4, 51, 0], TypeFault::MissingName(17)),
-            (
-                &[8, 0x73, 0, 4, 60, 0, 0, 0, 0, 7, 0],
-                TypeFault::Form(17, FormFault::AltForm(0x1d)),
-            ),
-            (
-                &[8, 0x73, 0, 4, 46, 0, 0, 0, 0, 9, 0, 0, 0, 0],
-                TypeFault::Form(17, FormFault::StringOut(9)),
-            ),
-            (
-                &[38, 0],
-                TypeFault::Form(13, FormFault::WrongClass(0x0b, 0x08)),
-            ),
-            (
-                &[52, 7],
-                TypeFault::Form(13, FormFault::WrongClass(0x49, 0x0b)),
-            ),
-            (
-                &[8, 0x73, 0, 4, 56, 7, 0, 0, 0, 0, 0],
-                TypeFault::Form(17, FormFault::AltForm(0x1c)),
-            ),
-            (
-                &[8, 0x73, 0, 4, 45, 0, 0, 0, 0, 0, 0, 0, 0, 0],
-                TypeFault::Form(17, FormFault::AltForm(0x1c)),
-            ),
-            (
-                &[57, 0x69, 0, 4, 0, 0],
-                TypeFault::Form(13, FormFault::WrongClass(0x0d, 0x08)),
-            ),
-            (
-                &[8, 0x73, 0, 4, 58, 0, 0],
-                TypeFault::Form(17, FormFault::WrongClass(0x38, 0x08)),
-            ),
-        ],
-    )
+    refuses(&rt, rt.alloc(), AT_ONE_ENTRY)
 }
 
 /// Refusals of two entries: that of the earlier entry counts, whatever their numbers are and
 /// whichever is found first.
+const AT_TWO_ENTRIES: &[Refused] = &[
+    (&[59, 10, 0x6d, 0, 0], TypeFault::MissingSize(13)),
+    (
+        &[35, 0x73, 0, 0x7f, 10, 0x6d, 0, 0],
+        TypeFault::SizeLarge(13, -1),
+    ),
+    (&[15, 0x65, 0, 3, 51, 0], TypeFault::EnumSize(13, 3)),
+    (
+        &[62, 7, 26, 0],
+        TypeFault::Form(13, FormFault::WrongClass(0x49, 0x0b)),
+    ),
+    (
+        &[8, 0x73, 0, 4, 59, 0, 10, 0x6d, 0, 0],
+        TypeFault::MissingSize(17),
+    ),
+    (
+        &[8, 0x73, 0, 4, 10, 0x6d, 0, 59, 0, 0],
+        TypeFault::MissingType(17),
+    ),
+    (
+        &[8, 0x73, 0, 4, 10, 0x6d, 0, 29, 0],
+        TypeFault::MissingType(17),
+    ),
+    (
+        &[29, 8, 0x73, 0, 4, 10, 0x6d, 0, 0],
+        TypeFault::MissingName(13),
+    ),
+    (
+        &[8, 0x73, 0, 4, 29, 10, 0x6d, 0, 0],
+        TypeFault::MissingName(17),
+    ),
+    (
+        &[13, 13, 0, 0, 0, 29, 14, 0x7e, 0],
+        TypeFault::ArrayLength(13),
+    ),
+];
+
 #[test]
 fn at_two_entries(rt: HostRuntime) -> Result<(), Fail> {
-    refuses(
-        &rt,
-        rt.alloc(),
-        &[
-            (&[59, 10, 0x6d, 0, 0], TypeFault::MissingSize(13)),
-            (
-                &[35, 0x73, 0, 0x7f, 10, 0x6d, 0, 0],
-                TypeFault::SizeLarge(13, -1),
-            ),
-            (&[15, 0x65, 0, 3, 51, 0], TypeFault::EnumSize(13, 3)),
-            (
-                &[62, 7, 26, 0],
-                TypeFault::Form(13, FormFault::WrongClass(0x49, 0x0b)),
-            ),
-            (
-                &[8, 0x73, 0, 4, 59, 0, 10, 0x6d, 0, 0],
-                TypeFault::MissingSize(17),
-            ),
-            (
-                &[8, 0x73, 0, 4, 10, 0x6d, 0, 59, 0, 0],
-                TypeFault::MissingType(17),
-            ),
-            (
-                &[8, 0x73, 0, 4, 10, 0x6d, 0, 29, 0],
-                TypeFault::MissingType(17),
-            ),
-            (
-                &[29, 8, 0x73, 0, 4, 10, 0x6d, 0, 0],
-                TypeFault::MissingName(13),
-            ),
-            (
-                &[8, 0x73, 0, 4, 29, 10, 0x6d, 0, 0],
-                TypeFault::MissingName(17),
-            ),
-            (
-                &[13, 13, 0, 0, 0, 29, 14, 0x7e, 0],
-                TypeFault::ArrayLength(13),
-            ),
-        ],
-    )
+    refuses(&rt, rt.alloc(), AT_TWO_ENTRIES)
 }
 
 /// A fault of the walk comes before every refusal of a type.
