@@ -48,7 +48,7 @@ const SIXTEEN: &[u8] = &[0, 1, 2, 3, 4, 5, 6, 7, 8, 9, 10, 11, 12, 13, 14, 15];
 
 /// Each form: its value in a little-endian unit of 32-bit offsets, then in a big-endian one of
 /// 64-bit offsets, and the value. The abbreviation holds -5.
-const FORMS: [(u64, &[u8], &[u8], &str); 45] = [
+const FORMS: &[(u64, &[u8], &[u8], &str)] = &[
     (0x01, EIGHT, EIGHT_BIG, "Address(17366446428893087496)"),
     (0x03, &[3, 0, 7, 0, 9], &[0, 3, 7, 0, 9], "Block([7, 0, 9])"),
     (0x04, &[1, 0, 0, 0, 7], &[0, 0, 0, 1, 7], "Block([7])"),
@@ -159,11 +159,11 @@ fn passes(rt: &impl Abort, ctx: &FormCtx<'_>, form: u64)
 fn each_form_is_read(rt: HostRuntime) -> Result<(), Fail> {
     for (form, little, big, text) in FORMS {
         let narrow = context(little, Order::Little, 4);
-        holds(&rt, rt.alloc(), &narrow, form, text)?;
-        passes(&rt, &narrow, form);
+        holds(&rt, rt.alloc(), &narrow, *form, text)?;
+        passes(&rt, &narrow, *form);
         let wide = context(big, Order::Big, 8);
-        holds(&rt, rt.alloc(), &wide, form, text)?;
-        passes(&rt, &wide, form);
+        holds(&rt, rt.alloc(), &wide, *form, text)?;
+        passes(&rt, &wide, *form);
     }
     Ok(())
 }

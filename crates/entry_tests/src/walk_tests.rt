@@ -98,7 +98,7 @@ const REAL_ENTRIES: [Named; 30] = [
 type Valued = (u64, u64, u64, &'static str);
 
 /// Values of that unit as the same listing has them, of each form that it uses.
-const REAL_VALUES: [Valued; 17] = [
+const REAL_VALUES: &[Valued] = &[
     (12, 0x25, 0x0e, "Strp(26)"),
     (12, 0x13, 0x0b, "Unsigned(29)"),
     (12, 0x1b, 0x1f, "LineStrp(0)"),
@@ -522,9 +522,9 @@ fn text_at(entries: &[Told], at: u64) -> &str {
 fn the_values_of_a_real_unit(rt: HostRuntime) -> Result<(), Fail> {
     let file = real_file(rt.alloc())?;
     for (at, attribute, form, text) in REAL_VALUES {
-        let (_, entries) = walked(rt.alloc(), &file, Asked::Value(attribute))?;
+        let (_, entries) = walked(rt.alloc(), &file, Asked::Value(*attribute))?;
         let wanted = format!(in rt.alloc(); "{form} {text}")?;
-        assert_eq!(rt; text_at(&entries, at), wanted.as_str());
+        assert_eq!(rt; text_at(&entries, *at), wanted.as_str());
     }
     Ok(())
 }
