@@ -1,8 +1,7 @@
 -- Units of two files: each has the bytes of the file of its number.
-use Rattle.std.proofs.Common.{◌≡◌, ◌++◌, ℕ, zero, suc, List, [], refl, map}
+use Rattle.std.proofs.Common.{◌≡◌, ◌++◌, ℕ, zero, suc, List, [], refl}
 use Rattle.std.specs.Result.{result_unwrap_or}
 use Rattle.std.proofs.lemmas.List.Elements.{All-append, All-map}
-use Rattle.entry_tree.specs.declared.unit.Unit.{Unit}
 use Rattle.unit_graph.specs.Sources.{FileUnit}
 use Rattle.unit_graph.specs.Tables.{AreOf, AreOfFiles}
 use Rattle.small_files.specs.Units.{headers_of, unit_in, units_in}

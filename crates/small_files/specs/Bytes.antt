@@ -1,12 +1,12 @@
 -- Numbers, headers of units, units, and files of a few sections, in bytes.
-use Rattle.std.specs.Prelude.{ℕ, ◌+◌, ◌-◌, ◌==◌, ◌||◌, Bool, not, List, [], ◌∷◌, ◌++◌, length}
+use Rattle.std.specs.Prelude.{ℕ, ◌+◌, ◌-◌, ◌==◌, List, [], ◌∷◌, ◌++◌, length}
 use Rattle.std.specs.Prelude.{if◌then◌else◌, take, drop, min}
 use Rattle.std.specs.List.{flat_map}
 use Rattle.std.specs.Int.{to_le_bytes, to_be_bytes, w64}
 use Rattle.dw_base.specs.declared.numbers.Order.{Order}
 use Rattle.dw_base.specs.declared.numbers.Order.TheVariants.{Little, Big}
 use Rattle.small_files.specs.declared.bytes.Header.{Header}
-use Rattle.small_files.specs.declared.bytes.TheConstants.{FILE_HEADER, INFO_AT, NAMES}
+use Rattle.small_files.specs.declared.bytes.TheConstants.{INFO_AT, NAMES}
 
 -- the lowest bytes of a number, so many, at most eight
 unfoldable pub number_bytes : Order → ℕ → ℕ → List ℕ
@@ -74,10 +74,21 @@ abbrev pub data_of : Order → ℕ
 data_of Little = 1
 data_of Big = 2
 
--- what a file of 64 bits begins with: its header, and that of the empty section
+-- the fields of the header of a file of 64 bits behind e_ident, in order from e_type to e_shstrndx
+-- (ELF-64, "ELF Header"): an executable for x86-64 with six section headers behind its header, the
+-- last of which is that of the names
+abbrev pub header_fields : List (ℕ × ℕ)
+header_fields = (2, 2) ∷ (62, 2) ∷ (1, 4) ∷ (0, 8) ∷ (0, 8) ∷ (64, 8) ∷ (0, 4) ∷ (64, 2) ∷ (0, 2)
+    ∷ (0, 2) ∷ (64, 2) ∷ (6, 2) ∷ (5, 2) ∷ []
+
+-- the header of the section that is none: 64 bytes of 0
+abbrev pub no_section : List (ℕ × ℕ)
+no_section = (0, 8) ∷ (0, 8) ∷ (0, 8) ∷ (0, 8) ∷ (0, 8) ∷ (0, 8) ∷ (0, 8) ∷ (0, 8) ∷ []
+
+-- what a file of 64 bits begins with: its header, and that of the section that is none
 unfoldable pub start_bytes : Order → List ℕ
 start_bytes order = 127 ∷ 69 ∷ 76 ∷ 70 ∷ 2 ∷ data_of order ∷ 1 ∷ 0 ∷ 0 ∷ 0 ∷ 0 ∷ 0 ∷ 0 ∷ 0 ∷ 0 ∷ 0
-    ∷ all_bytes order FILE_HEADER
+    ∷ all_bytes order (header_fields ++ no_section)
 
 -- a section that is left out where it has no bytes
 abbrev pub optional_of : ℕ → List ℕ → Section

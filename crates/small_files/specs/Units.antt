@@ -1,5 +1,5 @@
 -- The units of a file, and why it has none.
-use Rattle.std.specs.Prelude.{ℕ, ◌≡◌, ◌+◌, ◌≤◌, ◌^◌, ⊤, List, [], map, Result, Err, Some}
+use Rattle.std.specs.Prelude.{ℕ, ◌≡◌, ◌+◌, ◌≤◌, ◌^◌, ⊤, List, [], map, Result, Err, Some, None, IsOk}
 use Rattle.std.specs.Result.{result_unwrap_or}
 use Rattle.elf_sections.specs.Checks.{refusal_of}
 use Rattle.elf_sections.specs.Header.{order_of}
@@ -24,6 +24,10 @@ unit_in file bytes unit = record { file = file; bytes = bytes; unit = unit }
 -- the units of a file of this number; none where a header fails
 abbrev pub units_in : ℕ → List ℕ → List FileUnit
 units_in file bytes = map (unit_in file bytes) (result_unwrap_or (headers_of bytes) [])
+
+-- no check refuses the file, nor a header of its units
+abbrev pub HasUnits : List ℕ → Type 0
+HasUnits bytes = (refusal_of bytes ≡ None) × IsOk (headers_of bytes)
 
 -- why a file has no units
 abbrev pub IsWhy : List ℕ → NoUnits → Type 0

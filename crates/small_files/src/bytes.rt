@@ -125,17 +125,17 @@ pub fn info_of(alloc: Global, units: &[&[u8]]) -> Result<Vec<u8>, AllocError>
 pub const NAMES: &[u8] = b"\0.debug_info\0.debug_abbrev\0.debug_str\0.debug_line_str\0";
 
 /// How many bytes the header of a file has, and that of a section (ELF-64).
-pub const HEADER_BYTES: u64 = 64;
+const HEADER_BYTES: u64 = 64;
 
 /// How many sections a file has, with the empty one and that of the names, which is the last.
-pub const SECTIONS: u64 = 6;
+const SECTIONS: u64 = 6;
 
 /// Where the first section stands in a file.
 pub const INFO_AT: usize = 448;
 
 /// The fields of a file's header behind the 16 bytes that tell what it is, up to the number of
 /// section headers and of the section of names, and the first section header, which is empty.
-pub const FILE_HEADER: [(u64, u32); 21] = [
+const FILE_HEADER: [(u64, u32); 21] = [
     (2, 2),
     (62, 2),
     (1, 4),

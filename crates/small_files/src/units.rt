@@ -1,11 +1,10 @@
 //! The units of files, as those calls want them that read the units of several files.
-ghost use Rattle.std.specs.Prelude.{◌≡◌, ◌++◌, ⊤, [], ◌∷◌, map, All, IfOk, IfErr, OnOk};
-ghost use Rattle.std.specs.Prelude.{◌⊎◌};
+ghost use Rattle.std.specs.Prelude.{◌≡◌, ◌++◌, ◌⊎◌, [], ◌∷◌, map, All, IfOk, IfErr, OnOk};
 ghost use Rattle.elf_sections.specs.Images.{file_of as bytes_of};
 ghost use Rattle.entry_tree.specs.Contexts.{IsUnitOf};
 ghost use Rattle.unit_graph.specs.Sources.{IsReadable};
 ghost use Rattle.unit_graph.specs.Tables.{AreOfFiles};
-ghost use Rattle.small_files.specs.Units.{unit_in, units_in, IsWhy};
+ghost use Rattle.small_files.specs.Units.{unit_in, units_in, HasUnits, IsWhy};
 
 use elf_sections::{ElfFault, Image};
 use entry_tree::{Unit, UnitFault, units};
@@ -78,6 +77,7 @@ pub fn push_units<'a>(
 ) -> Result<(), NoUnits>
     requires readable { All IsReadable all.old.items }
     ensures units { OnOk result (all.new.items ≡ all.old.items ++ units_in file bytes.now) }
+    ensures accepted { OnOk result (HasUnits bytes.now) }
     ensures refused { IfErr result (IsWhy bytes.now) }
     ensures readable { OnOk result (All IsReadable all.new.items) }
 {
@@ -94,6 +94,7 @@ pub fn push_units<'a>(
 /// The units of one file, which has the number 0.
 pub fn units_of<'a>(alloc: Global, bytes: &'a [u8]) -> Result<Vec<UnitAt<'a>>, NoUnits>
     ensures units { IfOk result (λ v. v.items ≡ units_in 0 bytes.now) }
+    ensures accepted { OnOk result (HasUnits bytes.now) }
     ensures refused { IfErr result (IsWhy bytes.now) }
     ensures readable { IfOk result (λ v. All IsReadable v.items) }
 {
@@ -109,7 +110,9 @@ pub fn units_of_two<'a>(
     second: &'a [u8],
 ) -> Result<Vec<UnitAt<'a>>, NoUnits>
     ensures units { IfOk result (λ v. v.items ≡ units_in 0 first.now ++ units_in 1 second.now) }
-    ensures refused { IfErr result (λ why. IsWhy first.now why ⊎ IsWhy second.now why) }
+    ensures accepted { OnOk result (HasUnits first.now × HasUnits second.now) }
+    ensures refused { IfErr result (λ why. IsWhy first.now why
+        ⊎ (HasUnits first.now × IsWhy second.now why)) }
     ensures readable { IfOk result (λ v. All IsReadable v.items) }
     ensures files { IfOk result (λ v. AreOfFiles v.items) }
 {

@@ -1,6 +1,5 @@
 use Rattle.std.proofs.Common.{◌≡◌, take}
 use Rattle.std.specs.List.{flat_map}
-use denote.Bor.{Bor}
 use Rattle.small_files.specs.Bytes.{unit_bytes}
 use Rattle.dw_base.specs.declared.numbers.Order.TheVariants.{Little}
 use Rattle.small_files.proofs.bytes.info_of.Given as goal
