@@ -1,19 +1,19 @@
-//! What every layer stands on: numbers, LEB128 numbers and texts in bytes, names as slices, places
-//! of faults, the limits of a run, and a counter of steps.
+//! What every layer stands on: lists of items, numbers, LEB128 numbers and texts in bytes, names as
+//! slices, places of faults, the limits of a run, and a counter of steps.
 //!
 //! No call of this crate takes memory.
 #![tactic(auto)]
 
-pub mod bytes;
 pub mod leb128;
+pub mod listed;
 pub mod names;
 pub mod numbers;
 pub mod places;
 mod shared;
 pub mod steps;
 
-pub use bytes::Bytes;
 pub use leb128::{LebFault, sleb, uleb};
+pub use listed::{Bytes, Listed};
 pub use names::{Name, text_at};
 pub use numbers::{Order, number};
 pub use places::{Limits, Place, SHIPPED, Section};

@@ -1,6 +1,6 @@
 //! What workers share or give back may be shared and sent.
-use crate::bytes::Bytes;
 use crate::leb128::LebFault;
+use crate::listed::Bytes;
 use crate::names::Name;
 use crate::numbers::Order;
 use crate::places::{Limits, Place, Section};

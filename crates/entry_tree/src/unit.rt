@@ -1,8 +1,7 @@
 //! Units of `.debug_info`, and why a header is refused.
-ghost use Rattle.std.specs.Prelude.{◌≡◌};
 
+use dw_base::Listed;
 use std::alloc::AllocFailed;
-use std::marker::Model;
 use thiserror::Error;
 
 /// The header of a unit (DWARF 5, section 7.5.1; DWARF 4, section 7.5.1.1). All offsets count from
@@ -60,40 +59,4 @@ impl<T: Drop> From<AllocFailed<T>> for UnitFault {
 }
 
 /// The units of a section in the order of its bytes. Contracts see it as the list.
-#[derive(Debug, Drop)]
-pub struct UnitList {
-    items: Vec<Unit>,
-}
-
-impl Model for UnitList {
-    ghost use Rattle.std.specs.Prelude.{List};
-    ghost use Rattle.entry_tree.specs.declared.unit.Unit.{Unit};
-
-    ghost Value = { List Unit };
-
-    ghost view = { λ s. s.items.items };
-}
-
-impl UnitList {
-    /// The list of these units.
-    pub fn new(items: Vec<Unit>) -> UnitList
-        ensures { result ≡ items.items }
-    {
-        UnitList { items }
-    }
-
-    /// The units as a slice.
-    #[inline(always)]
-    pub fn items(&self) -> &[Unit]
-        ensures { result.now ≡ self.now }
-    {
-        self.items.as_slice()
-    }
-
-    /// Gives the units back, without a copy.
-    pub fn into_items(self) -> Vec<Unit>
-        ensures { result.items ≡ self }
-    {
-        self.items
-    }
-}
+pub type UnitList = Listed<Unit>;

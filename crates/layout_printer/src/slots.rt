@@ -2,8 +2,8 @@
 ghost use Rattle.std.specs.Prelude.{◌≡◌};
 ghost use Rattle.layout_printer.specs.Text.{byte_holes};
 
+use dw_base::Listed;
 use std::alloc::{AllocError, AllocFailed};
-use std::marker::Model;
 use thiserror::Error;
 
 /// Where a member lies, in bits from the beginning of its structure.
@@ -20,43 +20,7 @@ pub struct Slot {
 }
 
 /// A list of slots. Contracts see it as the list.
-#[derive(Debug, Drop)]
-pub struct Slots {
-    items: Vec<Slot>,
-}
-
-impl Model for Slots {
-    ghost use Rattle.std.specs.Prelude.{List};
-    ghost use Rattle.layout_printer.specs.declared.slots.Slot.{Slot};
-
-    ghost Value = { List Slot };
-
-    ghost view = { λ s. s.items.items };
-}
-
-impl Slots {
-    /// The list of these slots.
-    pub fn new(items: Vec<Slot>) -> Slots
-        ensures { result ≡ items.items }
-    {
-        Slots { items }
-    }
-
-    /// The slots as a slice.
-    #[inline(always)]
-    pub fn items(&self) -> &[Slot]
-        ensures { result.now ≡ self.now }
-    {
-        self.items.as_slice()
-    }
-
-    /// Gives the slots back, without a copy.
-    pub fn into_items(self) -> Vec<Slot>
-        ensures { result.items ≡ self }
-    {
-        self.items
-    }
-}
+pub type Slots = Listed<Slot>;
 
 /// The layout of a structure or union.
 #[derive(Debug, Drop)]

@@ -2,6 +2,7 @@
 ghost use Rattle.std.specs.Prelude.{◌≡◌, ◌∷◌, []};
 
 use c_model::Label;
+use dw_base::Listed;
 use std::marker::Model;
 
 /// What a type refers to, before entries have numbers.
@@ -82,43 +83,7 @@ pub struct SourceType<'a> {
 }
 
 /// A list of types. Contracts see it as the list.
-#[derive(Debug, Drop)]
-pub struct SourceTypes<'a> {
-    items: Vec<SourceType<'a>>,
-}
-
-impl<'a> Model for SourceTypes<'a> {
-    ghost use Rattle.std.specs.Prelude.{List};
-    ghost use Rattle.type_attributes.specs.declared.source.SourceType.{SourceType};
-
-    ghost Value = { List SourceType };
-
-    ghost view = { λ s. s.items.items };
-}
-
-impl<'a> SourceTypes<'a> {
-    /// The list of these types.
-    pub fn new(items: Vec<SourceType<'a>>) -> SourceTypes<'a>
-        ensures { result ≡ items.entry.items }
-    {
-        SourceTypes { items }
-    }
-
-    /// The types as a slice.
-    #[inline(always)]
-    pub fn items(&self) -> &[SourceType<'a>]
-        ensures { result.now ≡ self.now }
-    {
-        self.items.as_slice()
-    }
-
-    /// Gives the types back, without a copy.
-    pub fn into_items(self) -> Vec<SourceType<'a>>
-        ensures { result.items ≡ self.entry }
-    {
-        self.items
-    }
-}
+pub type SourceTypes<'a> = Listed<SourceType<'a>>;
 
 /// The types of a unit.
 #[derive(Debug, Drop)]

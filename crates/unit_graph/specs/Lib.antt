@@ -1,3 +1,4 @@
+-- The modules of definitions that this crate's contracts cite.
 pub mod Sources
 pub mod Apart
 pub mod Laws
