@@ -186,7 +186,7 @@ const NAMED_WIDE: &[u8] = &[
 ];
 
 /// Forms, bytes, and why these can't be read.
-const REFUSED: [(u64, &[u8], FormFault); 16] = [
+const REFUSED: &[(u64, &[u8], FormFault)] = &[
     (0x16, &[0x16, 0x0b, 7], FormFault::FormUnknown(0x16)),
     (0x16, &[0x21, 7], FormFault::FormUnknown(0x21)),
     (0x16, &[0x02, 7], FormFault::FormUnknown(0x02)),
@@ -207,7 +207,7 @@ const REFUSED: [(u64, &[u8], FormFault); 16] = [
 
 #[test]
 fn what_cannot_be_read(rt: HostRuntime) {
-    for (form, bytes, fault) in REFUSED {
+    for &(form, bytes, fault) in REFUSED {
         is_refused(&rt, &context(bytes, Order::Little, 4), form, fault);
     }
 }
@@ -228,7 +228,7 @@ fn is_named(
 }
 
 /// Values, and the names that they stand for.
-const NAMES: [(FormValue<'static>, Result<&[u8], FormFault>); 10] = [
+const NAMES: &[(FormValue<'static>, Result<&[u8], FormFault>)] = &[
     (FormValue::Strp(1), Ok(&[0x62, 0x63])),
     (FormValue::Strp(3), Ok(&[])),
     (FormValue::Strp(6), Err(FormFault::StringOut(6))),
@@ -250,13 +250,13 @@ fn values_name(rt: HostRuntime) {
     ctx.str_base = 8;
     let held: &[u8] = &[0x61];
     is_named(&rt, &ctx, FormValue::Text(Name::new(held)), Ok(held));
-    for (value, wanted) in NAMES {
+    for &(value, wanted) in NAMES {
         is_named(&rt, &ctx, value, wanted);
     }
 }
 
 /// Values, and the places that they refer to, in a unit at 100.
-const TARGETS: [(FormValue<'static>, Result<u128, FormFault>); 5] = [
+const TARGETS: &[(FormValue<'static>, Result<u128, FormFault>)] = &[
     (FormValue::UnitRef(5), Ok(105)),
     (FormValue::UnitRef(u64::MAX), Ok(18_446_744_073_709_551_715)),
     (FormValue::InfoRef(5), Ok(5)),
@@ -268,7 +268,7 @@ const TARGETS: [(FormValue<'static>, Result<u128, FormFault>); 5] = [
 fn values_refer(rt: HostRuntime) {
     let mut ctx = context(&[], Order::Little, 4);
     ctx.unit = 100;
-    for (value, target) in TARGETS {
+    for &(value, target) in TARGETS {
         assert_eq!(rt; target_of(&ctx, 3, &Given { form: 8, value }), target);
     }
 }
@@ -284,7 +284,7 @@ type Standing = (
 );
 
 /// Values, and what they stand for. None is a flag.
-const STANDING: [Standing; 9] = [
+const STANDING: &[Standing] = &[
     (FormValue::Unsigned(200), Ok(200), Ok(Some(200))),
     (FormValue::Signed(-2), Ok(-2), Ok(Some(-2))),
     (FormValue::Sixteen(&[0]), Err(WRONG), Err(WRONG)),
@@ -298,7 +298,7 @@ const STANDING: [Standing; 9] = [
 
 #[test]
 fn values_stand_for(rt: HostRuntime) {
-    for (value, constant, offset) in STANDING {
+    for &(value, constant, offset) in STANDING {
         let given = Given { form: 8, value };
         let (found, at) = (constant_of(3, &given), byte_offset_of(3, &given));
         assert_eq!(rt;

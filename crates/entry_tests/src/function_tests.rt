@@ -134,7 +134,7 @@ fn compare(rt: &impl Abort, alloc: Global, entries: &[u8], wanted: &[&str]) -> R
 }
 
 /// Entries behind the root, which begin at offset 13, and their functions.
-const LINES: [(&[u8], &[&str]); 11] = [
+const LINES: &[(&[u8], &[&str])] = &[
     (
         &[2, 0x6e, 0, 4, 5, 3, 0x66, 0, 13, 8, 0x61, 0, 13, 0],
         &["18 f true 13 a 18:13 22:13"],
@@ -197,7 +197,7 @@ const LINES: [(&[u8], &[&str]); 11] = [
 /// The functions of entries behind the root.
 #[test]
 fn functions_in_lines(rt: HostRuntime) -> Result<(), Fail> {
-    for (entries, wanted) in LINES {
+    for &(entries, wanted) in LINES {
         compare(&rt, rt.alloc(), entries, wanted)?;
     }
     Ok(())
@@ -215,7 +215,7 @@ fn count(alloc: Global, entries: &[u8]) -> Result<usize, TypeFault> {
 }
 
 /// Units, and how many functions they have, or their refusals.
-const COUNTS: [(&[u8], Result<usize, TypeFault>); 16] = [
+const COUNTS: &[(&[u8], Result<usize, TypeFault>)] = &[
     (
         &[1, 12, 0x66, 0, 1, 0],
         Err(TypeFault::Form(13, FormFault::WrongClass(0x3f, 0x0b))),
@@ -282,7 +282,7 @@ const COUNTS: [(&[u8], Result<usize, TypeFault>); 16] = [
 /// Of the refusals of a unit's functions the one of the lowest offset is told.
 #[test]
 fn refusals(rt: HostRuntime) {
-    for (entries, wanted) in COUNTS {
+    for &(entries, wanted) in COUNTS {
         assert_eq!(rt; count(rt.alloc(), entries), wanted, "{entries:?}");
     }
 }
@@ -291,7 +291,7 @@ fn refusals(rt: HostRuntime) {
 const MANY: Result<usize, TypeFault> = Err(TypeFault::TooMany(13, 65_536));
 
 /// How many parameters, what stands behind them, and how many functions there are.
-const PARAMETERS: [(u32, &[u8], Result<usize, TypeFault>); 5] = [
+const PARAMETERS: &[(u32, &[u8], Result<usize, TypeFault>)] = &[
     (65_535, &[0, 0], Ok(1)),
     (65_536, &[0, 0], MANY),
     (65_534, &[10, 0, 0], Ok(1)),
@@ -313,7 +313,7 @@ fn with_parameters(alloc: Global, times: u32, end: &[u8]) -> Result<Vec<u8>, All
 /// function, and so before what is refused within it.
 #[test]
 fn many_parameters(rt: HostRuntime) -> Result<(), Fail> {
-    for (times, end, wanted) in PARAMETERS {
+    for &(times, end, wanted) in PARAMETERS {
         let entries = with_parameters(rt.alloc(), times, end)?;
         assert_eq!(rt; count(rt.alloc(), &entries), wanted, "{times}");
     }

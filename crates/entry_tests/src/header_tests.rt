@@ -13,9 +13,9 @@ const ABBREV_AT: u64 = 0x0102_0304;
 /// A version, the bytes of its offsets, and the bytes behind the length of such a header.
 type Size = (u16, u32, u64);
 
-const SIZES: [Size; 4] = [(4, 4, 7), (4, 8, 11), (5, 4, 8), (5, 8, 12)];
+const SIZES: &[Size] = &[(4, 4, 7), (4, 8, 11), (5, 4, 8), (5, 8, 12)];
 
-const ORDERS: [Order; 2] = [Order::Little, Order::Big];
+const ORDERS: &[Order] = &[Order::Little, Order::Big];
 
 /// The units of a file.
 fn units_of(rt: &impl Abort, alloc: Global, file: &[u8]) -> Result<UnitList, UnitFault> {
@@ -94,8 +94,8 @@ fn check_header(
 /// behind it.
 #[test]
 fn headers_of_both_versions(rt: HostRuntime) -> Result<(), Fail> {
-    for order in ORDERS {
-        for size in SIZES {
+    for &order in ORDERS {
+        for &size in SIZES {
             for (unit_type, address_size, behind) in [(1, 8, 0), (1, 4, 3), (3, 8, 3)] {
                 let mut header = plain(size, behind);
                 header.address_size = address_size;
@@ -150,8 +150,8 @@ fn check_cut_unit(
 /// A section that is cut off in a header, and a unit that ends in its header.
 #[test]
 fn headers_cut_off(rt: HostRuntime) -> Result<(), Fail> {
-    for order in ORDERS {
-        for size in SIZES {
+    for &order in ORDERS {
+        for &size in SIZES {
             check_cut_section(&rt, rt.alloc(), order, size)?;
             check_cut_unit(&rt, rt.alloc(), order, size)?;
         }
@@ -160,7 +160,7 @@ fn headers_cut_off(rt: HostRuntime) -> Result<(), Fail> {
 }
 
 /// A version, a type, the bytes of addresses, the unit's length, and the fault.
-const REFUSED: [(u16, u8, u8, u64, UnitFault); 8] = [
+const REFUSED: &[(u16, u8, u8, u64, UnitFault)] = &[
     (3, 2, 2, 8, UnitFault::UnitVersion(0, 3)),
     (3, 2, 2, 2, UnitFault::UnitVersion(0, 3)),
     (6, 1, 8, 8, UnitFault::UnitVersion(0, 6)),
@@ -175,8 +175,8 @@ const REFUSED: [(u16, u8, u8, u64, UnitFault); 8] = [
 /// type, and its type before the size of its addresses.
 #[test]
 fn headers_refused(rt: HostRuntime) -> Result<(), Fail> {
-    for order in ORDERS {
-        for (version, unit_type, address_size, size, fault) in REFUSED {
+    for &order in ORDERS {
+        for &(version, unit_type, address_size, size, fault) in REFUSED {
             let header = Header {
                 version,
                 offset_bytes: 4,
@@ -194,7 +194,7 @@ fn headers_refused(rt: HostRuntime) -> Result<(), Fail> {
 }
 
 /// The sizes of two headers behind one another.
-const PAIRS: [(Size, Size); 4] = [
+const PAIRS: &[(Size, Size)] = &[
     ((4, 4, 7), (5, 4, 8)),
     ((5, 4, 8), (4, 4, 7)),
     ((4, 8, 11), (5, 4, 8)),
@@ -204,8 +204,8 @@ const PAIRS: [(Size, Size); 4] = [
 /// Units of both versions behind one another, in both orders.
 #[test]
 fn both_versions_in_one_section(rt: HostRuntime) -> Result<(), Fail> {
-    for order in ORDERS {
-        for (first, second) in PAIRS {
+    for &order in ORDERS {
+        for &(first, second) in PAIRS {
             let (one, other) = (plain(first, 1), plain(second, 0));
             let mut info = Vec::new(rt.alloc());
             put_header(&mut info, order, one)?;

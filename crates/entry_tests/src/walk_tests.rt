@@ -356,7 +356,7 @@ fn damaged(alloc: Global, whole: &[u8], at: usize, byte: u8) -> Result<Vec<u8>, 
 }
 
 /// A byte of the plain unit that is changed, what it becomes, and the fault.
-const DAMAGED_INFO: [(usize, u8, Outcome); 14] = [
+const DAMAGED_INFO: &[(usize, u8, Outcome)] = &[
     (0, 19, Outcome::Header(UnitFault::UnitLength(0))),
     (4, 3, Outcome::Header(UnitFault::UnitVersion(0, 3))),
     (4, 4, Outcome::Header(UnitFault::AddressSize(0, 0))),
@@ -384,7 +384,7 @@ const DAMAGED_INFO: [(usize, u8, Outcome); 14] = [
 /// One byte of the plain unit is changed.
 #[test]
 fn damaged_units(rt: HostRuntime) -> Result<(), Fail> {
-    for (at, byte, want) in DAMAGED_INFO {
+    for &(at, byte, want) in DAMAGED_INFO {
         let info = damaged(rt.alloc(), &PLAIN_INFO, at, byte)?;
         check_refused(&rt, rt.alloc(), &info, &PLAIN_ABBREV, want)?;
     }
@@ -392,7 +392,7 @@ fn damaged_units(rt: HostRuntime) -> Result<(), Fail> {
 }
 
 /// The same of the abbreviations.
-const DAMAGED_ABBREV: [(usize, u8, Outcome); 4] = [
+const DAMAGED_ABBREV: &[(usize, u8, Outcome)] = &[
     (
         11,
         0x7f,
@@ -414,7 +414,7 @@ const DAMAGED_ABBREV: [(usize, u8, Outcome); 4] = [
 /// One byte of the plain unit's abbreviations is changed.
 #[test]
 fn damaged_abbreviations(rt: HostRuntime) -> Result<(), Fail> {
-    for (at, byte, want) in DAMAGED_ABBREV {
+    for &(at, byte, want) in DAMAGED_ABBREV {
         let abbrev = damaged(rt.alloc(), &PLAIN_ABBREV, at, byte)?;
         check_refused(&rt, rt.alloc(), &PLAIN_INFO, &abbrev, want)?;
     }
@@ -423,7 +423,7 @@ fn damaged_abbreviations(rt: HostRuntime) -> Result<(), Fail> {
 
 /// Units of a root and one entry, and where the root stands: of a length of 8 bytes, with padded
 /// nulls, also behind the root's end, and of version 4.
-const BY_HAND: [(&[u8], u64); 3] = [
+const BY_HAND: &[(&[u8], u64)] = &[
     (
         b"\xff\xff\xff\xff\x17\0\0\0\0\0\0\0\x05\0\x03\x08\0\0\0\0\0\0\0\0\x01\x1d\x02int\0\x04\x05\x80\0",
         24,
@@ -441,7 +441,7 @@ const BY_HAND: [(&[u8], u64); 3] = [
 /// Headers of 8-byte lengths, padded nulls, also behind the root's end.
 #[test]
 fn units_by_hand(rt: HostRuntime) -> Result<(), Fail> {
-    for (info, first) in BY_HAND {
+    for &(info, first) in BY_HAND {
         let file = plain_file(rt.alloc(), info, &PLAIN_ABBREV)?;
         let wanted = [(first, 0, 0x11, ""), (first + 2, 1, 0x24, "")];
         check_walk(&rt, rt.alloc(), &file, &wanted)?;
@@ -450,7 +450,7 @@ fn units_by_hand(rt: HostRuntime) -> Result<(), Fail> {
 }
 
 /// A unit with a list left open, none, and what is cut off in its length.
-const NO_UNITS: [(&[u8], Outcome); 4] = [
+const NO_UNITS: &[(&[u8], Outcome)] = &[
     (
         b"\x11\0\0\0\x05\0\x01\x08\0\0\0\0\x01\x1d\x02int\0\x04\x05",
         Outcome::Tree(WalkFault::TreeOpen(21)),
@@ -466,7 +466,7 @@ const NO_UNITS: [(&[u8], Outcome); 4] = [
 /// Lists left open, and no unit at all.
 #[test]
 fn no_units(rt: HostRuntime) -> Result<(), Fail> {
-    for (info, want) in NO_UNITS {
+    for &(info, want) in NO_UNITS {
         check_refused(&rt, rt.alloc(), info, &PLAIN_ABBREV, want)?;
     }
     Ok(())
@@ -585,7 +585,7 @@ fn sized_file(
 }
 
 /// Bytes of offsets and of addresses, and where the entries stand.
-const SIZED: [(u32, u8, [u64; 4]); 4] = [
+const SIZED: &[(u32, u8, [u64; 4])] = &[
     (4, 4, [12, 14, 25, 36]),
     (4, 8, [12, 14, 29, 44]),
     (8, 4, [24, 26, 41, 56]),
@@ -595,7 +595,7 @@ const SIZED: [(u32, u8, [u64; 4]); 4] = [
 /// Entries of fixed size, with offsets and addresses of 4 and 8 bytes.
 #[test]
 fn entries_of_fixed_size(rt: HostRuntime) -> Result<(), Fail> {
-    for (offset_bytes, address_bytes, [first, second, third, fourth]) in SIZED {
+    for &(offset_bytes, address_bytes, [first, second, third, fourth]) in SIZED {
         let file = sized_file(rt.alloc(), offset_bytes, address_bytes, 1000)?;
         let wanted = [
             (first, 0, 0x11, ""),
@@ -609,7 +609,7 @@ fn entries_of_fixed_size(rt: HostRuntime) -> Result<(), Fail> {
 }
 
 /// How many bytes of the entries are kept, and the fault.
-const CUT: [(usize, WalkFault); 7] = [
+const CUT: &[(usize, WalkFault)] = &[
     (18, WalkFault::Form(29, FormFault::ValueTruncated(3))),
     (21, WalkFault::Form(29, FormFault::ValueTruncated(3))),
     (22, WalkFault::Form(29, FormFault::ValueTruncated(2))),
@@ -622,7 +622,7 @@ const CUT: [(usize, WalkFault); 7] = [
 /// An entry of fixed size that is cut in each of its values.
 #[test]
 fn entries_cut_off(rt: HostRuntime) -> Result<(), Fail> {
-    for (kept, want) in CUT {
+    for &(kept, want) in CUT {
         let file = sized_file(rt.alloc(), 4, 8, kept)?;
         let found = walked(rt.alloc(), &file, Asked::Nothing).err();
         assert_eq!(rt; found, Some(Outcome::Tree(want)), "{kept} bytes");
@@ -631,7 +631,7 @@ fn entries_cut_off(rt: HostRuntime) -> Result<(), Fail> {
 }
 
 /// Entries, and whether they have a name and a size, their size, and their value.
-const WANTED: [(usize, &str); 3] = [
+const WANTED: &[(usize, &str)] = &[
     (0, "false false None None"),
     (
         1,
@@ -648,7 +648,7 @@ const WANTED: [(usize, &str); 3] = [
 fn wanted_attributes(rt: HostRuntime) -> Result<(), Fail> {
     let file = sized_file(rt.alloc(), 4, 8, 1000)?;
     let (_, entries) = walked(rt.alloc(), &file, Asked::Wanted)?;
-    for (index, text) in WANTED {
+    for &(index, text) in WANTED {
         let found = entries.get(index).map_or("", |one| one.text.as_str());
         assert_eq!(rt; found, text);
     }

@@ -1,5 +1,4 @@
 //! Units of `.debug_info`, and why a header is refused.
-
 use dw_base::Listed;
 use std::alloc::AllocFailed;
 use thiserror::Error;

@@ -1,5 +1,4 @@
 //! The functions of a unit, as they are given back.
-
 use c_types::SourceType;
 use dw_base::{Listed, Name};
 

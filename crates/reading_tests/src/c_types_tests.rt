@@ -225,7 +225,7 @@ fn compare(rt: &impl Abort, alloc: Global, entries: &[u8], wanted: &[&str]) -> R
 }
 
 /// Entries behind the root, and the lines of their types.
-const IN_LINES: [(&[u8], &[&str]); 18] = [
+const IN_LINES: &[(&[u8], &[&str])] = &[
     (
         &[67, 68, 69, 70, 71, 0x6e, 0, 72, 0x74, 0, 74, 0x76, 0],
         &[
@@ -342,7 +342,7 @@ const IN_LINES: [(&[u8], &[&str]); 18] = [
 /// The types of entries: offset, kind, name, flag, size, last word, parts, and what they refer to.
 #[test]
 fn types_in_lines(rt: HostRuntime) -> Result<(), Fail> {
-    for (entries, wanted) in IN_LINES {
+    for &(entries, wanted) in IN_LINES {
         compare(&rt, rt.alloc(), entries, wanted)?;
     }
     Ok(())

@@ -139,7 +139,7 @@ fn is_wanted(found: &Result<String, FuncFault>, wanted: Result<&str, Why>) -> bo
 }
 
 /// The units of two files, the most nodes, and what comes of them.
-const PROTOTYPES: [(&[&[u8]], &[&[u8]], u32, Result<&str, Why>); 7] = [
+const PROTOTYPES: &[(&[&[u8]], &[&[u8]], u32, Result<&str, Why>)] = &[
     (&[], &[], 0, Ok("")),
     (
         &[FIRST, SECOND],
@@ -161,7 +161,7 @@ const PROTOTYPES: [(&[&[u8]], &[&[u8]], u32, Result<&str, Why>); 7] = [
 
 #[test]
 fn prototypes_in_lines(rt: HostRuntime) -> Result<(), Fail> {
-    for (first, second, most, wanted) in PROTOTYPES {
+    for &(first, second, most, wanted) in PROTOTYPES {
         let found = answer(&rt, rt.alloc(), most, first, second)?;
         assert!(rt; is_wanted(&found, wanted), "{found:?}");
     }

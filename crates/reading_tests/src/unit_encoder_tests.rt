@@ -179,7 +179,7 @@ const ROOT: &[u8] = b"\x01\0";
 const LATE: &[u8] = b"\x01\x02i\0\x04\x05\x02i\0\x04\x05\x07\x08\0\0";
 
 /// The units of one file, the most nodes, and what comes of them.
-const GRAPHS: [(&[&[u8]], u32, Wanted); 24] = [
+const GRAPHS: &[(&[&[u8]], u32, Wanted)] = &[
     (&[], 0, Ok("")),
     (&[ROOT], 0, Ok("")),
     (&[FORWARD], 8, Ok("2:0,1 1:16777248 ")),
@@ -237,7 +237,7 @@ const GRAPHS: [(&[&[u8]], u32, Wanted); 24] = [
 #[test]
 fn graphs(rt: HostRuntime) -> Result<(), Fail> {
     let alloc = rt.alloc();
-    for (units, most, wanted) in GRAPHS {
+    for &(units, most, wanted) in GRAPHS {
         let files = one_file(alloc, units)?;
         for jobs in [1, 2, 4, 256] {
             let found = answer_of(&rt, alloc, &OpenGate, jobs, most, &[0], files.as_slice())?;
@@ -252,7 +252,7 @@ const TWO: &[u8] = b"\x01\x02i\0\x04\x05\x03\x12\0\0\0\0";
 const PAST: &[u8] = b"\x01\x04\x12\0\0\0\0";
 
 /// The number of a file and its unit, those of another, and what comes of them.
-const FILES: [(u32, &[u8], u32, &[u8], Wanted); 6] = [
+const FILES: &[(u32, &[u8], u32, &[u8], Wanted)] = &[
     (0, INT, 1, OVER, Ok("1:16777248 2:0,1 ")),
     (1, INT, 0, OVER, Ok("1:16777248 2:0,1 ")),
     (0, TWO, 0, PAST, Ok("1:16777248 2:0,1 2:0,1 ")),
@@ -266,7 +266,7 @@ const FILES: [(u32, &[u8], u32, &[u8], Wanted); 6] = [
 #[test]
 fn files(rt: HostRuntime) -> Result<(), Fail> {
     let alloc = rt.alloc();
-    for (first, unit, second, other, wanted) in FILES {
+    for &(first, unit, second, other, wanted) in FILES {
         let mut files = one_file(alloc, &[unit])?;
         files.push(file_of(alloc, &[other])?)?;
         let numbers = [first, second];
@@ -295,7 +295,7 @@ const BOTH: &[u8] =
     b"\x09\x1d\x0cA\0\x08\x0db\0\x1b\0\0\0\0\0\x03\x20\0\0\0\x0cB\0\x08\x0da\0\x2d\0\0\0\0\0\x03\x0e\0\0\0\0";
 
 /// Units, the digits of those that the gate is told, and what comes of them.
-const COMPILED: [(&[&[u8]], u64, Wanted); 4] = [
+const COMPILED: &[(&[&[u8]], u64, Wanted)] = &[
     (
         &[LIST_HEAD, LIST_HEAD],
         12,
@@ -317,7 +317,7 @@ const COMPILED: [(&[&[u8]], u64, Wanted); 4] = [
 #[test]
 fn compiled_units(rt: HostRuntime) -> Result<(), Fail> {
     let alloc = rt.alloc();
-    for (units, told, wanted) in COMPILED {
+    for &(units, told, wanted) in COMPILED {
         let gate = Told::new();
         let files = one_file(alloc, units)?;
         let found = answer_of(&rt, alloc, &gate, 1, 10, &[0], files.as_slice())?;
@@ -386,7 +386,7 @@ fn abbreviations(alloc: Global) -> Result<(Vec<u8>, Vec<u8>), AllocError> {
 
 /// Where the units of a first file and of a second one have their abbreviations, and what comes of
 /// them.
-const TABLES: [(&[u64], &[u64], Wanted); 5] = [
+const TABLES: &[(&[u64], &[u64], Wanted)] = &[
     (&[0, 0, 0], &[], Ok("1:16777248 1:16777248 1:16777248 ")),
     (&[0, 17, 17, 0], &[], Ok("1:16777248 4:0 4:0 1:16777248 ")),
     (&[0, 0], &[0, 0], Ok("1:16777248 1:16777248 4:0 4:0 ")),
@@ -403,7 +403,7 @@ const TABLES: [(&[u64], &[u64], Wanted); 5] = [
 fn tables(rt: HostRuntime) -> Result<(), Fail> {
     let alloc = rt.alloc();
     let (ints_first, structures_first) = abbreviations(alloc)?;
-    for (first, second, wanted) in TABLES {
+    for &(first, second, wanted) in TABLES {
         let file = plain_file(alloc, &ints_at(alloc, first)?, &ints_first)?;
         let other = plain_file(alloc, &ints_at(alloc, second)?, &structures_first)?;
         for jobs in [1, 2, 256] {

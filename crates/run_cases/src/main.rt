@@ -57,7 +57,7 @@ struct List {
     runs: &'static str,
 }
 
-const LISTS: [List; 3] = [
+const LISTS: &[List] = &[
     List {
         file: "list",
         way: Way::Whole,
@@ -83,7 +83,7 @@ fn run_lists<R: Threads + Sync, W: World>(
     wrong: &mut Vec<String>,
 ) -> Result<Vec<Tally>, AllocError> {
     let mut tallies = Vec::new(alloc);
-    for list in LISTS {
+    for &list in LISTS {
         tallies.push(run_list(rt, alloc, host, list, wrong)?)?;
     }
     Ok(tallies)

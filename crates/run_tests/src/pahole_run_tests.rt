@@ -162,7 +162,7 @@ type Run = (
     Option<&'static [u8]>,
 );
 
-const RUNS: [Run; 20] = [
+const RUNS: &[Run] = &[
     (WORDS, ONE_INT, None, 0, "", Some(ONE_INT_BTF)),
     (
         "a -j4 a --btf_encode_detached=o",
@@ -286,7 +286,7 @@ fn files_of(alloc: Global, held: Held) -> Result<Vec<HeldFile>, AllocError> {
 #[test]
 fn encodes_one_file(rt: HostRuntime) -> Result<(), Fail> {
     let alloc = rt.alloc();
-    for (text, held, stop, status, complaint, stored) in RUNS {
+    for &(text, held, stop, status, complaint, stored) in RUNS {
         let mut world = world(alloc, files_of(alloc, held)?, stop)?;
         let words = words(alloc, text)?;
         let answer = run(&rt, alloc, &mut world, &OpenGate, SHIPPED, words.as_slice());
@@ -307,7 +307,7 @@ type Line = (
     &'static str,
 );
 
-const LINES: [Line; 3] = [
+const LINES: &[Line] = &[
     (
         "--selfmade=0",
         None,
@@ -335,7 +335,7 @@ const LINES: [Line; 3] = [
 #[test]
 fn tells_of_a_made_input(rt: HostRuntime) -> Result<(), Fail> {
     let alloc = rt.alloc();
-    for (text, stop, status, complaint, printed) in LINES {
+    for &(text, stop, status, complaint, printed) in LINES {
         let mut world = world(alloc, Vec::new(alloc), stop)?;
         let words = words(alloc, text)?;
         let answer = run(&rt, alloc, &mut world, &OpenGate, SHIPPED, words.as_slice());
@@ -385,7 +385,7 @@ type Refusal = (Changes, Order, u64, Changes, &'static str);
 /// Places in a file, and the bytes that stand there instead.
 type Changes = &'static [(usize, u8)];
 
-const REFUSALS: [Refusal; 9] = [
+const REFUSALS: &[Refusal] = &[
     (
         &NO_ELF,
         Order::Little,
@@ -463,7 +463,7 @@ fn one_node(file_bytes: u64) -> Limits
 #[test]
 fn refuses_in_order(rt: HostRuntime) -> Result<(), Fail> {
     let alloc = rt.alloc();
-    for (first, order, fewer, changes, complaint) in REFUSALS {
+    for &(first, order, fewer, changes, complaint) in REFUSALS {
         let one = file_with(alloc, Order::Little, &[INT])?;
         let mut files = Vec::new(alloc);
         add_file(alloc, &mut files, b"a", &one, first)?;

@@ -29,7 +29,7 @@ fn counts(alloc: Global, number: u64) -> Result<[usize; 3], Fail> {
 }
 
 /// Numbers, and how many units, types and bytes their images have.
-const COUNTS: [(u64, [usize; 3]); 14] = [
+const COUNTS: &[(u64, [usize; 3])] = &[
     (0, [1, 5, 504]),
     (1, [2, 10, 583]),
     (1 << 10, [1, 7, 541]),
@@ -48,7 +48,7 @@ const COUNTS: [(u64, [usize; 3]); 14] = [
 
 #[test]
 fn has_so_many_entries(rt: HostRuntime) -> Result<(), Fail> {
-    for (number, wanted) in COUNTS {
+    for &(number, wanted) in COUNTS {
         assert_eq!(rt; counts(rt.alloc(), number)?, wanted, "by {number}");
     }
     Ok(())
@@ -62,7 +62,7 @@ fn sizes_by(number: u64) -> [u32; 4] {
 }
 
 /// Numbers at the edges, and the units, structures, variants and version that they stand for.
-const SIZES: [(u64, [u32; 4]); 10] = [
+const SIZES: &[(u64, [u32; 4])] = &[
     (0, [1, 1, 1, 5]),
     (1023, [1024, 1, 1, 5]),
     (1024, [1, 2, 1, 5]),
@@ -77,7 +77,7 @@ const SIZES: [(u64, [u32; 4]); 10] = [
 
 #[test]
 fn stands_for_sizes(rt: HostRuntime) -> Result<(), Fail> {
-    for (number, wanted) in SIZES {
+    for &(number, wanted) in SIZES {
         assert_eq!(rt; sizes_by(number), wanted, "by {number}");
     }
     Ok(())

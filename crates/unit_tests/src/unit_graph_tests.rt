@@ -8,12 +8,12 @@ use std::test::Fail;
 use unit_graph::{Out, Places, Row, find_tag, link_targets, types_by};
 
 /// Rows: the file, the offset and the number. Two begin at one place: the later one counts there.
-const ROWS: [(u32, u64, u32); 4] = [(1, 11, 2), (0, 18, 1), (0, 11, 0), (0, 18, 3)];
+const ROWS: &[(u32, u64, u32)] = &[(1, 11, 2), (0, 18, 1), (0, 11, 0), (0, 18, 3)];
 
 /// The places of these rows.
 fn places(alloc: Global) -> Result<Places, AllocError> {
     let mut rows = Vec::new(alloc);
-    for (file, at, number) in ROWS {
+    for &(file, at, number) in ROWS {
         rows.push(Row { file, number, at })?;
     }
     Places::new(rows)
@@ -47,7 +47,7 @@ type Linked = (
     Result<&'static [Ref], (u32, u128)>,
 );
 
-const LINKED: [Linked; 9] = [
+const LINKED: &[Linked] = &[
     (0, 4, &[], Ok(&[])),
     (0, 4, &[Target::Void, TO_11], Ok(&[Ref::Void, Ref::Node(0)])),
     (1, 4, &[TO_11], Ok(&[Ref::Node(2)])),
@@ -71,7 +71,7 @@ fn is_linked(found: Result<Vec<Ref>, Out>, wanted: Result<&'static [Ref], (u32, 
 #[test]
 fn links(rt: HostRuntime) -> Result<(), Fail> {
     let places = places(rt.alloc())?;
-    for (file, index, targets, wanted) in LINKED {
+    for &(file, index, targets, wanted) in LINKED {
         let found = link_targets(rt.alloc(), &places, 4, file, index, targets)?;
         assert!(rt; is_linked(found, wanted), "{wanted:?}");
     }
@@ -102,7 +102,7 @@ fn three_units(alloc: Global) -> Result<Vec<u8>, AllocError> {
 
 /// The tag at an offset of a file: of a type or not, in the first unit or a later one, and 0 where
 /// no entry of a unit that is read begins.
-const TAGS: [(u32, u128, u64); 11] = [
+const TAGS: &[(u32, u128, u64)] = &[
     (0, 12, 0x11),
     (0, 13, 0x24),
     (0, 18, 0x2e),
@@ -121,7 +121,7 @@ fn tags(rt: HostRuntime) -> Result<(), Fail> {
     let file = three_units(rt.alloc())?;
     let all = units_of(rt.alloc(), file.as_slice())?;
     assert_eq!(rt; all.len(), 3);
-    for (number, to, wanted) in TAGS {
+    for &(number, to, wanted) in TAGS {
         let tag = find_tag(rt.alloc(), all.as_slice(), number, to)?;
         assert_eq!(rt; tag, wanted, "at {to}");
     }

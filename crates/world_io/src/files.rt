@@ -1,5 +1,4 @@
 //! Files that are held in memory, and the stops of a world in memory.
-
 use dw_base::{Bytes, Listed};
 
 /// A file: its name and its bytes.

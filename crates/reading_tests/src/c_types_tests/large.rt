@@ -62,7 +62,7 @@ type Parted = (
     Result<(usize, usize), TypeFault>,
 );
 
-const MANY_PARTS: [Parted; 11] = [
+const MANY_PARTS: &[Parted] = &[
     (STRUCTURE, MEMBER, 65_535, &[0], Ok((1, 65_535))),
     (STRUCTURE, MEMBER, 65_536, &[0], TOO_MANY),
     (ENUMERATION, ENUMERATOR, 65_535, &[0], Ok((1, 65_535))),
@@ -80,7 +80,7 @@ const MANY_PARTS: [Parted; 11] = [
 /// part and before those of higher numbers.
 #[test]
 fn many_parts(rt: HostRuntime) -> Result<(), Fail> {
-    for (head, part, times, tail, wanted) in MANY_PARTS {
+    for &(head, part, times, tail, wanted) in MANY_PARTS {
         let mut entries = Vec::from_slice(rt.alloc(), &[1])?;
         entries.extend_from_slice(head)?;
         put_times(&mut entries, part, times)?;

@@ -305,7 +305,7 @@ fn walk_first(rt: HostRuntime) -> Result<(), Fail> {
 }
 
 /// Tables of abbreviations of a unit whose root is a null entry, and the first fault.
-const TABLES: [(&[u8], TypeFault); 3] = [
+const TABLES: &[(&[u8], TypeFault)] = &[
     (
         &[1, 0x24, 2, 0, 0, 0],
         TypeFault::Abbrev(AbbrevFault::ChildrenByte(2, 2)),
@@ -324,7 +324,7 @@ const TABLES: [(&[u8], TypeFault); 3] = [
 #[test]
 fn abbreviations_first(rt: HostRuntime) -> Result<(), Fail> {
     let info = info_of(rt.alloc(), &[&[0]])?;
-    for (table, fault) in TABLES {
+    for &(table, fault) in TABLES {
         let file = plain_file(rt.alloc(), &info, table)?;
         let found = lines_in(rt.alloc(), file.as_slice(), false)?;
         assert!(rt;
@@ -336,7 +336,7 @@ fn abbreviations_first(rt: HostRuntime) -> Result<(), Fail> {
 }
 
 /// Entries behind the root, and the lines of their types.
-const ACCEPTED: [(&[u8], &[&str]); 11] = [
+const ACCEPTED: &[(&[u8], &[&str])] = &[
     (
         &[
             8, 0x73, 0, 8, 12, 13, 0, 0, 0, 0xff, 1, 0xff, 0xff, 0xff, 7, 0,
@@ -392,7 +392,7 @@ const ACCEPTED: [(&[u8], &[&str]); 11] = [
 /// none.
 #[test]
 fn last_accepted(rt: HostRuntime) -> Result<(), Fail> {
-    for (entries, wanted) in ACCEPTED {
+    for &(entries, wanted) in ACCEPTED {
         compare(&rt, rt.alloc(), entries, wanted)?;
     }
     Ok(())

@@ -9,7 +9,7 @@ use type_attributes::fault::TypeFault;
 const TAG: &[u8] = b"btf_type_tag\0";
 
 /// Entries in pieces, and the lines of their types.
-const TAGGED: [(&[&[u8]], &[&str]); 9] = [
+const TAGGED: &[(&[&[u8]], &[&str])] = &[
     (
         &[&[2, 0x69, 0, 4, 5, 78, 13, 79], TAG, b"u\0", &[0]],
         &[
@@ -123,14 +123,14 @@ const TAGGED: [(&[&[u8]], &[&str]); 9] = [
 /// The types of entries behind the root, which begin at offset 13.
 #[test]
 fn type_tags(rt: HostRuntime) -> Result<(), Fail> {
-    for (pieces, wanted) in TAGGED {
+    for &(pieces, wanted) in TAGGED {
         compare(&rt, rt.alloc(), &pieces.concat(rt.alloc())?, wanted)?;
     }
     Ok(())
 }
 
 /// Entries in pieces, and the first refusal.
-const REFUSED: [(&[&[u8]], TypeFault); 6] = [
+const REFUSED: &[(&[&[u8]], TypeFault)] = &[
     (&[&[78, 13, 80], TAG, &[0]], TypeFault::MissingName(15)),
     (
         &[&[78, 13, 79], TAG, b"\0", &[0]],
@@ -157,7 +157,7 @@ const REFUSED: [(&[&[u8]], TypeFault); 6] = [
 /// The first refusals of entries behind the root, which begin at offset 13.
 #[test]
 fn tag_refusals(rt: HostRuntime) -> Result<(), Fail> {
-    for (pieces, fault) in REFUSED {
+    for &(pieces, fault) in REFUSED {
         let entries = pieces.concat(rt.alloc())?;
         let found = lines(rt.alloc(), &under_root(rt.alloc(), &entries)?)?;
         assert!(rt;

@@ -288,7 +288,7 @@ type Case = (
     Result<&'static [&'static str], TypeFault>,
 );
 
-const CASES: [Case; 12] = [
+const CASES: &[Case] = &[
     (
         "a structure of pointers to itself, in two units",
         LISTS,
@@ -461,7 +461,7 @@ fn found_in(
 /// The types of units of little-endian files.
 #[test]
 fn worked_units(rt: HostRuntime) -> Result<(), Fail> {
-    for (name, units, abbreviations, strings, wanted) in CASES {
+    for &(name, units, abbreviations, strings, wanted) in CASES {
         let found = found_in(rt.alloc(), Order::Little, units, abbreviations, strings)?;
         assert!(rt; is_wanted(&found, wanted), "{name}: {found:?}");
     }

@@ -94,7 +94,7 @@ const FIFTH: &str = "478 1 int 4 16777248:\n\
     574 2  0 0: 574>559\n";
 
 /// Numbers, and the types of a unit. The last is of version 4.
-const TYPES: [(u64, u16, &str); 3] = [
+const TYPES: &[(u64, u16, &str)] = &[
     (SMALL, 0, FIRST),
     (SMALL, 4, FIFTH),
     (SMALL + (1 << 23), 4, FIFTH),
@@ -102,7 +102,7 @@ const TYPES: [(u64, u16, &str); 3] = [
 
 #[test]
 fn has_these_types(rt: HostRuntime) -> Result<(), Fail> {
-    for (sizes, unit, wanted) in TYPES {
+    for &(sizes, unit, wanted) in TYPES {
         assert_eq!(rt; lines(rt.alloc(), sizes, &[unit])?.as_str(), wanted);
     }
     Ok(())
@@ -201,7 +201,7 @@ fn write_stated(
 
 /// Units, structures, variants and versions of made inputs, the least and the greatest of each
 /// among them.
-const SPECS: [[u16; 4]; 16] = [
+const SPECS: &[[u16; 4]] = &[
     [1, 1, 1, 5],
     [1, 1, 1, 4],
     [2, 1, 1, 5],
@@ -244,7 +244,7 @@ fn has_stated(alloc: Global, sizes: [u16; 4]) -> Result<bool, Fail> {
 
 #[test]
 fn has_the_stated_types(rt: HostRuntime) -> Result<(), Fail> {
-    for sizes in SPECS {
+    for &sizes in SPECS {
         assert_eq!(rt; sizes_by(number_of(sizes)), sizes.map(u32::from));
         assert!(rt; has_stated(rt.alloc(), sizes)?, "{sizes:?}");
     }
