@@ -228,7 +228,7 @@ fn is_named(
 }
 
 /// Values, and the names that they stand for.
-const NAMES: &[(FormValue<'static>, Result<&[u8], FormFault>)] = &[
+const NAMES: [(FormValue<'static>, Result<&[u8], FormFault>); 10] = [
     (FormValue::Strp(1), Ok(&[0x62, 0x63])),
     (FormValue::Strp(3), Ok(&[])),
     (FormValue::Strp(6), Err(FormFault::StringOut(6))),
@@ -250,13 +250,13 @@ fn values_name(rt: HostRuntime) {
     ctx.str_base = 8;
     let held: &[u8] = &[0x61];
     is_named(&rt, &ctx, FormValue::Text(Name::new(held)), Ok(held));
-    for &(value, wanted) in NAMES {
+    for (value, wanted) in NAMES {
         is_named(&rt, &ctx, value, wanted);
     }
 }
 
 /// Values, and the places that they refer to, in a unit at 100.
-const TARGETS: &[(FormValue<'static>, Result<u128, FormFault>)] = &[
+const TARGETS: [(FormValue<'static>, Result<u128, FormFault>); 5] = [
     (FormValue::UnitRef(5), Ok(105)),
     (FormValue::UnitRef(u64::MAX), Ok(18_446_744_073_709_551_715)),
     (FormValue::InfoRef(5), Ok(5)),
@@ -268,7 +268,7 @@ const TARGETS: &[(FormValue<'static>, Result<u128, FormFault>)] = &[
 fn values_refer(rt: HostRuntime) {
     let mut ctx = context(&[], Order::Little, 4);
     ctx.unit = 100;
-    for &(value, target) in TARGETS {
+    for (value, target) in TARGETS {
         assert_eq!(rt; target_of(&ctx, 3, &Given { form: 8, value }), target);
     }
 }
@@ -284,7 +284,7 @@ type Standing = (
 );
 
 /// Values, and what they stand for. None is a flag.
-const STANDING: &[Standing] = &[
+const STANDING: [Standing; 9] = [
     (FormValue::Unsigned(200), Ok(200), Ok(Some(200))),
     (FormValue::Signed(-2), Ok(-2), Ok(Some(-2))),
     (FormValue::Sixteen(&[0]), Err(WRONG), Err(WRONG)),
@@ -298,7 +298,7 @@ const STANDING: &[Standing] = &[
 
 #[test]
 fn values_stand_for(rt: HostRuntime) {
-    for &(value, constant, offset) in STANDING {
+    for (value, constant, offset) in STANDING {
         let given = Given { form: 8, value };
         let (found, at) = (constant_of(3, &given), byte_offset_of(3, &given));
         assert_eq!(rt;

@@ -4,7 +4,7 @@ use Rattle.std.specs.Result.{result_unwrap_or}
 use Rattle.std.proofs.lemmas.List.Elements.{All-append, All-map}
 use Rattle.unit_graph.specs.Sources.{FileUnit}
 use Rattle.unit_graph.specs.Tables.{AreOf, AreOfFiles}
-use Rattle.small_files.specs.Units.{headers_of, unit_in, units_in}
+use Rattle.unit_graph.specs.Files.{headers_of, unit_in, units_in}
 
 files_of : List ℕ → List ℕ → ℕ → List ℕ
 files_of first second zero = first

@@ -4,7 +4,8 @@ ghost use Rattle.elf_sections.specs.Images.{file_of as bytes_of};
 ghost use Rattle.entry_tree.specs.Contexts.{IsUnitOf};
 ghost use Rattle.unit_graph.specs.Sources.{IsReadable};
 ghost use Rattle.unit_graph.specs.Tables.{AreOfFiles};
-ghost use Rattle.small_files.specs.Units.{unit_in, units_in, HasUnits, IsWhy};
+ghost use Rattle.small_files.specs.Units.{HasUnits, IsWhy};
+ghost use Rattle.unit_graph.specs.Files.{unit_in, units_in};
 
 use elf_sections::{ElfFault, Image};
 use entry_tree::{Unit, UnitFault, units};

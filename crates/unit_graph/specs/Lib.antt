@@ -1,6 +1,8 @@
 -- The modules of definitions that this crate's contracts cite.
 pub mod Sources
+pub mod Files
 pub mod Apart
+pub mod Files
 pub mod Laws
 pub mod Links
 pub mod Numbers

@@ -1,7 +1,7 @@
 use Rattle.std.proofs.Common.{◌≡◌, ◌++◌, map, take, All}
 use Rattle.elf_sections.specs.Images.{file_of}
 use Rattle.unit_graph.specs.Sources.{IsReadable}
-use Rattle.small_files.specs.Units.{unit_in}
+use Rattle.unit_graph.specs.Files.{unit_in}
 use Rattle.small_files.proofs.units.push_all.Given as goal
 
 -- so many units stand behind what there was

@@ -1,7 +1,7 @@
 use Rattle.std.proofs.Common.{◌≡◌, ◌++◌, List, sym, ap, ◌∙◌, subst}
 use Rattle.unit_graph.specs.Sources.{FileUnit}
 use Rattle.unit_graph.specs.Tables.{AreOfFiles}
-use Rattle.small_files.specs.Units.{units_in}
+use Rattle.unit_graph.specs.Files.{units_in}
 use Rattle.small_files.proofs.Files.{two_files}
 use Rattle.small_files.proofs.units.units_of_two.Goals as goal
 
