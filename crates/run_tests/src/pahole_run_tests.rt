@@ -137,7 +137,7 @@ const WORDS: &str = "--btf_encode_detached=o a";
 
 /// What the file `a` holds.
 #[derive(Clone, Copy)]
-enum Held {
+enum Content {
     /// There is no such file.
     Absent,
     Bytes(&'static [u8]),
@@ -145,17 +145,17 @@ enum Held {
     Units(Order, &'static [&'static [u8]]),
 }
 
-const ONE_INT: Held = Held::Units(Order::Little, &[INT]);
+const ONE_INT: Content = Content::Units(Order::Little, &[INT]);
 
-const ONE_FUNC: Held = Held::Units(Order::Little, &[FUNC]);
+const ONE_FUNC: Content = Content::Units(Order::Little, &[FUNC]);
 
-const INT_TABLE: Held = Held::Bytes(ONE_INT_BTF);
+const INT_TABLE: Content = Content::Bytes(ONE_INT_BTF);
 
 /// The words, the file `a`, a stop of the world, and then the status, the complaint and what is
 /// stored under `o`.
 type Run = (
     &'static str,
-    Held,
+    Content,
     Option<(u64, u64)>,
     u8,
     &'static str,
@@ -174,7 +174,7 @@ const RUNS: &[Run] = &[
     ),
     (
         WORDS,
-        Held::Units(Order::Big, &[INT]),
+        Content::Units(Order::Big, &[INT]),
         None,
         0,
         "",
@@ -182,7 +182,7 @@ const RUNS: &[Run] = &[
     ),
     (
         WORDS,
-        Held::Units(Order::Little, &[LIST_HEAD, LIST_HEAD]),
+        Content::Units(Order::Little, &[LIST_HEAD, LIST_HEAD]),
         None,
         0,
         "",
@@ -199,7 +199,7 @@ const RUNS: &[Run] = &[
     (WORDS, ONE_FUNC, None, 0, "", Some(ONE_INT_BTF)),
     (
         WORDS,
-        Held::Bytes(b""),
+        Content::Bytes(b""),
         None,
         1,
         "pahole: a: image 0: error 10\n",
@@ -223,14 +223,14 @@ const RUNS: &[Run] = &[
     ),
     (
         WORDS,
-        Held::Absent,
+        Content::Absent,
         None,
         3,
         "pahole: cannot read a\n",
         None,
     ),
-    (WORDS, Held::Absent, Some((1, 9)), 3, "pahole: c", None),
-    ("", Held::Absent, None, 2, "pahole: word 0: usage 6\n", None),
+    (WORDS, Content::Absent, Some((1, 9)), 3, "pahole: c", None),
+    ("", Content::Absent, None, 2, "pahole: word 0: usage 6\n", None),
     (
         "--btf_base=b --btf_encode_detached=o a",
         ONE_INT,
@@ -257,7 +257,7 @@ const RUNS: &[Run] = &[
         "pahole: a: btf 0: error 90\n",
         None,
     ),
-    ("-F btf a", Held::Bytes(BIG_INT_BTF), None, 0, "", None),
+    ("-F btf a", Content::Bytes(BIG_INT_BTF), None, 0, "", None),
     (
         "-F btf -C int a",
         INT_TABLE,
@@ -270,12 +270,12 @@ const RUNS: &[Run] = &[
 ];
 
 /// The files of a world with at most one, `a`.
-fn files_of(alloc: Global, held: Held) -> Result<Vec<HeldFile>, AllocError> {
+fn files_of(alloc: Global, held: Content) -> Result<Vec<HeldFile>, AllocError> {
     let mut files = Vec::new(alloc);
     match held {
-        Held::Absent => {}
-        Held::Bytes(bytes) => add_file(alloc, &mut files, b"a", bytes, &[])?,
-        Held::Units(order, units) => {
+        Content::Absent => {}
+        Content::Bytes(bytes) => add_file(alloc, &mut files, b"a", bytes, &[])?,
+        Content::Units(order, units) => {
             let bytes = file_with(alloc, order, units)?;
             add_file(alloc, &mut files, b"a", &bytes, &[])?;
         }
@@ -351,7 +351,7 @@ fn tells_of_a_made_input(rt: HostRuntime) -> Result<(), Fail> {
 #[test]
 fn reads_units_at_once(rt: HostRuntime) -> Result<(), Fail> {
     let alloc = rt.alloc();
-    let gate = gates::Held::new();
+    let gate = gates::Content::new();
     let lists = file_with(alloc, Order::Little, &[LIST_HEAD, LIST_HEAD])?;
     let mut files = Vec::new(alloc);
     add_file(alloc, &mut files, b"a", lists.as_slice(), &[])?;
