@@ -5,7 +5,7 @@ use Rattle.std.proofs.Common.{slice_get, Option, None, Some, Result, Ok, Err, if
 use Rattle.std.proofs.Common.{sym, ap, subst, ◌∙◌, arith, append_assoc, append-nil}
 use Rattle.std.specs.Prelude.{is_some}
 use Rattle.std.specs.List.{AllZip, flat_map}
-use Rattle.std.proofs.lemmas.Bool.{eqb-true, ltb-false}
+use Rattle.std.proofs.lemmas.Bool.{eqb-true, ltb-false, and_parts}
 use Rattle.std.proofs.lemmas.List.{drop-drop, get_or-append_right, length-append, length-drop}
 use Rattle.std.proofs.lemmas.List.{length-map, length-take-le, take-append-drop}
 use Rattle.std.proofs.lemmas.Option.{slice_get-get_or}
@@ -27,7 +27,6 @@ use Rattle.btf_codec.specs.declared.fault.BtfFault.{BtfFault}
 use Rattle.btf_codec.specs.declared.fault.BtfFault.TheVariants.{BtfMagic, BtfHeader, BtfStrings}
 use Rattle.btf_codec.proofs.Below.{name_stands}
 use Rattle.btf_codec.proofs.Joined.{take_bytes, drop_bytes, all_typed, joined, pieces_words}
-use Rattle.btf_codec.proofs.Showing.{both}
 use Rattle.btf_codec.proofs.Wording.{AreBytes, four_more, word_small, words_again}
 
 -- one step after another
@@ -131,12 +130,12 @@ magic_by : (a b : ℕ) (order : Order) (t u : Bool) → (a == 0x9f && b == 0xeb)
     then Some Big else None) (Some order) → a ∷ b ∷ [] ≡ half_bytes order 0xeb9f
 magic_by a b order true u e f h =
     let q : Little ≡ order = cc in
-    let p = both (a == 0x9f) (b == 0xeb) e in
+    let p = and_parts (a == 0x9f) (b == 0xeb) e in
     subst (λ (o : Order). a ∷ b ∷ [] ≡ half_bytes o 0xeb9f) q
     (λ i. eqb-true a 0x9f p.0 i ∷ eqb-true b 0xeb p.1 i ∷ [])
 magic_by a b order false true e f h =
     let q : Big ≡ order = cc in
-    let p = both (a == 0xeb) (b == 0x9f) f in
+    let p = and_parts (a == 0xeb) (b == 0x9f) f in
     subst (λ (o : Order). a ∷ b ∷ [] ≡ half_bytes o 0xeb9f) q
     (λ i. eqb-true a 0xeb p.0 i ∷ eqb-true b 0x9f p.1 i ∷ [])
 magic_by a b order false false e f h = cc
@@ -158,20 +157,20 @@ pub record HeaderFacts (order : Order) (bytes : List ℕ) : Type 0 where
 header_facts : (order : Order) (bytes : List ℕ) → is_header order bytes ≡ true
     → HeaderFacts order bytes
 header_facts order bytes h =
-    let a = both (get_or bytes 2 0 == 1 && get_or bytes 3 0 == 0 && word_in order bytes 1 == 24
+    let a = and_parts (get_or bytes 2 0 == 1 && get_or bytes 3 0 == 0 && word_in order bytes 1 == 24
     && word_in order bytes 2 == 0 && word_in order bytes 3 % 4 == 0 && word_in order bytes 4
     == word_in order bytes 3)
     (length bytes == 24 + word_in order bytes 3 + word_in order bytes 5) h in
-    let b = both (get_or bytes 2 0 == 1 && get_or bytes 3 0 == 0 && word_in order bytes 1 == 24
+    let b = and_parts (get_or bytes 2 0 == 1 && get_or bytes 3 0 == 0 && word_in order bytes 1 == 24
     && word_in order bytes 2 == 0 && word_in order bytes 3 % 4 == 0)
     (word_in order bytes 4 == word_in order bytes 3) a.0 in
-    let c = both (get_or bytes 2 0 == 1 && get_or bytes 3 0 == 0 && word_in order bytes 1 == 24
+    let c = and_parts (get_or bytes 2 0 == 1 && get_or bytes 3 0 == 0 && word_in order bytes 1 == 24
     && word_in order bytes 2 == 0) (word_in order bytes 3 % 4 == 0) b.0 in
-    let d = both (get_or bytes 2 0 == 1 && get_or bytes 3 0 == 0 && word_in order bytes 1 == 24)
-    (word_in order bytes 2 == 0) c.0 in
+    let d = and_parts (get_or bytes 2 0 == 1 && get_or bytes 3 0 == 0
+    && word_in order bytes 1 == 24) (word_in order bytes 2 == 0) c.0 in
     let e =
-    both (get_or bytes 2 0 == 1 && get_or bytes 3 0 == 0) (word_in order bytes 1 == 24) d.0 in
-    let f = both (get_or bytes 2 0 == 1) (get_or bytes 3 0 == 0) e.0 in
+    and_parts (get_or bytes 2 0 == 1 && get_or bytes 3 0 == 0) (word_in order bytes 1 == 24) d.0 in
+    let f = and_parts (get_or bytes 2 0 == 1) (get_or bytes 3 0 == 0) e.0 in
     record {
       version = eqb-true (get_or bytes 2 0) 1 f.0;
       flags = eqb-true (get_or bytes 3 0) 0 f.1;
@@ -291,7 +290,7 @@ spelled_parts before want order bytes body names pieces h ends o s strings cut f
     let all : List ℕ = names_before before ++ names in
     let own : List CType = types_of (names_before before ++ names) order pieces in
     let secs = sections_are order bytes body names s in
-    let t = both (is_begun (is_some before) names) (is_ended names) strings in
+    let t = and_parts (is_begun (is_some before) names) (is_ended names) strings in
     let ended_names = ended names t.1 in
     let ends_all = ends_both (names_before before) names ends ended_names in
     let long = secs.facts.long in

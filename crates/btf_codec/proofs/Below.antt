@@ -1,16 +1,15 @@
 -- Words below a limit: offsets in the strings and ids of the table.
-use Rattle.std.proofs.Common.{◌≡◌, ℕ, zero, suc, ◌+◌, ◌-◌, ◌<◌, ◌≢◌, ◌==◌, nat_le, cond, Bool, true}
+use Rattle.std.proofs.Common.{◌≡◌, ℕ, zero, suc, ◌+◌, ◌-◌, ◌<◌, nat_le, cond, Bool, true}
 use Rattle.std.proofs.Common.{false, List, [], ◌∷◌, length, map, drop, get_or, unwrap_or, All}
-use Rattle.std.proofs.Common.{Option, None, Some, if◌then◌else◌, refl, sym, ap, subst, ◌∙◌, arith}
+use Rattle.std.proofs.Common.{Option, None, Some, refl, sym, ap, ◌∙◌, arith}
 use Rattle.std.specs.Option.{option_map, option_or}
-use Rattle.std.proofs.lemmas.Bool.{eqb-false, leb-false, lt-leb}
+use Rattle.std.proofs.lemmas.Bool.{leb-false, lt-leb}
 use Rattle.std.proofs.lemmas.List.{get_or-drop, length-drop}
-use Rattle.dw_base.specs.Texts.{text_from, text_of}
-use Rattle.btf_strings.proofs.Texts.{text_within}
+use Rattle.dw_base.specs.Texts.{text_from, text_of, HasNoNul}
 use Rattle.c_model.specs.Graph.{IsBelow}
-use Rattle.c_model.specs.Kinds.{HasNoNul}
 use Rattle.c_model.specs.declared.graph.Ref.{Ref}
 use Rattle.c_model.specs.declared.graph.Ref.TheVariants.{Void, Node}
+use Rattle.dw_base.proofs.Texts.{text_from_no_nul, text_within}
 use Rattle.btf_codec.specs.Fields.{id_of}
 use Rattle.btf_codec.specs.Gives.{EndsWithNul}
 use Rattle.btf_codec.specs.Reading.{first_past, name_at, ref_of, words_fault, names_in, ids_in}
@@ -68,29 +67,9 @@ pub id_below : (count : ℕ) (r : Ref) → IsBelow count r → id_of r < count +
 id_below count Void b = omega arith
 id_below count (Node x) b = omega arith
 
--- a text has no NUL
-clean_cons : (b : ℕ) (u : List ℕ) → b ≢ 0 → HasNoNul u → HasNoNul (b ∷ u)
-clean_cons b u ne h zero d lt = ne
-clean_cons b u ne h (suc k) d lt = h k d (omega arith)
-
-clean_more : (b : ℕ) (z : Bool) (o : Option (List ℕ)) (t : List ℕ) → (b == 0) ≡ z
-    → ((u : List ℕ) → o ≡ Some u → HasNoNul u)
-    → (if z then Some [] else option_map (λ (rest : List ℕ). b ∷ rest) o) ≡ Some t → HasNoNul t
-clean_more b true o t z ih e = let q : [] ≡ t = cc in
-    subst (λ (xs : List ℕ). HasNoNul xs) q (λ (k d : ℕ) (lt : k < 0). absurd (omega arith))
-clean_more b false None t z ih e = cc
-clean_more b false (Some u) t z ih e = let q : b ∷ u ≡ t = cc in
-    subst (λ (xs : List ℕ). HasNoNul xs) q (clean_cons b u (eqb-false b 0 z) (ih u refl))
-
-clean_from : (xs t : List ℕ) → text_from xs ≡ Some t → HasNoNul t
-unfolding text_from
-clean_from [] t e = cc
-clean_from (b ∷ bs) t e = clean_more b (b == 0) (text_from bs) t refl
-    (λ (u : List ℕ) (h : text_from bs ≡ Some u). clean_from bs u h) e
-
 clean_option : (xs : List ℕ) (o : Option (List ℕ)) → text_from xs ≡ o → HasNoNul (unwrap_or o [])
 clean_option xs None e = λ (k d : ℕ) (lt : k < 0). absurd (omega arith)
-clean_option xs (Some t) e = clean_from xs t e
+clean_option xs (Some t) e = text_from_no_nul xs t e
 
 pub name_clean : (s : List ℕ) (x : ℕ) → HasNoNul (name_at s x)
 unfolding text_of

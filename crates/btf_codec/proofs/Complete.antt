@@ -18,6 +18,7 @@ use Rattle.dw_base.specs.declared.numbers.Order.TheVariants.{Little, Big}
 use Rattle.c_model.specs.Graph.{IsBelow, RefersWithin}
 use Rattle.c_model.specs.Kinds.{IsWellFormed}
 use Rattle.c_model.specs.declared.graph.CType.{CType}
+use Rattle.dw_base.proofs.Bools.{or_true}
 use Rattle.btf_codec.specs.Fields.{Field, fields_of}
 use Rattle.btf_codec.specs.Gives.{EndsWithNul, Fails, base_seen}
 use Rattle.btf_codec.specs.Reading.{Before, Shown, first_past, file_of, head_of, ids_by, is_begun}
@@ -266,10 +267,6 @@ is_header_there order bytes v a b c d e =
     && eq-eqb (word_in order bytes 3 % 4) 0 c i
     && eq-eqb (word_in order bytes 4) (word_in order bytes 3) d i
     && eq-eqb (length bytes) (24 + word_in order bytes 3 + word_in order bytes 5) e i
-
-or_true : (b : Bool) → (b || true) ≡ true
-or_true true = refl
-or_true false = refl
 
 sections_there : (order : Order) (body names : List ℕ) → length body < 2 ^ 32 → length body % 4 ≡ 0
     → length names < 2 ^ 32

@@ -104,8 +104,8 @@ ref_word r w e = rw e (ref_back r)
 halves : (v a b : ℕ) → a ≡ low_of v → b ≡ high_of v → a + 2 ^ 32 * b ≡ v
 halves v a b l h = omega arith
 
-narrow : (v a : ℕ) → a ≡ low_of v → v < 2 ^ 32 → a ≡ v
-narrow v a l lt = omega arith
+low_is_whole : (v a : ℕ) → a ≡ low_of v → v < 2 ^ 32 → a ≡ v
+low_is_whole v a l lt = omega arith
 
 record PartBack (layout : PartLayout) (s : List ℕ) (p : Part) (r : Ref) (fs : List Field)
     (ws : List ℕ) : Type 0 where
@@ -122,7 +122,8 @@ one_part Member s p r fs (a ∷ []) ok h = absurd h.1
 one_part Member s p r fs (a ∷ b ∷ []) ok h = absurd h.1.1
 one_part Member s p r fs (a ∷ b ∷ c ∷ ws) ok h =
     record {
-      part = same_part p (name_at s a) c (name_back s p.name a h.0) (narrow p.value c h.1.1.0 ok);
+      part = same_part p (name_at s a) c (name_back s p.name a h.0)
+          (low_is_whole p.value c h.1.1.0 ok);
       refs = ap (λ (q : Ref). q ∷ []) (ref_word r b h.1.0);
       rest = h.1.1.1;
     }
@@ -131,7 +132,7 @@ one_part Enumerator s p r fs (a ∷ []) ok h = absurd h.1
 one_part Enumerator s p r fs (a ∷ b ∷ ws) ok h =
     record {
       part = same_part p (name_at s a) b (name_back s p.name a h.0)
-          (narrow p.value b h.1.0 ok);
+          (low_is_whole p.value b h.1.0 ok);
       refs = refl;
       rest = h.1.1;
     }

@@ -70,14 +70,14 @@ linked_vlen : (b : Bool) (extra n : ℕ) → extra < (if b then 3 else 1) → n 
 linked_vlen true extra n lt e = lt-ltb extra 3 lt
 linked_vlen false extra n lt e = eq-eqb n 0 e
 
-target_below : (count : ℕ) (rs : List Ref) (i : ℕ) → All (IsBelow count) rs
+pub target_below : (count : ℕ) (rs : List Ref) (i : ℕ) → All (IsBelow count) rs
     → IsBelow count (target_at rs i)
 target_below count [] i h = tt
 target_below count (r ∷ rs) zero h = h 0 Void (omega arith)
 target_below count (r ∷ rs) (suc i) h =
     target_below count rs i (λ (k : ℕ) (d : Ref) (lt : k < length rs). h (suc k) d (omega arith))
 
-dropped_below : (count : ℕ) (rs : List Ref) → All (IsBelow count) rs
+pub dropped_below : (count : ℕ) (rs : List Ref) → All (IsBelow count) rs
     → All (IsBelow count) (drop 1 rs)
 dropped_below count [] h = h
 dropped_below count (r ∷ rs) h = λ (k : ℕ) (d : Ref) (lt : k < length rs). h (suc k) d (omega arith)

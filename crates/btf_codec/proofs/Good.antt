@@ -2,8 +2,8 @@
 use Rattle.std.proofs.Common.{◌≡◌, ℕ, zero, suc, ◌-◌, ◌<◌, ◌≤◌, ◌^◌, List, [], ◌∷◌, ◌++◌, length}
 use Rattle.std.proofs.Common.{drop, unwrap_or, All, IsSome, Option, None, Some, refl, arith}
 use Rattle.std.specs.List.{AllZip, flat_map}
-use Rattle.dw_base.specs.Texts.{text_of}
-use Rattle.btf_strings.specs.Names.{HasNoNul, Names, all_strings, offset_of}
+use Rattle.dw_base.specs.Texts.{text_of, HasNoNul}
+use Rattle.btf_strings.specs.Names.{Names, all_strings, offset_of}
 use Rattle.btf_strings.specs.Kept.{IsSound}
 use Rattle.btf_strings.proofs.Offsets.{text_at_offset}
 use Rattle.c_model.specs.Graph.{IsBelow}
@@ -12,6 +12,7 @@ use Rattle.c_model.specs.declared.label.Part.{Part}
 use Rattle.c_model.specs.declared.graph.CType.{CType}
 use Rattle.c_model.specs.declared.graph.Ref.{Ref}
 use Rattle.c_model.specs.declared.graph.Ref.TheVariants.{Void, Node}
+use Rattle.btf_codec.proofs.Fitting.{target_below, dropped_below}
 use Rattle.btf_codec.specs.Fields.{Field, Named, Refers, Number, fields_of, high_of, id_of}
 use Rattle.btf_codec.specs.Fields.{layout_of, low_of, part_fields, parts_fields, rest_by, target_at}
 use Rattle.btf_codec.specs.Spells.{StandsFor}
@@ -58,28 +59,16 @@ good_part s WideEnumerator p r g b = (g.name, (low_small p.value, (high_small p.
 good_part s Parameter p r g b = (g.name, (b, tt))
 good_part s Variable p r g b = (b, (low_small p.value, (high_small p.value g.value, tt)))
 
--- references are below a bound wherever they are looked up
-pub target_below : (rs : List Ref) (i : ℕ) → All (IsBelow (2 ^ 32 - 1)) rs
-    → IsBelow (2 ^ 32 - 1) (target_at rs i)
-target_below [] i h = tt
-target_below (r ∷ rs) zero h = h 0 Void (omega arith)
-target_below (r ∷ rs) (suc i) h =
-    target_below rs i (λ (k : ℕ) (d : Ref) (lt : k < length rs). h (suc k) d (omega arith))
-
-dropped_below : (rs : List Ref) → All (IsBelow (2 ^ 32 - 1)) rs
-    → All (IsBelow (2 ^ 32 - 1)) (drop 1 rs)
-dropped_below [] h = h
-dropped_below (r ∷ rs) h = λ (k : ℕ) (d : Ref) (lt : k < length rs). h (suc k) d (omega arith)
-
 good_parts : (s : Names) (layout : PartLayout) (ps : List Part) (rs : List Ref)
     → All (IsGoodPart s) ps → All (IsBelow (2 ^ 32 - 1)) rs → AreGood s (parts_fields layout ps rs)
 unfolding parts_fields
 good_parts s layout [] rs g b = tt
 good_parts s layout (p ∷ ps) rs g b =
     good_both s (part_fields layout p (target_at rs 0)) (parts_fields layout ps (drop 1 rs))
-    (good_part s layout p (target_at rs 0) (g 0 p (omega arith)) (target_below rs 0 b))
+    (good_part s layout p (target_at rs 0) (g 0 p (omega arith)) (target_below (2 ^ 32 - 1) rs 0 b))
     (good_parts s layout ps (drop 1 rs)
-    (λ (k : ℕ) (d : Part) (lt : k < length ps). g (suc k) d (omega arith)) (dropped_below rs b))
+    (λ (k : ℕ) (d : Part) (lt : k < length ps). g (suc k) d (omega arith))
+    (dropped_below (2 ^ 32 - 1) rs b))
 
 -- what a type has
 pub record IsGoodType (s : Names) (t : CType) : Type 0 where
@@ -101,17 +90,24 @@ good_rest : (s : Names) (t : CType) (o : Option Layout) → t.label.size < 2 ^ 3
     → All (IsBelow (2 ^ 32 - 1)) t.targets → AreGood s (rest_by o t.label t.targets)
 good_rest s t None size extra ps rs = tt
 good_rest s t (Some Int) size extra ps rs = (size, (extra, tt))
-good_rest s t (Some Link) size extra ps rs = (target_below t.targets 0 rs, tt)
-good_rest s t (Some Array) size extra ps rs =
-    (omega arith, (target_below t.targets 0 rs, (target_below t.targets 1 rs, (extra, tt))))
+good_rest s t (Some Link) size extra ps rs = (target_below (2 ^ 32 - 1) t.targets 0 rs, tt)
+good_rest s t (Some Array) size extra ps rs = (
+  omega arith,
+  (
+    target_below (2 ^ 32 - 1) t.targets 0 rs,
+    (target_below (2 ^ 32 - 1) t.targets 1 rs, (extra, tt)),
+  ),
+)
 good_rest s t (Some Forward) size extra ps rs = (omega arith, tt)
-good_rest s t (Some TaggedLink) size extra ps rs = (target_below t.targets 0 rs, (extra, tt))
+good_rest s t (Some TaggedLink) size extra ps rs =
+    (target_below (2 ^ 32 - 1) t.targets 0 rs, (extra, tt))
 good_rest s t (Some Float) size extra ps rs = (size, tt)
 good_rest s t (Some (Sized parts)) size extra ps rs =
     (size, good_parts s parts t.label.parts t.targets ps rs)
 good_rest s t (Some Prototype) size extra ps rs = (
-  target_below t.targets 0 rs,
-  good_parts s Parameter t.label.parts (drop 1 t.targets) ps (dropped_below t.targets rs),
+  target_below (2 ^ 32 - 1) t.targets 0 rs,
+  good_parts s Parameter t.label.parts (drop 1 t.targets) ps
+      (dropped_below (2 ^ 32 - 1) t.targets rs),
 )
 
 good_type : (s : Names) (t : CType) → IsGoodType s t → AreGood s (fields_of t)
@@ -141,10 +137,10 @@ text_there : (s : Names) (name : List ℕ) (o : Option ℕ) → IsSound s → Ha
 text_there s name None sound clean e some = cc
 text_there s name (Some at) sound clean e some = text_at_offset s name at sound.section clean e
 
-narrow_there : (s : Names) (name : List ℕ) (o : Option ℕ) → IsSound s → offset_of s name ≡ o
+offset_fits : (s : Names) (name : List ℕ) (o : Option ℕ) → IsSound s → offset_of s name ≡ o
     → unwrap_or o 0 < 2 ^ 32
-narrow_there s name None sound e = omega arith
-narrow_there s name (Some at) sound e = sound.narrow name at e
+offset_fits s name None sound e = omega arith
+offset_fits s name (Some at) sound e = sound.narrow name at e
 
 stands : (s : Names) (f : Field) → IsSound s → IsGood s f
     → StandsFor (all_strings s) f (word_of s f)
@@ -152,22 +148,22 @@ stands s (Named name) sound g = text_there s name (offset_of s name) sound g.1 r
 stands s (Refers r) sound g = refl
 stands s (Number n) sound g = refl
 
-narrow_id : (r : Ref) → IsBelow (2 ^ 32 - 1) r → id_of r < 2 ^ 32
-narrow_id Void b = omega arith
-narrow_id (Node x) b = omega arith
+id_fits : (r : Ref) → IsBelow (2 ^ 32 - 1) r → id_of r < 2 ^ 32
+id_fits Void b = omega arith
+id_fits (Node x) b = omega arith
 
-narrow : (s : Names) (f : Field) → IsSound s → IsGood s f → word_of s f < 2 ^ 32
-narrow s (Named name) sound g = narrow_there s name (offset_of s name) sound refl
-narrow s (Refers r) sound g = narrow_id r g
-narrow s (Number n) sound g = g
+word_fits : (s : Names) (f : Field) → IsSound s → IsGood s f → word_of s f < 2 ^ 32
+word_fits s (Named name) sound g = offset_fits s name (offset_of s name) sound refl
+word_fits s (Refers r) sound g = id_fits r g
+word_fits s (Number n) sound g = g
 
 pub all_stand : (s : Names) (fs : List Field) → IsSound s → AreGood s fs
     → AllZip (StandsFor (all_strings s)) fs (words_of s fs)
 all_stand s [] sound g = tt
 all_stand s (f ∷ fs) sound g = (stands s f sound g.0, all_stand s fs sound g.1)
 
-pub all_narrow : (s : Names) (fs : List Field) → IsSound s → AreGood s fs
+pub words_fit : (s : Names) (fs : List Field) → IsSound s → AreGood s fs
     → All (λ (w : ℕ). w < 2 ^ 32) (words_of s fs)
-all_narrow s [] sound g k d lt = absurd (omega arith)
-all_narrow s (f ∷ fs) sound g zero d lt = narrow s f sound g.0
-all_narrow s (f ∷ fs) sound g (suc k) d lt = all_narrow s fs sound g.1 k d (omega arith)
+words_fit s [] sound g k d lt = absurd (omega arith)
+words_fit s (f ∷ fs) sound g zero d lt = word_fits s f sound g.0
+words_fit s (f ∷ fs) sound g (suc k) d lt = words_fit s fs sound g.1 k d (omega arith)

@@ -64,9 +64,9 @@ headed place id left size w true e = cc
 headed place id left size w false e =
     passed_by place id left size w (layout_of (kind_in (w 1))) refl e
 
-passed : (place id left size : ℕ) (w : ℕ → ℕ) → head_of place id w left ≡ Ok size
+head_passed : (place id left size : ℕ) (w : ℕ → ℕ) → head_of place id w left ≡ Ok size
     → Passed w size left
-passed place id left size w e = headed place id left size w (nat_lt left 3) e
+head_passed place id left size w e = headed place id left size w (nat_lt left 3) e
 
 -- the words of pieces
 abbrev pub piece_words : Order → List ℕ → List ℕ
@@ -101,7 +101,7 @@ pub first_checked : (order : Order) (place id size : ℕ) (bytes : List ℕ) →
     → head_of place id (word_in order bytes) (length bytes / 4) ≡ Ok size
     → IsChecked order (take (4 * size) bytes)
 first_checked order place id size bytes h e =
-    let p = passed place id (length bytes / 4) size (word_in order bytes) e in
+    let p = head_passed place id (length bytes / 4) size (word_in order bytes) e in
     let few = p.few in
     let is = p.size_is in
     let some = width_some p.layout (vlen_in (word_in order bytes 1)) in
@@ -132,7 +132,7 @@ joined_more : (order : Order) (place id size : ℕ) (bytes : List ℕ) (ps : Lis
     → AreBytes bytes → head_of place id (word_in order bytes) (length bytes / 4) ≡ Ok size
     → Joined order (drop (4 * size) bytes) ps → Joined order bytes (take (4 * size) bytes ∷ ps)
 joined_more order place id size bytes ps h e j =
-    let few = (passed place id (length bytes / 4) size (word_in order bytes) e).few in
+    let few = (head_passed place id (length bytes / 4) size (word_in order bytes) e).few in
     let l = length-take-le (4 * size) bytes (omega (arith, few)) in
     record {
       each = all_cons (IsChecked order) (take (4 * size) bytes) ps
@@ -167,7 +167,7 @@ joined_head : (order : Order) (n place id : ℕ) (bytes : List ℕ) (ps : List (
     >>= λ (rest : List (List ℕ)). Ok (take (4 * size) bytes ∷ rest)) ≡ Ok ps
     → Joined order bytes ps
 joined_head order n place id bytes ps (Ok size) h fuel e next f =
-    let p = passed place id (length bytes / 4) size (word_in order bytes) e in
+    let p = head_passed place id (length bytes / 4) size (word_in order bytes) e in
     let some = width_some p.layout (vlen_in (word_in order bytes 1)) in
     let l : length (drop (4 * size) bytes) ≤ n =
     omega (arith, fuel, some, p.size_is, p.few, length-drop (4 * size) bytes) in

@@ -17,7 +17,7 @@ use Rattle.btf_codec.specs.Spells.{BeginsEmpty, Spells, StandsFor, base_names, b
 use Rattle.btf_codec.specs.Spells.{header_bytes, words_bytes}
 use Rattle.btf_codec.specs.Spelling.{HasOffsets, base_of, spelling_of, types_words, word_of}
 use Rattle.btf_codec.proofs.Endings.{section_ends}
-use Rattle.btf_codec.proofs.Good.{IsGoodType, all_narrow, all_stand, good_types}
+use Rattle.btf_codec.proofs.Good.{IsGoodType, words_fit, all_stand, good_types}
 
 -- header, types and strings, one after another
 pub spelled : (order : Order) (s : Names) (own : List CType) (types names : ℕ) (b : List ℕ)
@@ -92,7 +92,7 @@ meets order types base s b ready zero e =
           subst (λ (xs : List ℕ). AllZip (StandsFor (xs ++ own_section s)) (flat_map fields_of
           (drop base types)) (types_words s (drop base types))) (names_are base s.base)
           (all_stand s (flat_map fields_of (drop base types)) ready.sound good);
-      narrow = all_narrow s (flat_map fields_of (drop base types)) ready.sound good;
+      narrow = words_fit s (flat_map fields_of (drop base types)) ready.sound good;
       types_length = omega (arith, ready.fits, l);
       names_length = omega (arith, ready.fits);
       begins = begins base s.base s.own;

@@ -4,7 +4,7 @@ use Rattle.std.proofs.Common.{nat_lt, Bool, true, false, List, [], ◌∷◌, le
 use Rattle.std.proofs.Common.{IsTrue, Option, None, Some, if◌then◌else◌, refl, sym, ap, subst, ◌∙◌}
 use Rattle.std.proofs.Common.{arith}
 use Rattle.std.specs.List.{AllZip}
-use Rattle.std.proofs.lemmas.Bool.{eqb-true, ltb-true}
+use Rattle.std.proofs.lemmas.Bool.{eqb-true, ltb-true, and_parts}
 use Rattle.std.proofs.lemmas.List.{get_or-map, length-map}
 use Rattle.dw_base.specs.Texts.{text_of}
 use Rattle.c_model.specs.declared.label.Label.{Label}
@@ -28,10 +28,6 @@ use Rattle.btf_codec.specs.declared.layout.PartLayout.TheVariants.{Variable}
 use Rattle.btf_codec.proofs.Below.{name_clean, past_split, ref_stands}
 use Rattle.btf_codec.proofs.Rows.{never_sized, part_row, row_by, row_known}
 use Rattle.btf_codec.proofs.Shapes.{ShapeOf, Together, refers, together}
-
-pub both : (a b : Bool) → (a && b) ≡ true → (a ≡ true) × (b ≡ true)
-both true b h = (refl, h)
-both false b h = cc
 
 -- three words and two, and those behind them
 pub words_three : (w : ℕ → ℕ) (at n : ℕ)
@@ -82,11 +78,11 @@ pub record Info (layout : Layout) (y word : ℕ) : Type 0 where
 pub info_split : (layout : Layout) (y third : ℕ) → is_info layout y third ≡ true
     → Info layout y third
 info_split layout y third h =
-    let a = both (is_clean y && (not (flag_in y) || may_flag (kind_in y))
+    let a = and_parts (is_clean y && (not (flag_in y) || may_flag (kind_in y))
     && is_vlen layout (kind_in y) (vlen_in y)) (is_third layout third) h in
-    let b = both (is_clean y && (not (flag_in y) || may_flag (kind_in y)))
+    let b = and_parts (is_clean y && (not (flag_in y) || may_flag (kind_in y)))
     (is_vlen layout (kind_in y) (vlen_in y)) a.0 in
-    let c = both (is_clean y) (not (flag_in y) || may_flag (kind_in y)) b.0 in
+    let c = and_parts (is_clean y) (not (flag_in y) || may_flag (kind_in y)) b.0 in
     record { clean = c.0; flags = c.1; vlen = b.1; third = a.1 }
 
 flag_ok : (f m : Bool) → (not f || m) ≡ true → IsTrue f → IsTrue m

@@ -5,10 +5,10 @@ use Rattle.std.proofs.Common.{ap, ◌||◌, ◌∙◌, arith, append_assoc}
 use Rattle.std.specs.List.{flat_map, list_any}
 use Rattle.std.specs.Str.{bytes_eq}
 use Rattle.std.proofs.lemmas.List.{length-append, drop_at}
-use Rattle.dw_base.specs.Texts.{text_from, text_of}
-use Rattle.btf_strings.specs.Names.{HasNoNul, offset_among, terminated}
+use Rattle.dw_base.specs.Texts.{text_from, text_of, HasNoNul}
+use Rattle.dw_base.proofs.Texts.{bytes_eq_same, bytes_eq_true}
+use Rattle.btf_strings.specs.Names.{offset_among, terminated}
 use Rattle.btf_strings.specs.Kept.{ArePlaced, names_of, value_of}
-use Rattle.btf_strings.proofs.Noting.{bytes_eq_same, bytes_eq_true}
 use Rattle.btf_strings.proofs.Texts.{text_terminated}
 use denote.Bor.{Bor}
 

@@ -5,10 +5,11 @@ use Rattle.std.specs.Option.{option_or}
 use Rattle.std.specs.Str.{bytes_eq}
 use Rattle.std.proofs.lemmas.Bool.{and_left, and_right}
 use Rattle.dw_base.specs.Texts.{text_of}
+use Rattle.dw_base.proofs.Texts.{text_within}
 use Rattle.btf_strings.specs.Names.{begins_string, is_text, stands_whole, least_below, base_offset}
 use Rattle.btf_strings.specs.Kept.{Notes, value_of}
 use Rattle.btf_strings.proofs.Least.{least_none, least_step}
-use Rattle.btf_strings.proofs.Texts.{none_behind, text_within, begins_none_inside, begins_behind}
+use Rattle.btf_strings.proofs.Texts.{none_behind, begins_none_inside, begins_behind}
 use denote.Bor.{Bor}
 
 -- the strings that begin below a place have their least places
@@ -22,10 +23,10 @@ stands_here : (section name text : List ℕ) (at : ℕ) → begins_string sectio
 stands_here section name text at b e = ap (λ (t : Bool). t && is_text name (text_of section at)) b
     ∙ ap (λ (o : Option (List ℕ)). is_text name o) e
 
-pub one_more : (section text : List ℕ) (at : ℕ) (old new : List (Bor (List ℕ) × ℕ))
+pub index_push : (section text : List ℕ) (at : ℕ) (old new : List (Bor (List ℕ) × ℕ))
     → text_of section at ≡ Some text → IsIndexed section old at → Notes old new text at
     → IsIndexed section new (at + (length text + 1))
-one_more section text at old new e kept notes =
+index_push section text at old new e kept notes =
     record {
       within = omega (arith, text_within section at text e);
       begins = begins_behind section at text e;

@@ -107,13 +107,13 @@ narrow_some base held own places name at None kept is e = let h =
 narrow_some base held own places name at (Some x) kept is e =
     narrow_base base name at kept.section (is ∙ e)
 
-narrow : (base : Option (List ℕ)) (held : List (Bor (List ℕ) × ℕ)) (own : List ℕ)
+offset_fits : (base : Option (List ℕ)) (held : List (Bor (List ℕ) × ℕ)) (own : List ℕ)
     (places : List (Bor (List ℕ) × ℕ)) (name : List ℕ) (at : ℕ)
     → IsKept base held own places
     → offset_of (record { base = base; own = names_of places }) name ≡ Some at → at < 2 ^ 32
 unfolding offset_of
-narrow base held own places [] at kept e = let z : at ≡ 0 = cc in omega (arith, z)
-narrow base held own places (b ∷ bs) at kept e =
+offset_fits base held own places [] at kept e = let z : at ≡ 0 = cc in omega (arith, z)
+offset_fits base held own places (b ∷ bs) at kept e =
     narrow_some base held own places (b ∷ bs) at (base_offset base (b ∷ bs)) kept refl e
 
 pub kept_is_sound : (base : Option (List ℕ)) (held : List (Bor (List ℕ) × ℕ)) (own : List ℕ)
@@ -121,5 +121,5 @@ pub kept_is_sound : (base : Option (List ℕ)) (held : List (Bor (List ℕ) × �
     → IsSound (record { base = base; own = names_of places })
 kept_is_sound base held own places kept = record {
   section = kept.section;
-  narrow = λ (name : List ℕ) (at : ℕ). narrow base held own places name at kept;
+  narrow = λ (name : List ℕ) (at : ℕ). offset_fits base held own places name at kept;
 }

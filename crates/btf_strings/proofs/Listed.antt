@@ -6,10 +6,10 @@ use Rattle.std.specs.List.{list_any}
 use Rattle.std.specs.Option.{option_or}
 use Rattle.std.specs.Str.{bytes_eq}
 use Rattle.std.proofs.lemmas.List.Elements.{filter-append}
+use Rattle.dw_base.proofs.Texts.{bytes_eq_same, bytes_eq_turned}
 use Rattle.btf_strings.specs.Names.{Names, base_offset, first_offset, first_places, is_own}
 use Rattle.btf_strings.specs.Names.{offset_among, offset_of, own_names, with_name}
 use Rattle.btf_strings.proofs.Among.{has_offset}
-use Rattle.btf_strings.proofs.Noting.{bytes_eq_same, bytes_eq_turned}
 
 -- the names other than one
 abbrev others : List ℕ → List (List ℕ) → List (List ℕ)

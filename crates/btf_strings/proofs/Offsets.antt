@@ -5,14 +5,14 @@ use Rattle.std.specs.List.{flat_map}
 use Rattle.std.specs.Option.{option_or}
 use Rattle.std.proofs.lemmas.Bool.{and_parts}
 use Rattle.std.proofs.lemmas.List.{length-append}
-use Rattle.dw_base.specs.Texts.{text_from, text_of}
-use Rattle.btf_strings.specs.Names.{HasNoNul, Names, all_strings, base_offset, base_section}
+use Rattle.dw_base.specs.Texts.{text_from, text_of, HasNoNul}
+use Rattle.dw_base.proofs.Texts.{bytes_eq_same}
+use Rattle.btf_strings.specs.Names.{Names, all_strings, base_offset, base_section}
 use Rattle.btf_strings.specs.Names.{begins_string, first_offset, first_string, is_text, next_offset}
 use Rattle.btf_strings.specs.Names.{offset_among, offset_of, own_section, stands_whole, terminated}
 use Rattle.btf_strings.specs.Kept.{IsSection}
 use Rattle.btf_strings.proofs.Among.{found_last, found_still, text_among}
 use Rattle.btf_strings.proofs.Least.{least_passes}
-use Rattle.btf_strings.proofs.Noting.{bytes_eq_same}
 use Rattle.btf_strings.proofs.Texts.{text_of_more}
 
 pub empty_offset : (t : Names) (name : List ℕ) → name ≡ [] → offset_of t name ≡ Some 0

@@ -4,9 +4,10 @@ use Rattle.std.proofs.Common.{[], ◌∷◌, ◌++◌, length, drop, get_or, Opt
 use Rattle.std.proofs.Common.{if◌then◌else◌, refl, sym, ap, subst, ◌∙◌, arith}
 use Rattle.std.specs.Option.{option_map}
 use Rattle.std.proofs.lemmas.Bool.{eqb-true, eqb-false, eq-eqb, ne_eqb}
-use Rattle.std.proofs.lemmas.List.{drop-append-le, get_or-drop, drop-drop, length-drop}
-use Rattle.dw_base.specs.Texts.{text_from, text_of}
-use Rattle.btf_strings.specs.Names.{HasNoNul, begins_string}
+use Rattle.std.proofs.lemmas.List.{drop-append-le, get_or-drop, drop-drop}
+use Rattle.dw_base.specs.Texts.{text_from, text_of, HasNoNul}
+use Rattle.dw_base.proofs.Texts.{text_within}
+use Rattle.btf_strings.specs.Names.{begins_string}
 
 -- the bytes begin with a text and its NUL
 pub record Ends (xs text : List ℕ) : Type 0 where
@@ -65,13 +66,6 @@ none_behind section at k e le =
     let d : drop (k - at) (drop at section) ≡ drop k section =
     drop-drop (k - at) at section ∙ ap (λ (n : ℕ). drop n section) (omega arith) in
     subst (λ (xs : List ℕ). text_from xs ≡ None) d (missing_on (k - at) (drop at section) e)
-
--- the text at a place
-pub text_within : (section : List ℕ) (at : ℕ) (text : List ℕ) → text_of section at ≡ Some text
-    → at + length text < length section
-unfolding text_of
-text_within section at text e = let h = text_ends (drop at section) text e in
-    omega (arith, h.within, length-drop at section)
 
 -- no string begins inside a text
 pub begins_none_inside : (section : List ℕ) (at : ℕ) (text : List ℕ) (k : ℕ) → text_of section at

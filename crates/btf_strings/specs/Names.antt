@@ -1,6 +1,6 @@
 -- The names of a table and their offsets (the Linux kernel's BTF documentation, "String Encoding").
-use Rattle.std.specs.Prelude.{ℕ, zero, suc, ◌+◌, ◌==◌, ◌≢◌, ◌&&◌, Bool, true, false, List, [], ◌∷◌}
-use Rattle.std.specs.Prelude.{◌++◌, length, filter, All, not, is_none, slice_index_or, is_some}
+use Rattle.std.specs.Prelude.{ℕ, zero, suc, ◌+◌, ◌==◌, ◌&&◌, Bool, true, false, List, [], ◌∷◌}
+use Rattle.std.specs.Prelude.{◌++◌, length, filter, not, is_none, slice_index_or, is_some}
 use Rattle.std.specs.Prelude.{Option, None, Some, if◌then◌else◌}
 use Rattle.std.specs.List.{flat_map}
 use Rattle.std.specs.Option.{option_or}
@@ -98,10 +98,6 @@ first_places (n ∷ ns) = n ∷ filter (λ (m : List ℕ). not (bytes_eq n m)) (
 -- the own names of the table of a list of names
 abbrev pub own_names : Option (List ℕ) → List (List ℕ) → List (List ℕ)
 own_names base names = first_places (filter (is_own base) names)
-
--- no byte of a name is NUL
-abbrev pub HasNoNul : List ℕ → Type 0
-HasNoNul name = All (λ (byte : ℕ). byte ≢ 0) name
 
 -- the table with one more name: a name without an offset is appended
 abbrev pub with_name : Names → List ℕ → Names

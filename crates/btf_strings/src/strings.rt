@@ -2,11 +2,11 @@
 ghost use Rattle.std.specs.Prelude.{◌≡◌, ◌+◌, ◌<◌, ◌≤◌, ◌^◌, ℕ, List, [], ◌∷◌, ◌++◌, None, Some};
 ghost use Rattle.std.specs.Prelude.{Ok, Err, length, IfOk, IfSome, OnOk, OnErr, IsErrOf};
 ghost use Rattle.std.specs.Option.{option_copied};
-ghost use Rattle.btf_strings.specs.Names.{HasNoNul, all_strings, base_offset, first_string};
+ghost use Rattle.btf_strings.specs.Names.{all_strings, base_offset, first_string};
+ghost use Rattle.dw_base.specs.Texts.{HasNoNul, text_of};
 ghost use Rattle.btf_strings.specs.Names.{next_offset, offset_of, own_names, own_section};
 ghost use Rattle.btf_strings.specs.Names.{with_name};
 ghost use Rattle.btf_strings.specs.Kept.{IsSection, IsSound, Notes, value_of};
-ghost use Rattle.dw_base.specs.Texts.{text_of};
 
 use crate::fault::StringsFault;
 use dw_base::{Name, text_at};

@@ -2,11 +2,13 @@
 use Rattle.std.proofs.Common.{◌≡◌, ℕ, ◌==◌, ◌||◌, ◌&&◌, Bool, true, false, List, [], ◌∷◌, ◌++◌, map}
 use Rattle.std.proofs.Common.{Option, if◌then◌else◌, refl, sym, ap, ◌∙◌, append_assoc}
 use Rattle.std.proofs.lemmas.List.{append-nil}
+use Rattle.std.proofs.Math.Bool.{or-false}
 use Rattle.entry_tree.specs.Items.{Given}
 use Rattle.type_attributes.specs.declared.fault.TypeFault.{TypeFault}
 use Rattle.type_attributes.specs.Faults.{noted}
 use Rattle.type_attributes.specs.Children.{tagged}
 use Rattle.type_attributes.specs.Parts.{refused_by, some_is}
+use Rattle.dw_base.proofs.Bools.{or_assoc}
 use Rattle.c_types.specs.Taking.{made_if, refused_if}
 use Rattle.type_attributes.proofs.Noting.{noted_append}
 
@@ -52,14 +54,6 @@ pub has_noted : (tag : ℕ) (refused : Given → List TypeFault) (kids : List Gi
 has_noted tag refused kids o all none h =
     sym (ap (λ (ks : List Given). noted o (refused_by refused (tagged tag ks))) none) ∙ h
 
-or_assoc : (a b c : Bool) → (a || (b || c)) ≡ ((a || b) || c)
-or_assoc true b c = refl
-or_assoc false b c = refl
-
-or_false : (a : Bool) → (a || false) ≡ a
-or_false true = refl
-or_false false = refl
-
 -- whether one so far, or one that is left, passes a test
 pub tests : (test : Given → Bool) (old new : List Given) (e : Given) (b after all : Bool)
     → old ≡ e ∷ new → after ≡ (b || test e) → (b || some_is test old) ≡ all
@@ -71,7 +65,7 @@ tests test old new e b after all took made h =
 pub has_tested : (test : Given → Bool) (kids : List Given) (b all : Bool) → kids ≡ []
     → (b || some_is test kids) ≡ all → b ≡ all
 has_tested test kids b all none h =
-    sym (or_false b) ∙ sym (ap (λ (ks : List Given). b || some_is test ks) none) ∙ h
+    sym (or-false b) ∙ sym (ap (λ (ks : List Given). b || some_is test ks) none) ∙ h
 
 one_test : (test : Given → Bool) (e : Given) (es : List Given) (t : Bool)
     → some_is test (if t then e ∷ es else es) ≡ ((t && test e) || some_is test es)
@@ -91,4 +85,4 @@ tag_tests tag test old new e b after all took made h =
 pub tag_tested : (tag : ℕ) (test : Given → Bool) (kids : List Given) (b all : Bool) → kids ≡ []
     → (b || some_is test (tagged tag kids)) ≡ all → b ≡ all
 tag_tested tag test kids b all none h =
-    sym (or_false b) ∙ sym (ap (λ (ks : List Given). b || some_is test (tagged tag ks)) none) ∙ h
+    sym (or-false b) ∙ sym (ap (λ (ks : List Given). b || some_is test (tagged tag ks)) none) ∙ h

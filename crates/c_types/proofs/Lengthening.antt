@@ -5,6 +5,7 @@ use Rattle.std.proofs.Common.{◌∙◌, arith, inl, inr}
 use Rattle.std.proofs.lemmas.Bool.{cases_lt, le-ltb, ltb-true}
 use Rattle.std.proofs.lemmas.Nat.{mul-le}
 use Rattle.entry_tree.specs.Items.{Given}
+use Rattle.dw_base.proofs.Bools.{or_assoc}
 use Rattle.c_types.specs.declared.arrays.Lengths.{Lengths}
 use Rattle.type_attributes.specs.Children.{tagged}
 use Rattle.c_types.specs.Taking.{made_if}
@@ -30,10 +31,6 @@ stops a r (inr le) = let e : min a (2 ^ 32) ≡ 2 ^ 32 = omega arith in
 
 pub stopped : (a r : ℕ) → min (min a (2 ^ 32) * r) (2 ^ 32) ≡ min (a * r) (2 ^ 32)
 stopped a r = stops a r (cases_lt a (2 ^ 32))
-
-or_assoc : (a b c : Bool) → (a || (b || c)) ≡ ((a || b) || c)
-or_assoc true b c = refl
-or_assoc false b c = refl
 
 -- one more
 abbrev one : Lengths → Option ℕ → Lengths

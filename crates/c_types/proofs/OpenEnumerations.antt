@@ -1,7 +1,8 @@
 -- An open enumeration comes to its row, one child after the other.
-use Rattle.std.proofs.Common.{◌≡◌, ℕ, ◌==◌, ◌&&◌, ◌||◌, not, Bool, true, false, List, [], ◌∷◌, ◌++◌}
+use Rattle.std.proofs.Common.{◌≡◌, ℕ, ◌==◌, ◌&&◌, not, Bool, true, false, List, [], ◌∷◌, ◌++◌}
 use Rattle.std.proofs.Common.{length, map, Option, None, if◌then◌else◌, refl, sym, ap, ◌∙◌}
 use Rattle.std.proofs.lemmas.List.{append-nil, length-map}
+use Rattle.std.proofs.Math.Bool.{or-false}
 use Rattle.dwarf_forms.specs.Meanings.{Sections}
 use Rattle.entry_tree.specs.Items.{Given}
 use Rattle.c_types.specs.declared.open.OpenEnumeration.{OpenEnumeration}
@@ -39,10 +40,6 @@ refused_is : (c : Sections) (o : OpenEnumeration) (kids : List Given)
 unfolding enumeration_refused
 refused_is c o kids = refl
 
-or_false : (a : Bool) → (a || false) ≡ a
-or_false true = refl
-or_false false = refl
-
 -- without children to come
 abbrev pub is_bare_now : OpenEnumeration → Bool
 is_bare_now o = not o.has_some && not (is_empty o.name)
@@ -50,8 +47,8 @@ is_bare_now o = not o.has_some && not (is_empty o.name)
 pub made_closed : (c : Sections) (o : OpenEnumeration)
     → enumeration_made c o [] ≡ enumeration_by o (is_bare_now o) o.has_negative o.parts.items
 made_closed c o =
-    let s : all_some o [] ≡ o.has_some = or_false o.has_some in
-    let n : all_negative o [] ≡ o.has_negative = or_false o.has_negative in
+    let s : all_some o [] ≡ o.has_some = or-false o.has_some in
+    let n : all_negative o [] ≡ o.has_negative = or-false o.has_negative in
     let p : all_enumerators c o [] ≡ o.parts.items = append-nil o.parts.items in
     made_is c o [] ∙ rw (s, n, p) refl
 
@@ -59,8 +56,8 @@ pub refused_closed : (c : Sections) (o : OpenEnumeration)
     → enumeration_refused c o [] ≡ (if is_bare_now o then o.bare
     else noted (own_sign o o.has_negative) (too_many o.at (length o.parts.items)))
 refused_closed c o =
-    let s : all_some o [] ≡ o.has_some = or_false o.has_some in
-    let n : all_negative o [] ≡ o.has_negative = or_false o.has_negative in
+    let s : all_some o [] ≡ o.has_some = or-false o.has_some in
+    let n : all_negative o [] ≡ o.has_negative = or-false o.has_negative in
     let p : all_enumerators c o [] ≡ o.parts.items = append-nil o.parts.items in
     refused_is c o [] ∙ rw (s, n, p) refl
 

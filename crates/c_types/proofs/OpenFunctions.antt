@@ -1,7 +1,8 @@
 -- An open subroutine type comes to its row, one child after the other.
-use Rattle.std.proofs.Common.{◌≡◌, ◌==◌, ◌||◌, Bool, true, false, List, [], ◌∷◌, ◌++◌, length}
+use Rattle.std.proofs.Common.{◌≡◌, ◌==◌, false, List, [], ◌∷◌, ◌++◌, length}
 use Rattle.std.proofs.Common.{Option, None, refl, sym, ap, ◌∙◌}
 use Rattle.std.proofs.lemmas.List.{append-nil}
+use Rattle.std.proofs.Math.Bool.{or-false}
 use Rattle.dwarf_forms.specs.Meanings.{Sections}
 use Rattle.entry_tree.specs.Items.{Given}
 use Rattle.c_types.specs.declared.open.OpenFunction.{OpenFunction}
@@ -34,15 +35,11 @@ refused_is : (c : Sections) (o : OpenFunction) (kids : List Given)
 unfolding function_refused
 refused_is c o kids = refl
 
-or_false : (a : Bool) → (a || false) ≡ a
-or_false true = refl
-or_false false = refl
-
 -- without children to come
 pub made_closed : (c : Sections) (o : OpenFunction)
     → function_made c o [] ≡ function_by o.at o.variadic o.parts.items o.targets.items
 made_closed c o =
-    let v : all_variadic o [] ≡ o.variadic = or_false o.variadic in
+    let v : all_variadic o [] ≡ o.variadic = or-false o.variadic in
     let p : all_parameters c o [] ≡ o.parts.items = append-nil o.parts.items in
     let t : all_results c o [] ≡ o.targets.items = append-nil o.targets.items in
     made_is c o [] ∙ rw (v, p, t) refl
@@ -50,7 +47,7 @@ made_closed c o =
 pub refused_closed : (c : Sections) (o : OpenFunction) → function_refused c o []
     ≡ noted o.least (too_many o.at (length (o.parts.items ++ rest_part o.variadic)))
 refused_closed c o =
-    let v : all_variadic o [] ≡ o.variadic = or_false o.variadic in
+    let v : all_variadic o [] ≡ o.variadic = or-false o.variadic in
     let p : all_parameters c o [] ≡ o.parts.items = append-nil o.parts.items in
     refused_is c o [] ∙ rw (v, p) refl
 

@@ -51,7 +51,7 @@ pub tag_by : (c : Sections) (e : Given) (b : Bool) → e.tag ≡ DW_TAG_GNU_anno
     → b ≡ bytes_eq (name_in_full (name_asked c e)) (codes "btf_type_tag") → is_type_tag c e ≡ b
 tag_by c e b is named = tag_is c e ∙ rw is (sym named)
 
-other_tag : (c : Sections) (e : Given) → e.tag ≢ DW_TAG_GNU_annotation → is_type_tag c e ≡ false
+pub other_tag : (c : Sections) (e : Given) → e.tag ≢ DW_TAG_GNU_annotation → is_type_tag c e ≡ false
 other_tag c e ne = let differs : (e.tag == DW_TAG_GNU_annotation) ≡ false =
     ne_eqb e.tag DW_TAG_GNU_annotation ne in
     tag_is c e ∙ rw differs refl

@@ -1,9 +1,10 @@
 -- An open structure comes to its row, one child after the other.
-use Rattle.std.proofs.Common.{◌≡◌, ℕ, ◌^◌, ◌≤◌, ◌||◌, nat_lt, Bool, true, false, List, [], ◌∷◌}
+use Rattle.std.proofs.Common.{◌≡◌, ℕ, ◌^◌, ◌≤◌, nat_lt, Bool, true, false, List, [], ◌∷◌}
 use Rattle.std.proofs.Common.{◌++◌, length, map, Option, None, if◌then◌else◌, refl, sym, ap, ◌∙◌}
 use Rattle.std.proofs.Common.{arith}
 use Rattle.std.proofs.lemmas.Bool.{ltb-false, le-ltb}
 use Rattle.std.proofs.lemmas.List.{append-nil, length-map}
+use Rattle.std.proofs.Math.Bool.{or-false}
 use Rattle.entry_tree.specs.Items.{Given}
 use Rattle.c_types.specs.declared.open.OpenStructure.{OpenStructure}
 use Rattle.c_types.specs.declared.open.Kept.TheVariants.{Structure}
@@ -39,15 +40,11 @@ refused_is : (c : Scope) (o : OpenStructure) (kids : List Given)
 unfolding structure_refused
 refused_is c o kids = refl
 
-or_false : (a : Bool) → (a || false) ≡ a
-or_false true = refl
-or_false false = refl
-
 -- without children to come
 pub made_closed : (c : Scope) (o : OpenStructure)
     → structure_made c o [] ≡ structure_by o o.fields o.members.items o.targets.items
 made_closed c o =
-    let f : all_fields o [] ≡ o.fields = or_false o.fields in
+    let f : all_fields o [] ≡ o.fields = or-false o.fields in
     let m : all_members c o [] ≡ o.members.items = append-nil o.members.items in
     let t : all_targets c o [] ≡ o.targets.items = append-nil o.targets.items in
     made_is c o [] ∙ rw (f, m, t) refl
@@ -55,7 +52,7 @@ made_closed c o =
 pub refused_closed : (c : Scope) (o : OpenStructure)
     → structure_refused c o [] ≡ noted (own o o.fields) (too_many o.at (length o.members.items))
 refused_closed c o =
-    let f : all_fields o [] ≡ o.fields = or_false o.fields in
+    let f : all_fields o [] ≡ o.fields = or-false o.fields in
     let m : all_members c o [] ≡ o.members.items = append-nil o.members.items in
     refused_is c o [] ∙ rw (f, m) refl
 

@@ -1,8 +1,9 @@
 -- The invariant of the walk: what is read so far, and what is to come.
-use Rattle.std.proofs.Common.{◌≡◌, ℕ, ◌+◌, ◌≤◌, ◌==◌, ◌||◌, Bool, true, false, List, [], ◌∷◌, ◌++◌}
+use Rattle.std.proofs.Common.{◌≡◌, ℕ, ◌+◌, ◌≤◌, ◌==◌, ◌||◌, Bool, false, List, [], ◌∷◌, ◌++◌}
 use Rattle.std.proofs.Common.{Option, None, Some, IfSome, if◌then◌else◌, refl, sym, ap, ◌∙◌, subst}
 use Rattle.std.proofs.Common.{append_assoc}
 use Rattle.std.proofs.lemmas.List.{append-nil}
+use Rattle.std.proofs.Math.Bool.{or-false}
 use Rattle.entry_tree.specs.Items.{Given, Coming, with_first}
 use Rattle.entry_tree.specs.declared.fault.WalkFault.{WalkFault}
 use Rattle.c_types.specs.declared.open.Open.{Open}
@@ -23,10 +24,6 @@ use Rattle.c_types.specs.Walking.{filled, least_of, pointed_at}
 use Rattle.c_types.proofs.Gathering.{tests}
 use Rattle.c_types.proofs.Pointing.{pointed_more}
 use Rattle.dwarf_abbrev.specs.declared.constants.TheConstants.{DW_TAG_array_type}
-
-or_false : (a : Bool) → (a || false) ≡ a
-or_false true = refl
-or_false false = refl
 
 module _ (c : Scope) (ending : Option WalkFault) (os : List Open) (types : List SourceType)
     (current : Option TypeFault) (has : Bool) where
@@ -51,7 +48,7 @@ module _ (c : Scope) (ending : Option WalkFault) (os : List Open) (types : List 
       let t : filled c os [] types ≡ types_of c [] c.entries =
       sym (append-nil (filled c os [] types)) ∙ h.types_so_far in
       let a : has ≡ some_tagged DW_TAG_array_type c.entries =
-      sym (or_false has) ∙ h.arrays_so_far in
+      sym (or-false has) ∙ h.arrays_so_far in
       rw (t, a, h.least_so_far, ← h.ending_so_far) refl
 
   pub ended : (walk : Coming) → walk ≡ record { entries = []; ending = None } → IsReading walk
@@ -88,7 +85,7 @@ started c ending walk os types all none empty low =
     (at_start c ending low)))
 
 -- one entry more
-one_more : (c : Scope) (ending : Option WalkFault) (os : List Open) (types : List SourceType)
+entry_read : (c : Scope) (ending : Option WalkFault) (os : List Open) (types : List SourceType)
     (current : Option TypeFault) (has : Bool) (ps : List Open) (more : List SourceType)
     (after : Option TypeFault) (had : Bool) (behind : Coming) (e : Given)
     → IsReading c ending os types current has (with_first e behind)
@@ -99,7 +96,7 @@ one_more : (c : Scope) (ending : Option WalkFault) (os : List Open) (types : Lis
     → had ≡ (has || e.tag == DW_TAG_array_type) → ((d : ℕ) → d ≤ e.depth + 1 → pointed_at ps d
     ≡ (if e.depth + 1 == d then own_of_pointer c.sections (Some e) else pointed_at os d))
     → IsReading c ending ps more after had behind
-one_more c ending os types current has ps more after had behind e h t l a p =
+entry_read c ending os types current has ps more after had behind e h t l a p =
     let es = behind.entries in
     let here : pointed_at os e.depth ≡ pointed_in c.sections h.earlier e.depth =
     h.pointed e.depth h.low.0 in
@@ -135,7 +132,7 @@ pub read_more : (c : Scope) (ending : Option WalkFault) (os : List Open) (types 
     ≡ (if e.depth + 1 == d then own_of_pointer c.sections (Some e) else pointed_at os d))
     → IsReading c ending ps more after had new
 read_more c ending os types current has old ps more after had new e step h t l a p =
-    one_more c ending os types current has ps more after had new e
+    entry_read c ending os types current has ps more after had new e
     (subst (λ (w : Coming). IsReading c ending os types current has w) step h) t l a p
 
 -- what a reader knows of extents changes nothing of what is read so far

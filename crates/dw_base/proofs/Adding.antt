@@ -21,8 +21,8 @@ pow_seven zero = refl
 pow_seven (suc n) = let e : 7 * suc n ≡ 7 * n + 7 = omega arith in
     rw e (pow-add 2 (7 * n) 7 ∙ ap (λ (p : ℕ). p * 128) (pow_seven n) ∙ sym (pow-suc 128 n))
 
-pub one_more : (n : ℕ) → 128 ^ (n + 1) ≡ 128 ^ n * 128
-one_more n = rw add-one (pow-suc 128 n)
+pub pow_128_suc : (n : ℕ) → 128 ^ (n + 1) ≡ 128 ^ n * 128
+pow_128_suc n = rw add-one (pow-suc 128 n)
 
 pub pow_some : (n : ℕ) → 0 < 128 ^ n
 pow_some n = rw (← pow_seven n) (pow_pos (7 * n))
@@ -158,7 +158,7 @@ high_sums s d n total z o f small far e zeros one full h =
     let up : 128 ^ n ≡ 2 ^ 63 * 128 ^ (n - 9) = high_power n nine in
     let m : n + 1 - 9 ≡ (n - 9) + 1 = omega arith in
     let more : 128 ^ (n + 1 - 9) ≡ 128 ^ (n - 9) * 128 =
-    ap (λ (k : ℕ). 128 ^ k) m ∙ one_more (n - 9) in
+    ap (λ (k : ℕ). 128 ^ k) m ∙ pow_128_suc (n - 9) in
     let q : d * 128 ^ n ≡ 2 ^ 63 * (d * 128 ^ (n - 9)) = ap (λ (x : ℕ). d * x) up ∙ omega arith in
     let l : d * 128 ^ (n - 9) ≤ 127 * 128 ^ (n - 9) =
     mul-le d (128 ^ (n - 9)) 127 (128 ^ (n - 9)) (omega arith) (omega arith) in

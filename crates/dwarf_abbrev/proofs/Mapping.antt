@@ -5,11 +5,12 @@ use Rattle.std.proofs.Common.{Option, None, Some, is_some, if◌then◌else◌, 
 use Rattle.std.proofs.Common.{refl, sym, ap, ◌∙◌, subst, arith}
 use Rattle.std.specs.Option.{option_map}
 use Rattle.std.proofs.Math.Dec.{eqb}
-use Rattle.std.proofs.lemmas.Bool.{eqb-true, ne_eqb}
+use Rattle.std.proofs.lemmas.Bool.{eqb-true, ne_eqb, or_parts}
 use Rattle.std.proofs.lemmas.Bool.Decides.{eqb_tells}
 use Rattle.std.proofs.lemmas.Option.{get_or_from_slice_get, slice_get-get_or}
 use Rattle.std.proofs.lemmas.List.{take_more, take_all, drop_all, drop-append-le, length-take}
 use Rattle.std.proofs.lemmas.List.{get_or_default}
+use Rattle.dw_base.proofs.Options.{none_if_not_some}
 use Rattle.dwarf_abbrev.specs.Sizes.{bytes_of, plus, sizes_of, total, IsSize}
 use Rattle.dwarf_abbrev.specs.ValueMaps.{has_spec, IsFirst, slot_in, slots, slot_of, SaysFirst}
 use Rattle.dwarf_abbrev.specs.ValueMaps.{ArePlaces, IsRun, AreRuns}
@@ -18,11 +19,6 @@ use Rattle.dwarf_abbrev.specs.declared.spec.Spec.{Spec}
 use Rattle.dwarf_abbrev.specs.declared.value_map.Run.{Run}
 use Rattle.dwarf_abbrev.proofs.Sizing.{sizes_push}
 
--- no pair of the first has a name, one pair more
-or_false : (a b : Bool) → (a || b) ≡ false → (a ≡ false) × (b ≡ false)
-or_false false b h = (refl, h)
-or_false true b h = cc
-
 one_without : (b : Bool) → b ≡ false → (b || false) ≡ false
 one_without b h = rw h refl
 
@@ -30,7 +26,7 @@ has_spec_push : (ss : List Spec) (s : Spec) (name : ℕ) → has_spec name ss �
     → (s.attribute ≡ name → ⊥) → has_spec name (ss ++ s ∷ []) ≡ false
 has_spec_push [] s name h ne = one_without (s.attribute == name) (ne_eqb s.attribute name ne)
 has_spec_push (t ∷ ss) s name h ne =
-    let n = or_false (t.attribute == name) (has_spec name ss) h in
+    let n = or_parts (t.attribute == name) (has_spec name ss) h in
     rw n.0 (has_spec_push ss s name n.1 ne)
 
 pub one_more_without : (specs : List Spec) (i name : ℕ) (d : Spec) → i < length specs
@@ -79,10 +75,6 @@ clash (Some y) x n e = cc
 
 same_slot : (a b : Option ℕ) (j k : ℕ) → a ≡ b → a ≡ Some j → b ≡ Some k → j ≡ k
 same_slot a b j k is p q = let e : Some j ≡ Some k = sym p ∙ is ∙ q in cc
-
-none_of : (o : Option ℕ) → is_some o ≡ false → o ≡ None
-none_of None h = refl
-none_of (Some x) h = cc
 
 has_none : {P : Type 0} (o : Option ℕ) → o ≡ None → is_some o ≡ true → P
 has_none None n h = cc
@@ -150,7 +142,7 @@ pub placed_new : (specs : List Spec) (n k : ℕ) (d : Spec) (places : List (Opti
 placed_new specs n k d places lt short slot none are name j o e h = by_slot (eqb_tells j k) where
   here : slice_get places k ≡ Some None
   here = slice_get-get_or places k None short
-      ∙ ap (λ (p : Option ℕ). Some p) (none_of (get_or places k None) none)
+      ∙ ap (λ (p : Option ℕ). Some p) (none_if_not_some (get_or places k None) none)
 
   by_slot : ((eqb j k ≡ true) × (j ≡ k)) ⊎ ((eqb j k ≡ false) × (j ≡ k → ⊥))
       → SaysFirst name specs (n + 1) o

@@ -52,20 +52,21 @@ not_placed (r ∷ rs) q zero e lt is = let p = not_later (r.code == q) (place_of
 not_placed (r ∷ rs) q (suc j) e lt is = let p = not_later (r.code == q) (place_of q rs) e in
     not_placed rs q j p.1 (omega arith) is
 
-there : (r : Declaration) (rs : List Declaration) (q i : ℕ) (d : Declaration) (t : Bool) (o : Option
-    ℕ) → ((j : ℕ) → o ≡ Some j → (j < length rs) × (declaration_with q rs ≡ Some (get_or rs j d)))
+declaration_step : (r : Declaration) (rs : List Declaration) (q i : ℕ) (d : Declaration) (t : Bool)
+    (o : Option ℕ) → ((j : ℕ) → o ≡ Some j
+    → (j < length rs) × (declaration_with q rs ≡ Some (get_or rs j d)))
     → later t o ≡ Some i → (i < suc (length rs))
     × ((if t then Some r else declaration_with q rs) ≡ Some (get_or (r ∷ rs) i d))
-there r rs q i d true o ih e = let z : 0 ≡ i = cc in rw (← z) (omega arith, refl)
-there r rs q i d false None ih e = cc
-there r rs q i d false (Some j) ih e = let z : suc j ≡ i = cc in let p = ih j refl in
+declaration_step r rs q i d true o ih e = let z : 0 ≡ i = cc in rw (← z) (omega arith, refl)
+declaration_step r rs q i d false None ih e = cc
+declaration_step r rs q i d false (Some j) ih e = let z : suc j ≡ i = cc in let p = ih j refl in
     rw (← z) (omega (arith, p.0), p.1)
 
 pub declaration_there : (declarations : List Declaration) (q i : ℕ) (d : Declaration)
     → place_of q declarations ≡ Some i
     → (i < length declarations) × (declaration_with q declarations ≡ Some (get_or declarations i d))
 declaration_there [] q i d e = cc
-declaration_there (r ∷ rs) q i d e = there r rs q i d (r.code == q) (place_of q rs)
+declaration_there (r ∷ rs) q i d e = declaration_step r rs q i d (r.code == q) (place_of q rs)
     (λ (j : ℕ) (h : place_of q rs ≡ Some j). declaration_there rs q j d h) e
 
 pub no_declaration : (declarations : List Declaration) (q : ℕ) → place_of q declarations ≡ None
@@ -117,13 +118,13 @@ code_last declarations r =
     (get_or_push (map (λ (r : Declaration). r.code) declarations) r.code 0 (length declarations)
     (length-map declarations (λ (r : Declaration). r.code)))
 
-pub one_more : (declarations : List Declaration) (r : Declaration) (old new : BTreeMap ℕ ℕ)
+pub places_push : (declarations : List Declaration) (r : Declaration) (old new : BTreeMap ℕ ℕ)
     → IsPlaced declarations old → place_of r.code declarations ≡ None
     → ((q : ℕ) → (q ≡ r.code → ⊥) → get nat_cmp new q ≡ get nat_cmp old q)
     → (r.code ≡ length declarations + 1) × (get nat_cmp new r.code ≡ get nat_cmp old r.code)
     ⊎ (get nat_cmp new r.code ≡ Some (length declarations))
     → IsPlaced (declarations ++ r ∷ []) new
-one_more declarations r old new p none others here =
+places_push declarations r old new p none others here =
     record {
       each = λ (i : ℕ) (lt : i < length (declarations ++ r ∷ [])).
           each i lt (cases_lt i (length declarations));

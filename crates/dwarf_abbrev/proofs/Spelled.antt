@@ -10,6 +10,7 @@ use Rattle.dw_base.specs.Leb128.{sleb_of}
 use Rattle.dw_base.specs.Collect.{collect, Chain}
 use Rattle.dw_base.proofs.Chains.{sound, complete}
 use Rattle.dw_base.proofs.Ends.{ok_parts, uleb_after, sleb_after}
+use Rattle.dw_base.proofs.Options.{none_if_not_some}
 use Rattle.dwarf_abbrev.specs.declared.constants.TheConstants.{DW_FORM_implicit_const}
 use Rattle.dwarf_abbrev.specs.declared.spec.Spec.{Spec}
 use Rattle.dwarf_abbrev.specs.declared.fault.AbbrevFault.{AbbrevFault}
@@ -155,10 +156,6 @@ pub record Found (bytes : List ℕ) (at : ℕ) (seen : List Declaration) (o : Op
       → IsDeclaration bytes at d after × IsNew d.code seen
   pub none : o ≡ None → IsNumber bytes at 0 after
 
-is_none : (o : Option ℕ) → is_some o ≡ false → o ≡ None
-is_none None e = refl
-is_none (Some i) e = cc
-
 some_none : {A : Type 0} (a : A) → ◌≡◌ {A = Option A} (Some a) None → ⊥
 some_none a e = cc
 
@@ -205,7 +202,7 @@ by_twice : (bytes : List ℕ) (at after : ℕ) (seen : List Declaration) (o : Op
     → Found bytes at seen o after
 by_twice bytes at after seen o code true n some t e = cc
 by_twice bytes at after seen o code false n some t e = whole bytes at after seen o code n some
-    (none_new code.0 seen (is_none (place_of code.0 seen) t)) e
+    (none_new code.0 seen (none_if_not_some (place_of code.0 seen) t)) e
 
 by_code : (bytes : List ℕ) (at after : ℕ) (seen : List Declaration) (o : Option Declaration)
     (code : ℕ × ℕ) (t : Bool) → IsNumber bytes at code.0 code.1 → (code.0 == 0) ≡ t

@@ -2,7 +2,7 @@
 use Rattle.std.proofs.Common.{◌≡◌, ℕ, ◌==◌, ◌&&◌, ◌⊎◌, ℤ, pos, Bool, true, false, List, Option}
 use Rattle.std.proofs.Common.{None, Some, Result, Ok, Err, if◌then◌else◌, refl, sym, ap, subst, ◌∙◌}
 use Rattle.std.proofs.Common.{inl, inr}
-use Rattle.std.proofs.lemmas.Bool.{eq-eqb, ne_eqb, eqb-true, eqb-false, both_ways}
+use Rattle.std.proofs.lemmas.Bool.{eq-eqb, ne_eqb, eqb-true, eqb-false, both_ways, and_parts}
 use Rattle.dw_base.specs.Leb128.{uleb_of, sleb_of}
 use Rattle.dw_base.specs.declared.leb128.LebFault.{LebFault}
 use Rattle.dw_base.specs.declared.leb128.LebFault.TheVariants.{Truncated, TooWide}
@@ -53,10 +53,6 @@ abbrev pub after_form : List ℕ → ℕ → ℕ × ℕ → ℕ × ℕ → Resul
 after_form bytes start name form =
     if form.0 == DW_FORM_implicit_const then with_value bytes start name form else without name form
 
-both_true : (a b : Bool) → (a && b) ≡ true → (a ≡ true) × (b ≡ true)
-both_true true b e = (refl, e)
-both_true false b e = cc
-
 not_both : (a b : Bool) → (a && b) ≡ false → a ≡ true → b ≡ false
 not_both true b e t = e
 not_both false b e t = cc
@@ -99,14 +95,14 @@ wide bytes start at after o name form n f is e =
     some_none : (a : Spec) → ◌≡◌ {A = Option Spec} (Some a) None → ⊥
     some_none a e = cc
 
-narrow : (bytes : List ℕ) (at after : ℕ) (o : Option Spec) (name form : ℕ × ℕ) (t : Bool)
+in_range_spec : (bytes : List ℕ) (at after : ℕ) (o : Option Spec) (name form : ℕ × ℕ) (t : Bool)
     → IsNumber bytes at name.0 name.1 → IsNumber bytes name.1 form.0 form.1
     → (form.0 ≡ DW_FORM_implicit_const → ⊥)
     → (name.0 == 0 && form.0 == 0) ≡ t → ◌≡◌ {A = Result (Option Spec × ℕ) AbbrevFault}
     (if t then Ok (None, form.1) else Ok (Some (made_of name.0 form.0 (pos 0)), form.1))
     (Ok (o, after)) → Found bytes at o after
-narrow bytes at after o name form true n f other t e =
-    let b = both_true (name.0 == 0) (form.0 == 0) t in
+in_range_spec bytes at after o name form true n f other t e =
+    let b = and_parts (name.0 == 0) (form.0 == 0) t in
     let p = ok_parts {F = AbbrevFault} None o form.1 after e in
     let zero_name : IsNumber bytes at 0 name.1 =
     subst (λ (k : ℕ). IsNumber bytes at k name.1) (eqb-true name.0 0 b.0) n in
@@ -119,7 +115,7 @@ narrow bytes at after o name form true n f other t e =
   where
     some_none : (a : Spec) → ◌≡◌ {A = Option Spec} (Some a) None → ⊥
     some_none a e = cc
-narrow bytes at after o name form false n f other t e =
+in_range_spec bytes at after o name form false n f other t e =
     let p = ok_parts {F = AbbrevFault} (Some (made_of name.0 form.0 (pos 0))) o form.1 after e in
     let plain : IsPlain (made_of name.0 form.0 (pos 0)) =
     record {
@@ -154,7 +150,7 @@ by_form : (bytes : List ℕ) (start at after : ℕ) (o : Option Spec) (name form
     → Found bytes at o after
 by_form bytes start at after o name form true n f t e =
     wide bytes start at after o name form n f (eqb-true form.0 DW_FORM_implicit_const t) e
-by_form bytes start at after o name form false n f t e = narrow bytes at after o name form
+by_form bytes start at after o name form false n f t e = in_range_spec bytes at after o name form
     (name.0 == 0 && form.0 == 0) n f (eqb-false form.0 DW_FORM_implicit_const t) refl e
 
 pub spec_is : (bytes : List ℕ) (start at after : ℕ) (o : Option Spec)

@@ -5,6 +5,7 @@ use Rattle.std.proofs.Common.{Ok, Err, refl, sym, ap, ◌∙◌, arith}
 use Rattle.std.proofs.lemmas.Bool.{le-leb, lt-leb, eqb-true}
 use Rattle.std.specs.Map.{lookup}
 use Rattle.std.specs.Option.{option_map}
+use Rattle.std.proofs.lemmas.Option.{same_Some}
 use Rattle.dw_base.specs.Numbers.{number_of, ordered}
 use Rattle.dw_base.specs.declared.numbers.Order.{Order}
 use Rattle.dwarf_abbrev.specs.declared.constants.TheConstants.{DW_FORM_indirect}
@@ -79,9 +80,6 @@ pub held_ends : (unit : List ℕ) (at w attribute : ℕ) → at + w ≤ length u
 unfolding held_at
 held_ends unit at w attribute le = rw (le-leb (at + w) (length unit) le) refl
 
-pub same_size : (v w : ℕ) → ◌≡◌ {A = Option ℕ} (Some v) (Some w) → v ≡ w
-same_size v w e = cc
-
 ends_as : (v : Plain) (a b : ℕ) → a ≡ b
     → ◌≡◌ {A = Result (Plain × ℕ) FormFault} (Ok (v, a)) (Ok (v, b))
 ends_as v a b e = ap (λ (n : ℕ). Ok (v, n)) e
@@ -91,7 +89,7 @@ read_ends : (l : Layout) (form : ℕ) (unit : List ℕ) (at w : ℕ) (order : Or
     → (v : Plain) × (read_at l form unit at order s ≡ Ok (v, at + w))
 unfolding read_at
 read_ends (Fixed v kind) form unit at w order s size le =
-    let e : v ≡ w = same_size v w size in
+    let e : v ≡ w = same_Some v w size in
     let f = fixed_ends unit at v order s.attribute (omega (arith, e, le)) in (
       number kind f.0,
       rw f.1 (ends_as (number kind f.0) (at + v) (at + w) (ap (λ (n : ℕ). at + n) e)),
@@ -99,18 +97,18 @@ read_ends (Fixed v kind) form unit at w order s size le =
 read_ends (Leb kind) form unit at w order s size le = cc
 read_ends Signed form unit at w order s size le = cc
 read_ends Implicit form unit at w order s size le =
-    (signed s.implicit, ends_as (signed s.implicit) at (at + w) (omega (arith, same_size 0 w size)))
+    (signed s.implicit, ends_as (signed s.implicit) at (at + w) (omega (arith, same_Some 0 w size)))
 read_ends Flag form unit at w order s size le =
-    let e : 1 ≡ w = same_size 1 w size in
+    let e : 1 ≡ w = same_Some 1 w size in
     let f = fixed_ends unit at 1 order s.attribute (omega (arith, e, le)) in (
       flag (not (f.0 == 0)),
       rw f.1 (ends_as (flag (not (f.0 == 0))) (at + 1) (at + w) (ap (λ (n : ℕ). at + n) e)),
     )
 read_ends Present form unit at w order s size le =
-    (flag true, ends_as (flag true) at (at + w) (omega (arith, same_size 0 w size)))
+    (flag true, ends_as (flag true) at (at + w) (omega (arith, same_Some 0 w size)))
 read_ends Text form unit at w order s size le = cc
 read_ends Sixteen form unit at w order s size le =
-    let e : 16 ≡ w = same_size 16 w size in
+    let e : 16 ≡ w = same_Some 16 w size in
     let b = take 16 (drop at unit) in (
       sixteen b,
       rw (held_ends unit at 16 s.attribute (omega (arith, e, le)))
@@ -119,7 +117,7 @@ read_ends Sixteen form unit at w order s size le =
 read_ends (Counted v kind) form unit at w order s size le = cc
 read_ends (LebCounted kind) form unit at w order s size le = cc
 read_ends (Elsewhere v) form unit at w order s size le =
-    let e : v ≡ w = same_size v w size in
+    let e : v ≡ w = same_Some v w size in
     let f = fixed_ends unit at v order s.attribute (omega (arith, e, le)) in
     (elsewhere form, rw f.1 (ends_as (elsewhere form) (at + v) (at + w) (ap (λ (n : ℕ). at + n) e)))
 
@@ -167,22 +165,22 @@ read_cut : (l : Layout) (form : ℕ) (unit : List ℕ) (at w : ℕ) (order : Ord
     → read_at l form unit at order s ≡ Err (ValueTruncated s.attribute)
 unfolding read_at
 read_cut (Fixed v kind) form unit at w order s size some lt =
-    rw (cut_at unit at v order s.attribute (omega (arith, same_size v w size, lt))) refl
+    rw (cut_at unit at v order s.attribute (omega (arith, same_Some v w size, lt))) refl
 read_cut (Leb kind) form unit at w order s size some lt = cc
 read_cut Signed form unit at w order s size some lt = cc
 read_cut Implicit form unit at w order s size some lt =
-    absurd (omega (arith, same_size 0 w size, some))
+    absurd (omega (arith, same_Some 0 w size, some))
 read_cut Flag form unit at w order s size some lt =
-    rw (cut_at unit at 1 order s.attribute (omega (arith, same_size 1 w size, lt))) refl
+    rw (cut_at unit at 1 order s.attribute (omega (arith, same_Some 1 w size, lt))) refl
 read_cut Present form unit at w order s size some lt =
-    absurd (omega (arith, same_size 0 w size, some))
+    absurd (omega (arith, same_Some 0 w size, some))
 read_cut Text form unit at w order s size some lt = cc
 read_cut Sixteen form unit at w order s size some lt =
-    rw (held_cut unit at 16 s.attribute (omega (arith, same_size 16 w size, lt))) refl
+    rw (held_cut unit at 16 s.attribute (omega (arith, same_Some 16 w size, lt))) refl
 read_cut (Counted v kind) form unit at w order s size some lt = cc
 read_cut (LebCounted kind) form unit at w order s size some lt = cc
 read_cut (Elsewhere v) form unit at w order s size some lt =
-    rw (cut_at unit at v order s.attribute (omega (arith, same_size v w size, lt))) refl
+    rw (cut_at unit at v order s.attribute (omega (arith, same_Some v w size, lt))) refl
 
 cut_by_layout : (c : Within) (s : Spec) (at w : ℕ) (o : Option Layout) → layout_of c.offset_bytes
     c.address_bytes s.form ≡ o → size_in o ≡ Some w → (s.form == DW_FORM_indirect) ≡ false → 0 < w

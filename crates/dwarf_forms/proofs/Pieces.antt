@@ -6,6 +6,7 @@ use Rattle.std.specs.Option.{option_map}
 use Rattle.std.proofs.lemmas.Bool.{ne_eqb, eqb-true, eqb-false, lt-ltb, ltb-true, ltb-false, le-ltb}
 use Rattle.std.proofs.lemmas.List.{take-append-drop, drop-drop, length-append, append_assoc}
 use Rattle.std.proofs.lemmas.List.{length-drop, length-take-le, take_at, drop_at}
+use Rattle.std.proofs.lemmas.Option.{same_Some}
 use Rattle.dw_base.specs.Leb128.{leb_bytes, uleb_of, sleb_of, unsigned_of, unsigned_at, signed_of}
 use Rattle.dw_base.specs.Leb128.{signed_at, fits_i64}
 use Rattle.dw_base.specs.Numbers.{number_of, ordered}
@@ -204,10 +205,6 @@ pub text_found : (unit : List ℕ) (at end : ℕ) (u : List ℕ) → Stands unit
 unfolding text_of
 text_found unit at end u s h = ap text_from s.1 ∙ text_gives u s.0 h
 
--- numbers of a width
-same_some : (a b : ℕ) → ◌≡◌ {A = Option ℕ} (Some a) (Some b) → a ≡ b
-same_some a b e = cc
-
 pub number_stands : (unit : List ℕ) (at w n : ℕ) (order : Order)
     → number_of unit at w order ≡ Some n → (piece : List ℕ) × Stands unit at piece (at + w)
     × (length piece ≡ w) × (n ≡ ordered order piece)
@@ -219,7 +216,7 @@ number_stands unit at w n order e =
       take w (drop at unit),
       p.0,
       p.1,
-      sym (same_some (ordered order (take w (drop at unit))) n (i ∙ e)),
+      sym (same_Some (ordered order (take w (drop at unit))) n (i ∙ e)),
     )
 
 pub number_found : (unit : List ℕ) (at w end : ℕ) (order : Order) (piece : List ℕ) → 1 ≤ w → length

@@ -33,7 +33,7 @@ use Rattle.dwarf_forms.specs.Refusals.{IsNumber, Lacks, NoneOfForm, NoneNamed, I
 use Rattle.dwarf_forms.proofs.Pieces.{leb_is, digits_at, uleb_is}
 use Rattle.dwarf_forms.proofs.Spelled.{bind_gives, fixed_is, fixed_gives, uleb_at_is, uleb_at_gives}
 use Rattle.dwarf_forms.proofs.Spelled.{form_is, form_gives, made_from, after_form, named_form}
-use Rattle.dwarf_forms.proofs.Spelled.{shown_as}
+use Rattle.dwarf_forms.proofs.Spelled.{shown_as, unknown_found}
 use Rattle.dwarf_forms.proofs.Widths.{has_widths}
 
 -- faults of steps
@@ -447,10 +447,6 @@ row_err : (form : ℕ) (o : Option Layout) (f : FormFault) → or_unknown form o
 row_err form None f e = (refl, sym (same_fault {A = Layout} (FormUnknown form) f e))
 row_err form (Some l) f e = never l f e
 
-row_ok : (form : ℕ) (o : Option Layout) (l : Layout) → or_unknown form o ≡ Ok l → o ≡ Some l
-row_ok form None l e = absurd (cc)
-row_ok form (Some k) l e = let q : k ≡ l = cc in ap (λ z. Some z) q
-
 shown_err : (form : ℕ) (r : Result (Plain × ℕ) FormFault) (f : FormFault)
     → (r >>= shown_after form) ≡ Err f → r ≡ Err f
 shown_err form (Err d) f e = let q : d ≡ f = same_fault {A = Shown × ℕ} d f e in
@@ -465,7 +461,7 @@ none_of c spec n f (inl h) = inl (row_err n.0 (layout_of c.offset_bytes c.addres
 none_of c spec n f (inr h) =
     inr (
       h.0,
-      row_ok n.0 (layout_of c.offset_bytes c.address_bytes n.0) h.0 h.1,
+      unknown_found n.0 (layout_of c.offset_bytes c.address_bytes n.0) h.0 h.1,
       read_err h.0 n.0
           c.unit n.1 c.order spec f (shown_err n.0 (read_at h.0 n.0 c.unit n.1 c.order spec) f h.2),
     )

@@ -7,7 +7,7 @@ use Rattle.std.specs.Prelude.{not}
 use Rattle.std.proofs.lemmas.Bool.{eq-eqb, ne_eqb, eqb-true, eqb-false, le-leb, leb-true}
 use Rattle.std.proofs.lemmas.List.{length-append}
 use Rattle.dw_base.specs.Leb128.{uleb_of, sleb_of, unsigned_of, signed_of, fits_i64}
-use Rattle.dw_base.specs.Numbers.{number_of, ordered, sum_of}
+use Rattle.dw_base.specs.Numbers.{number_of, ordered}
 use Rattle.dw_base.specs.Texts.{text_of}
 use Rattle.dw_base.specs.declared.numbers.Order.{Order}
 use Rattle.dw_base.specs.declared.numbers.Order.TheVariants as orders
@@ -17,6 +17,7 @@ use Rattle.dw_base.proofs.Ends.{ok_parts}
 use Rattle.dwarf_abbrev.specs.declared.constants.TheConstants.{DW_FORM_implicit_const}
 use Rattle.dwarf_abbrev.specs.declared.constants.TheConstants.{DW_FORM_indirect}
 use Rattle.dwarf_abbrev.specs.declared.spec.Spec.{Spec}
+use Rattle.dw_base.proofs.Numbering.{byte_ordered}
 use Rattle.dwarf_forms.specs.declared.fault.FormFault.{FormFault}
 use Rattle.dwarf_forms.specs.declared.fault.FormFault.TheVariants.{FormUnknown, ValueTruncated}
 use Rattle.dwarf_forms.specs.declared.layout.Layout.{Layout}
@@ -155,11 +156,6 @@ one_byte [] e = absurd (omega arith)
 one_byte (b ∷ []) e = (b, refl)
 one_byte (b ∷ c ∷ bs) e = absurd (omega arith)
 
-one_number : (order : Order) (b : ℕ) → ordered order (b ∷ []) ≡ b
-unfolding sum_of
-one_number orders.Little b = omega arith
-one_number orders.Big b = omega arith
-
 -- the value of a layout
 abbrev Read : Layout → ℕ → List ℕ → ℕ → Order → Spec → Plain → ℕ → Type 0
 Read l form unit at order spec v end =
@@ -203,7 +199,7 @@ read_is layouts.Flag form unit at order spec v end e =
     (λ (n : ℕ). flag (not (n == 0))) v end e in
     let s = fixed_is unit at 1 order spec.attribute m.0 end m.1 in
     let o = one_byte s.0 s.2 in
-    let n : m.0 ≡ o.0 = s.3 ∙ ap (ordered order) o.1 ∙ one_number order o.0 in
+    let n : m.0 ≡ o.0 = s.3 ∙ ap (ordered order) o.1 ∙ byte_ordered order o.0 in
     (s.0, s.1, (o.0, o.1, m.2 ∙ ap (λ (n : ℕ). flag (not (n == 0))) n))
 read_is layouts.Present form unit at order spec v end e = let p =
     empty form unit at (flag true) v end e in ([], p.0, (refl, p.1))
@@ -289,7 +285,7 @@ read_gives layouts.Implicit form unit at order spec v end h r =
     at_once unit at end (signed spec.implicit) v r.0 r.1 r.2.0 r.2.1
 read_gives layouts.Flag form unit at order spec v end h r =
     let l : length r.0 ≡ 1 = ap (λ (xs : List ℕ). length xs) r.2.1 in
-    let n : ordered order r.0 ≡ r.2.0 = ap (ordered order) r.2.1 ∙ one_number order r.2.0 in
+    let n : ordered order r.0 ≡ r.2.0 = ap (ordered order) r.2.1 ∙ byte_ordered order r.2.0 in
     bind_gives (fixed_at unit at 1 order spec.attribute)
     (λ (n : ℕ × ℕ). Ok (flag (not (n.0 == 0)), n.1)) (ordered order r.0, end)
     (fixed_gives unit at 1 order spec.attribute end r.0 (omega arith) r.1 l)
@@ -401,7 +397,8 @@ form_gives c spec at form mid (inr h) =
     else Ok (unsigned_of n.digits, mid)) k ∙ ap (λ (f : ℕ). Ok (f, mid)) (sym n.is))
 
 -- the value
-unknown_found : (form : ℕ) (o : Option Layout) (l : Layout) → or_unknown form o ≡ Ok l → o ≡ Some l
+pub unknown_found : (form : ℕ) (o : Option Layout) (l : Layout) → or_unknown form o ≡ Ok l
+    → o ≡ Some l
 unknown_found form None l e = cc
 unknown_found form (Some k) l e = let q : k ≡ l = cc in ap (λ z. Some z) q
 

@@ -2,6 +2,7 @@
 use Rattle.std.proofs.Common.{◌≡◌, ℕ, Bool, true, false, List, Option, Some, None, refl, sym, ap}
 use Rattle.std.proofs.Common.{◌∙◌}
 use Rattle.std.proofs.lemmas.Bool.{eqb-true}
+use Rattle.std.proofs.lemmas.Option.{same_Some}
 use Rattle.elf_sections.specs.declared.fault.Kind.{Kind}
 use Rattle.elf_sections.specs.declared.fault.Kind.TheVariants.{Info, Abbrev, Str, LineStr}
 use Rattle.elf_sections.specs.declared.fault.Kind.TheVariants.{StrOffsets}
@@ -50,14 +51,10 @@ pub known_clear : (file : List ℕ) (t : Targets) (kind : Kind) (n : ℕ) → Ar
     → is_known t kind n ≡ true → target_met file n ≡ false
 known_clear file t kind n c e = known_by file n (target_at t kind) (kind_clear file t kind c) e
 
--- one more is clear
-some_same : (a b : ℕ) → Some a ≡ Some b → a ≡ b
-some_same a b e = cc
-
 one_clear : (file : List ℕ) (n : ℕ) → target_met file n ≡ false → IsClear file (Some n)
 one_clear file n e = record {
   clear = λ (k : ℕ) (s : Some n ≡ Some k).
-      ap (target_met file) (sym (some_same n k s)) ∙ e;
+      ap (target_met file) (sym (same_Some n k s)) ∙ e;
 }
 
 pub with_clear : (file : List ℕ) (t : Targets) (kind : Kind) (n : ℕ) → AreClear file t

@@ -1,6 +1,6 @@
 -- The place after the values of some pairs, one pair after the other.
 use Rattle.std.proofs.Common.{◌≡◌, ℕ, ◌+◌, ◌<◌, ◌≤◌, List, [], ◌∷◌, length, drop, get_or, Bool}
-use Rattle.std.proofs.Common.{◌||◌, ◌++◌}
+use Rattle.std.proofs.Common.{◌++◌}
 use Rattle.std.proofs.Common.{take, zero, suc}
 use Rattle.std.proofs.Common.{true, false, ◌==◌, Some, None, if◌then◌else◌, Result, Ok, Err, is_ok}
 use Rattle.std.proofs.Common.{refl, sym, ap, ◌∙◌, arith}
@@ -9,7 +9,7 @@ use Rattle.dwarf_abbrev.specs.declared.spec.Spec.{Spec}
 use Rattle.dwarf_forms.specs.declared.fault.FormFault.{FormFault}
 use Rattle.dwarf_forms.specs.Values.{Shown, Within, value_of, end_of}
 use Rattle.dwarf_forms.proofs.Progress.{value_grows}
-use Rattle.std.proofs.lemmas.Bool.{eq-eqb, ne_eqb}
+use Rattle.std.proofs.lemmas.Bool.{eq-eqb, ne_eqb, or_parts}
 use Rattle.entry_tree.specs.Reads.{and_then, values_at, end_of_values, ends_at, found_in}
 use Rattle.entry_tree.specs.Reads.{value_with}
 use Rattle.entry_tree.specs.Items.{listed}
@@ -155,10 +155,6 @@ behind : (c : Within) (s : Spec) (ss : List Spec) (i at name : ℕ) (r : Result 
 behind c s ss i at name (Ok v) h = h v.1
 behind c s ss i at name (Err f) h = refl
 
-or_false : (a b : Bool) → (a || b) ≡ false → (a ≡ false) × (b ≡ false)
-or_false false b h = (refl, h)
-or_false true b h = cc
-
 pub found_behind : (c : Within) (specs : List Spec) (i at name : ℕ)
     → has_spec name (take i specs) ≡ false → found_in c specs at name
     ≡ and_then (ends_at c (take i specs) at) (λ (m : ℕ). found_in c (drop i specs) m name)
@@ -169,7 +165,7 @@ found_behind c [] (suc i) at name h =
     sym (ap (λ (r : Result ℕ FormFault). and_then r (λ (m : ℕ). found_in c [] m name))
     (ends_none c at))
 found_behind c (s ∷ ss) (suc i) at name h =
-    let n = or_false (s.attribute == name) (has_spec name (take i ss)) h in
+    let n = or_parts (s.attribute == name) (has_spec name (take i ss)) h in
     found_more c s ss at name ∙ rw n.0 (behind c s ss i at name (value_of c s at)
     (λ (e : ℕ). found_behind c ss i e name n.1)
     ∙ sym (ap (λ (r : Result ℕ FormFault). and_then r (λ (m : ℕ). found_in c (drop i ss) m name))

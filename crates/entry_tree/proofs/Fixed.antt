@@ -1,13 +1,15 @@
 -- Values of fixed sizes: by one addition.
 use Rattle.std.proofs.Common.{◌≡◌, ℕ, ◌+◌, ◌*◌, ◌^◌, ◌<◌, ◌≤◌, List, [], ◌∷◌, ◌++◌, length, take}
-use Rattle.std.proofs.Common.{drop, zero, suc, Option, None, Some, Result, Ok, refl, sym, ap, ◌∙◌, arith}
+use Rattle.std.proofs.Common.{drop, zero, suc, Option, None, Some, Result, Ok, refl, sym, ap, ◌∙◌}
+use Rattle.std.proofs.Common.{arith}
 use Rattle.std.proofs.lemmas.List.{take-append-drop}
 use Rattle.std.proofs.Math.Nat.{mul-le-mul_left}
+use Rattle.std.proofs.lemmas.Option.{same_Some}
 use Rattle.dwarf_abbrev.specs.declared.spec.Spec.{Spec}
 use Rattle.dwarf_abbrev.specs.Sizes.{bytes_of, plus, sizes_of}
 use Rattle.dwarf_forms.specs.declared.fault.FormFault.{FormFault}
 use Rattle.dwarf_forms.specs.Values.{Shown, Within, end_of}
-use Rattle.dwarf_forms.proofs.Fixed.{same_size, value_fixed}
+use Rattle.dwarf_forms.proofs.Fixed.{value_fixed}
 use Rattle.entry_tree.specs.Reads.{and_then, ends_at}
 use Rattle.entry_tree.proofs.Ends.{ends_more, ends_none, ends_append}
 
@@ -21,13 +23,13 @@ take_shorter (suc m) (suc n) (x ∷ xs) le =
 -- all of some pairs
 both_sizes : (p q : Option ℕ) (w : ℕ) → plus p q ≡ Some w
     → (m n : ℕ) × (p ≡ Some m) × (q ≡ Some n) × (m + n ≡ w)
-both_sizes (Some m) (Some n) w e = (m, n, refl, refl, same_size (m + n) w e)
+both_sizes (Some m) (Some n) w e = (m, n, refl, refl, same_Some (m + n) w e)
 both_sizes (Some m) None w e = cc
 both_sizes None q w e = cc
 
 pub ends_fixed : (c : Within) (specs : List Spec) (at w : ℕ) → sizes_of c.offset_bytes
     c.address_bytes specs ≡ Some w → at + w ≤ length c.unit → ends_at c specs at ≡ Ok (at + w)
-ends_fixed c [] at w size le = let e : at ≡ at + w = omega (arith, same_size 0 w size) in
+ends_fixed c [] at w size le = let e : at ≡ at + w = omega (arith, same_Some 0 w size) in
     ends_none c at ∙ ap (λ (n : ℕ). Ok n) e
 ends_fixed c (s ∷ ss) at w size le =
     let b = both_sizes (bytes_of c.offset_bytes c.address_bytes s.form)

@@ -10,10 +10,10 @@ empty_by [] is = refl
 empty_by (b ∷ bs) is = let zero : length (b ∷ bs) ≡ 0 = eqb-true (length (b ∷ bs)) 0 is in
     absurd (omega arith)
 
-there : (bytes found : List ℕ) (b : Bool) → (if b then None else Some bytes) ≡ Some found
+section_present : (bytes found : List ℕ) (b : Bool) → (if b then None else Some bytes) ≡ Some found
     → bytes ≡ found
-there bytes found true e = absurd (cc)
-there bytes found false e = cc
+section_present bytes found true e = absurd (cc)
+section_present bytes found false e = cc
 
 gone : (bytes : List ℕ) (b : Bool) → (length bytes == 0) ≡ b
     → ◌≡◌ {A = Option (List ℕ)} (if b then None else Some bytes) None → bytes ≡ []
@@ -24,7 +24,7 @@ pub section_there : (kind : Kind) (file found : List ℕ) → section_of kind fi
     → section_bytes kind file ≡ found
 unfolding section_of
 section_there kind file found e =
-    there (section_bytes kind file) found (length (section_bytes kind file) == 0) e
+    section_present (section_bytes kind file) found (length (section_bytes kind file) == 0) e
 
 pub section_gone : (kind : Kind) (file : List ℕ) → section_of kind file ≡ None
     → section_bytes kind file ≡ []

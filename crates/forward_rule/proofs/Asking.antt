@@ -60,8 +60,8 @@ pub KeepsAsked-refl : (asked : List Bool) (groups : List (List ℕ)) → KeepsAs
 KeepsAsked-refl asked groups = record { covers = refl; at = λ i lt m. refl }
 
 -- a vector in place of one with the same items, where it is asked for
-pub KeepsAsked-set : (asked : List Bool) (old : List (List ℕ)) (groups : List (Vec ℕ Global)) (i : ℕ)
-    (v w : Vec ℕ Global) → i < length groups → v ≡ get_or groups i v
+pub KeepsAsked-set : (asked : List Bool) (old : List (List ℕ)) (groups : List (Vec ℕ Global))
+    (i : ℕ) (v w : Vec ℕ Global) → i < length groups → v ≡ get_or groups i v
     → (get_or asked (i + 1) false ≡ true → w.items ≡ v.items)
     → KeepsAsked asked old (lists_of groups)
     → KeepsAsked asked old (lists_of (slice_set groups i w))
@@ -99,7 +99,8 @@ AgreeWhereAsked-marked count asked tags groups kept is all k = record {
     by : (t : ℕ) → IsAskedFor count asked t → group_at kept t ≡ group_at groups t
     by zero m = refl
     by (suc t) m = ⊎_elim
-        (λ lt. k.at t lt (let q : suc t ≡ t + 1 = omega arith in rw q at (m (omega (arith, is, lt)))))
+        (λ lt. k.at t lt
+        (let q : suc t ≡ t + 1 = omega arith in rw q at (m (omega (arith, is, lt)))))
         (λ le. let c = k.covers in get_or_past kept t [] (omega (arith, c, le))
         ∙ sym (get_or_past groups t [] le))
         (cases_lt t (length groups))

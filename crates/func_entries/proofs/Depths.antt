@@ -9,24 +9,13 @@ use Rattle.std.proofs.lemmas.Option.{slice_get_within, get_or_from_slice_get}
 use Rattle.std.proofs.lemmas.Bool.{ne_eqb, eqb-true, eqb-false}
 use Rattle.std.proofs.lemmas.List.Elements.{All-nil, All-cons, All-head, All-tail, All-push}
 use Rattle.std.proofs.lemmas.List.Elements.{All-pop, All-weaker}
+use Rattle.std.proofs.Math.Bool.{or-false}
+use Rattle.dw_base.proofs.Bools.{or_true, or_assoc}
 use Rattle.func_entries.specs.Walking.{stands_in, AreDeepening, AllAbove}
-
--- one more, behind the others
-or_assoc : (a b c : Bool) → (a || (b || c)) ≡ ((a || b) || c)
-or_assoc true b c = refl
-or_assoc false b c = refl
-
-or_true : (a : Bool) → (a || true) ≡ true
-or_true true = refl
-or_true false = refl
-
-or_false : (a : Bool) → (a || false) ≡ a
-or_false true = refl
-or_false false = refl
 
 pub stands_push : (ks : List ℕ) (k d : ℕ)
     → stands_in (ks ++ k ∷ []) d ≡ (stands_in ks d || k + 1 == d)
-stands_push [] k d = or_false (k + 1 == d)
+stands_push [] k d = or-false (k + 1 == d)
 stands_push (j ∷ ks) k d = ap (λ (b : Bool). j + 1 == d || b) (stands_push ks k d)
     ∙ or_assoc (j + 1 == d) (stands_in ks d) (k + 1 == d)
 
@@ -77,7 +66,7 @@ stands_last ks k d h lt = stands_push ks k d
 pub stands_pop : (ks : List ℕ) (k d : ℕ) → d ≤ k → stands_in (ks ++ k ∷ []) d ≡ stands_in ks d
 stands_pop ks k d le = let no : (k + 1 == d) ≡ false =
     ne_eqb (k + 1) d (λ (e : k + 1 ≡ d). omega (arith, e, le)) in
-    stands_push ks k d ∙ ap (λ (b : Bool). stands_in ks d || b) no ∙ or_false (stands_in ks d)
+    stands_push ks k d ∙ ap (λ (b : Bool). stands_in ks d || b) no ∙ or-false (stands_in ks d)
 
 -- the last of some is the last
 pub split_last : (ks : List ℕ) (k : ℕ) → Some k ≡ slice_get ks (length ks - 1)
@@ -115,7 +104,7 @@ level : (t : Bool) (ks : List ℕ) (k d : ℕ) (here : Bool) → (k + 1 == d) �
 level true ks k d true e above =
     stands_push ks k d ∙ ap (λ (b : Bool). stands_in ks d || b) e ∙ or_true (stands_in ks d)
 level true ks k d false e above =
-    stands_push ks k d ∙ ap (λ (b : Bool). stands_in ks d || b) e ∙ or_false (stands_in ks d)
+    stands_push ks k d ∙ ap (λ (b : Bool). stands_in ks d || b) e ∙ or-false (stands_in ks d)
 level false ks k d true e above = let is : k + 1 ≡ d = eqb-true (k + 1) d e in
     stands_far ks k d above (omega (arith, is))
 level false ks k d false e above = refl

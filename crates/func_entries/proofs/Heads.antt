@@ -1,5 +1,5 @@
 -- Functions are their heads with their prototypes.
-use Rattle.std.proofs.Common.{◌≡◌, ℕ, ◌==◌, ◌&&◌, ◌||◌, not, Bool, true, false, List, [], ◌∷◌, ◌++◌}
+use Rattle.std.proofs.Common.{◌≡◌, ℕ, ◌==◌, ◌&&◌, not, Bool, true, false, List, [], ◌∷◌, ◌++◌}
 use Rattle.std.proofs.Common.{Option, None, Some, is_some, if◌then◌else◌, refl, sym, ap, ◌∙◌}
 use Rattle.std.proofs.Common.{append_assoc}
 use Rattle.std.proofs.lemmas.Option.{none-some, same_Some}
@@ -14,6 +14,7 @@ use Rattle.c_types.specs.Functions.{function_row}
 use Rattle.type_attributes.specs.Labels.{is_empty}
 use Rattle.c_types.proofs.Joining.{joined_noted}
 use Rattle.type_attributes.proofs.Noting.{noted_append}
+use Rattle.dw_base.proofs.Bools.{or_true}
 use Rattle.func_entries.specs.declared.entries.FuncEntry.{FuncEntry}
 use Rattle.func_entries.specs.declared.walking.Head.{Head}
 use Rattle.func_entries.specs.Functions.{some_refused, has_name, is_function, function_refused}
@@ -81,10 +82,6 @@ pub refusals_joined : (t : Bool) (names declarations externals row later : List 
     ≡ (if t then names ++ (declarations ++ (externals ++ row)) else []) ++ later
 refusals_joined true ns ds xs row later e = simp append_assoc refl
 refusals_joined false ns ds xs row later e = absurd (cc)
-
-or_true : (a : Bool) → (a || true) ≡ true
-or_true true = refl
-or_true false = refl
 
 pub named_by_refusal : (name : Asked (List ℕ)) (found : Option TypeFault)
     → found ≡ noted None name.refused → is_some found ≡ true → has_name name ≡ true

@@ -1,8 +1,6 @@
 -- The place of an entry that is a type is that of its type.
-use Rattle.std.proofs.Common.{◌≡◌, ◌≢◌, ℕ, ◌-◌, ◌==◌, ◌||◌, Bool, true, false, List, [], ◌∷◌, map}
+use Rattle.std.proofs.Common.{◌≡◌, ℕ, ◌-◌, ◌==◌, ◌||◌, Bool, true, false, List, [], ◌∷◌, map}
 use Rattle.std.proofs.Common.{Option, None, Some, is_some, if◌then◌else◌, refl, ap, ◌∙◌}
-use Rattle.std.proofs.lemmas.Bool.{ne_eqb}
-use Rattle.dwarf_forms.specs.Meanings.{Sections}
 use Rattle.entry_tree.specs.Items.{Given}
 use Rattle.type_attributes.specs.declared.source.SourceType.{SourceType}
 use Rattle.type_attributes.specs.declared.source.Target.{Target}
@@ -30,7 +28,6 @@ use Rattle.dwarf_abbrev.specs.declared.constants.TheConstants.{DW_TAG_subroutine
 use Rattle.dwarf_abbrev.specs.declared.constants.TheConstants.{DW_TAG_typedef, DW_TAG_union_type}
 use Rattle.dwarf_abbrev.specs.declared.constants.TheConstants.{DW_TAG_unspecified_type}
 use Rattle.dwarf_abbrev.specs.declared.constants.TheConstants.{DW_TAG_volatile_type}
-use Rattle.type_attributes.specs.declared.tags.TheConstants.{DW_TAG_GNU_annotation}
 
 -- there is a row by the tag alone
 chosen : (t s : Bool) (r : Row) (o : Option Row) → is_some o ≡ s
@@ -86,10 +83,3 @@ pub type_place : (c : Scope) (pointed : Option Target) (e : Given) (after : List
     ≡ place_of c.sections (is_some pointed) e
 type_place c pointed e after = placed e.at (made_of c pointed e after) (is_type c.sections
     (is_some pointed) e) (made_stands c pointed e after) (type_there c pointed e after)
-
--- an entry of another tag is no type tag
-pub other_tag : (c : Sections) (e : Given) → e.tag ≢ DW_TAG_GNU_annotation → is_type_tag c e ≡ false
-unfolding is_type_tag
-other_tag c e ne = let differs : (e.tag == DW_TAG_GNU_annotation) ≡ false =
-    ne_eqb e.tag DW_TAG_GNU_annotation ne in
-    rw differs refl

@@ -1,10 +1,11 @@
 -- The invariant of the walk: what is read so far, and what is to come.
-use Rattle.std.proofs.Common.{◌≡◌, ℕ, ◌+◌, ◌≤◌, ◌==◌, ◌&&◌, ◌||◌, not, nat_le, Bool, true, false}
+use Rattle.std.proofs.Common.{◌≡◌, ℕ, ◌+◌, ◌≤◌, ◌==◌, ◌&&◌, ◌||◌, not, Bool, true, false}
 use Rattle.std.proofs.Common.{List, [], ◌∷◌, ◌++◌, map, Option, None, Some, Result, Ok, Err}
 use Rattle.std.proofs.Common.{is_some, if◌then◌else◌, refl, sym, ap, ◌∙◌, subst, append_assoc}
 use Rattle.std.proofs.Common.{arith}
-use Rattle.std.proofs.lemmas.Bool.{eqb-true, eqb-false, ne_eqb, le-leb}
+use Rattle.std.proofs.lemmas.Bool.{eqb-true, eqb-false, ne_eqb}
 use Rattle.std.proofs.lemmas.List.{append-nil, map-append}
+use Rattle.std.proofs.Math.Bool.{or-false}
 use Rattle.dwarf_forms.specs.Meanings.{Sections}
 use Rattle.entry_tree.specs.Items.{Given, Coming, with_first}
 use Rattle.entry_tree.specs.declared.fault.WalkFault.{WalkFault}
@@ -21,7 +22,7 @@ use Rattle.type_attributes.specs.Parts.{some_tagged}
 use Rattle.type_attributes.specs.Scopes.{Scope}
 use Rattle.c_types.specs.Pointers.{own_of_pointer, own_target, pointed_in}
 use Rattle.c_types.specs.Types.{listed, made_of, types_of}
-use Rattle.c_types.specs.Walking.{filled, least_of, pointed_at, AreAbove, IsShallow}
+use Rattle.c_types.specs.Walking.{filled, least_of, pointed_at, AreAbove}
 use Rattle.c_types.proofs.Gathering.{tests}
 use Rattle.c_types.proofs.Pointing.{pointed_more, pointed_none}
 use Rattle.func_entries.specs.declared.walking.Head.{Head}
@@ -37,10 +38,6 @@ use Rattle.dwarf_abbrev.specs.declared.constants.TheConstants.{DW_AT_byte_size}
 use Rattle.dwarf_abbrev.specs.declared.constants.TheConstants.{DW_AT_data_bit_offset}
 use Rattle.dwarf_abbrev.specs.declared.constants.TheConstants.{DW_TAG_array_type, DW_TAG_member}
 use Rattle.dwarf_abbrev.specs.declared.constants.TheConstants.{DW_TAG_pointer_type}
-
-or_false : (a : Bool) → (a || false) ≡ a
-or_false true = refl
-or_false false = refl
 
 -- the functions: what is there, filled up from what is to come, is what is said of the whole walk;
 -- no open function is a pointer
@@ -217,7 +214,7 @@ at_end s version ending heads os types current places pointers has r p =
     let t : filled s os [] types ≡ prototypes_of s.sections s.entries =
     sym (append-nil (filled s os [] types)) ∙ r.types_so_far in
     let n : places ≡ places_of (of_version version s) = sym (append-nil places) ∙ p.places_so_far in
-    let a : has ≡ some_tagged DW_TAG_array_type s.entries = sym (or_false has) ∙ p.arrays_so_far in
+    let a : has ≡ some_tagged DW_TAG_array_type s.entries = sym (or-false has) ∙ p.arrays_so_far in
     let f : paired heads (filled s os [] types) ≡ functions_of s.sections s.entries =
     ap (λ (hs : List Head). paired hs (filled s os [] types)) h ∙ ap (λ (ts : List SourceType).
     paired (heads_of s.sections s.entries) ts) t ∙ functions_paired s.sections s.entries in
@@ -252,11 +249,6 @@ pub gives_same : (r : Result UnitFuncs TypeFault) → Gives r r
 gives_same (Ok u) = refl
 gives_same (Err Memory) = tt
 gives_same (Err f) = refl
-
--- no entry behind stands in one that is as deep
-pub shallow_first : (e : Given) (es : List Given) → IsShallow e.depth (e ∷ es)
-shallow_first e es d le = let behind : nat_le e.depth d ≡ true = le-leb e.depth d le in
-    rw behind refl
 
 at_level : (os : List Open) (k d : ℕ) (t : Bool) → (d == k + 1) ≡ t → ((j : ℕ) → j ≤ k
     → pointed_at os j ≡ None) → AreAbove k os → d ≤ k + 1 → pointed_at os d ≡ None

@@ -1,6 +1,6 @@
 -- What the definitions say of the functions of every unit.
 use Rattle.std.specs.Prelude.{◌≡◌, ◌<◌, ℕ, List, length, map, All, Ok}
-use Rattle.c_model.specs.Kinds.{HasNoNul}
+use Rattle.dw_base.specs.Texts.{HasNoNul}
 use Rattle.entry_tree.specs.declared.unit.Unit.{Unit}
 use Rattle.type_attributes.specs.declared.source.SourceType.{SourceType}
 use Rattle.type_attributes.specs.declared.source.UnitTypes.{UnitTypes}

@@ -1,11 +1,12 @@
 -- The coarsest agreeing partition of a graph is one as a relation, under any index of its open
 -- forwards.
-use Rattle.std.proofs.Common.{◌≡◌, ◌<◌, ◌↔◌, ℕ, List, length, get_or}
+use Rattle.std.proofs.Common.{◌<◌, ◌↔◌, ℕ, List, length}
 use Rattle.std.specs.List.{Contains}
 use Rattle.c_model.specs.Graph.{Shape}
-use Rattle.c_model.specs.Forwards.{definitions_in, IsOpen, IsForwardIndex, Licence, AgreesWith}
+use Rattle.c_model.specs.Forwards.{definitions_in, IsOpen, IsForwardIndex, Licence}
 use Rattle.c_model.specs.Forwards.{AreOneClass}
 use Rattle.c_model.specs.Forwards.Licence.{alike, forwards, defined_by, defines}
+use Rattle.split_base.proofs.Relations.{agrees_too}
 use Rattle.func_merge.specs.Laws.{PartedIsOne}
 
 module _ (g : Shape) (i j : List (List ℕ)) (a : IsForwardIndex g i) (b : IsForwardIndex g j) where
@@ -39,16 +40,6 @@ module _ (g : Shape) (i j : List (List ℕ)) (a : IsForwardIndex g i) (b : IsFor
       defined_by (open_too x hx o) ((same_members x y hx o).1 c) (one_class_too p x hx o k)
   licensed_too p x y hx hy back (defines o c k) =
       defines (open_too y hy o) ((same_members y x hy o).1 c) (one_class_too p y hy o k)
-
--- a partition that agrees under one index agrees under the other
-agrees_too : (g : Shape) (i j : List (List ℕ)) → IsForwardIndex g i → IsForwardIndex g j
-    → (p : List ℕ) → AgreesWith g j p → AgreesWith g i p
-agrees_too g i j a b p w = record {
-  covers = w.covers;
-  licensed = λ (x y : ℕ) (hx : x < length g.nodes) (hy : y < length g.nodes)
-      (e : get_or p x 0 ≡ get_or p y 0).
-      licensed_too g i j a b p x y hx hy (open_too g j i b a) (w.licensed x y hx hy e);
-}
 
 pub parted_is_one : PartedIsOne
 parted_is_one g p q m o = record {

@@ -6,7 +6,8 @@ ghost use Rattle.base_merge.specs.Merging.{CanBeBase, KeepsLimit};
 ghost use Rattle.btf_codec.specs.Gives.{before_of};
 ghost use Rattle.c_model.specs.Forwards.{HasFittingForwards};
 ghost use Rattle.c_model.specs.Graph.{RefersWithin};
-ghost use Rattle.c_model.specs.Kinds.{HasNoNul, IsWellFormed};
+ghost use Rattle.c_model.specs.Kinds.{IsWellFormed};
+ghost use Rattle.dw_base.specs.Texts.{HasNoNul};
 ghost use Rattle.func_merge.specs.Choosing.{AreChosenOver, AreTheChosen, RefusesChoice};
 ghost use Rattle.split_base.specs.Merged.{IsPartedBy};
 

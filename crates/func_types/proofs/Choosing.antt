@@ -1,24 +1,20 @@
 -- The places of chosen functions, entry by entry.
 use Rattle.std.proofs.Common.{◌≡◌, ◌≢◌, ℕ, ◌+◌, ◌<◌, ◌≤◌, ◌&&◌, not, Bool, true, false, List, []}
-use Rattle.std.proofs.Common.{◌∷◌, ◌++◌, length, map, get_or, take, zero, suc, Option, Some, None}
+use Rattle.std.proofs.Common.{◌∷◌, ◌++◌, length, map, get_or, take, Option, Some, None}
 use Rattle.std.proofs.Common.{if◌then◌else◌, refl, sym, ap, subst, ◌∙◌, arith, append-nil}
 use Rattle.std.specs.Prelude.{All}
 use Rattle.std.specs.List.{slice_get, enumerate_from, filter, filter_map}
-use Rattle.std.proofs.lemmas.Option.{slice_get_within, slice_get-get_or, none-some}
+use Rattle.std.proofs.lemmas.Option.{slice_get_within, slice_get-get_or}
 use Rattle.std.proofs.lemmas.List.{get_or-take, length-take-le, map-append, take_all, length_push}
 use Rattle.std.proofs.lemmas.List.Elements.{All-push, filter-append, filter_map-append}
 use Rattle.std.proofs.lemmas.List.Folds.{list_any_at, list_any_none}
 use Rattle.c_model.proofs.Taking.{take-read}
+use Rattle.dw_base.proofs.Lists.{slice_get_none}
+use Rattle.dw_base.proofs.Texts.{bytes_eq_same, bytes_eq_true}
 use Rattle.func_types.specs.Chosen.{chosen_funcs, has_name, is_agreed, is_first}
 use Rattle.func_types.specs.Places.{AreAgreed, AreFirsts, IsFirstOf}
 use Rattle.func_types.specs.declared.protos.Func.{Func}
 use Rattle.func_types.proofs.Firsts.{name_read}
-use Rattle.func_types.proofs.Noting.{bytes_eq_same, bytes_eq_true}
-
-slice_get_none : {X : Type 0} (xs : List X) (i : ℕ) → i < length xs → slice_get xs i ≡ None → ⊥
-slice_get_none [] i h e = omega arith
-slice_get_none (x ∷ xs) zero h e = none-some x (sym e)
-slice_get_none (x ∷ xs) (suc i) h e = slice_get_none xs i (omega arith) e
 
 -- the place of an entry's first one tells whether the entry is the first
 pub first_is : (funcs : List Func) (n : ℕ) (g : Func) → slice_get funcs n ≡ Some g
@@ -128,11 +124,11 @@ taken class funcs n places g at first agreed are =
       few = omega (arith, length_push places n, are.few);
     }
 
-pub passed : (class : ℕ → ℕ) (funcs : List Func) (n : ℕ) (places : List ℕ) (g : Func)
+pub entry_passed_over : (class : ℕ → ℕ) (funcs : List Func) (n : ℕ) (places : List ℕ) (g : Func)
     → slice_get funcs n ≡ Some g
     → (is_first funcs n g && is_agreed class funcs g) ≡ false → ArePlaced class funcs n places
     → ArePlaced class funcs (n + 1) places
-passed class funcs n places g at out are =
+entry_passed_over class funcs n places g at out are =
     record {
       listed =
           are.listed
@@ -184,7 +180,7 @@ module _ (class : ℕ → ℕ) (funcs : List Func) (n : ℕ) (firsts : List ℕ)
       by : (o : Option Func) → slice_get funcs n ≡ o → ArePlaced class funcs (n + 1) places
       by None e = absurd (slice_get_none funcs n within e)
       by (Some g) e =
-          passed class funcs n places g e
+          entry_passed_over class funcs n places g e
           (ap (λ (s : Bool). s && is_agreed class funcs g)
           (first_is funcs n g e (subst (IsFirstOf funcs n) own (are_firsts.each n within)))
           ∙ (sym (agreement g e own) ∙ unlike)) are
@@ -195,6 +191,6 @@ module _ (class : ℕ → ℕ) (funcs : List Func) (n : ℕ) (firsts : List ℕ)
       by : (o : Option Func) → slice_get funcs n ≡ o → ArePlaced class funcs (n + 1) places
       by None e = absurd (slice_get_none funcs n within e)
       by (Some g) e =
-          passed class funcs n places g e
+          entry_passed_over class funcs n places g e
           (ap (λ (s : Bool). s && is_agreed class funcs g)
           (first_is_not funcs n (get_or firsts n 0) g e (are_firsts.each n within) ne)) are

@@ -7,9 +7,9 @@ use Rattle.std.specs.Option.{option_map_or}
 use Rattle.std.specs.Str.{bytes_eq}
 use Rattle.std.proofs.lemmas.Option.{none-some, same_Some}
 use Rattle.std.proofs.lemmas.List.{get_or_append_left, get_or_at, length_push}
+use Rattle.dw_base.proofs.Texts.{bytes_eq_same, bytes_eq_true}
 use Rattle.func_types.specs.Places.{AreFirsts, IsFirstOf, Notes, name_at, place_in}
 use Rattle.func_types.specs.declared.protos.Func.{Func}
-use Rattle.func_types.proofs.Noting.{bytes_eq_same, bytes_eq_true}
 use denote.Bor.{Bor}
 
 -- what is kept of a name is the first of the first n places that has it

@@ -1,11 +1,10 @@
 -- Prototypes linked one by one.
-use Rattle.std.proofs.Common.{◌≡◌, ℕ, zero, suc, ◌+◌, ◌<◌, ◌≤◌, ◌^◌, nat_lt, Bool, true, false}
-use Rattle.std.proofs.Common.{List, [], ◌∷◌, ◌++◌, length, map, take, drop, Option, None, Some}
-use Rattle.std.proofs.Common.{Result, Ok, Err, if◌then◌else◌, refl, sym, ap, subst, ◌∙◌, arith}
+use Rattle.std.proofs.Common.{◌≡◌, ℕ, zero, suc, ◌+◌, ◌≤◌}
+use Rattle.std.proofs.Common.{List, [], ◌∷◌, ◌++◌, length, map, take, drop, Some}
+use Rattle.std.proofs.Common.{Result, Ok, Err, refl, sym, ap, subst, ◌∙◌, arith}
 use Rattle.std.proofs.Common.{append_assoc, append-nil, add-one}
 use Rattle.std.specs.Prelude.{All}
 use Rattle.std.specs.List.{slice_get, enumerate_from}
-use Rattle.std.proofs.lemmas.Bool.{ltb-true}
 use Rattle.std.proofs.lemmas.Option.{none-some, same_Some, slice_get_within}
 use Rattle.std.proofs.lemmas.List.{drop_all, length-map, length-take-le, length_push, map-append}
 use Rattle.std.proofs.lemmas.List.{take_all}
@@ -14,63 +13,20 @@ use Rattle.c_model.proofs.Taking.{take-read}
 use Rattle.c_model.specs.Graph.{IsBelow, RefersWithin}
 use Rattle.c_model.specs.declared.graph.CType.{CType}
 use Rattle.c_model.specs.declared.graph.Ref.{Ref}
-use Rattle.c_model.specs.declared.graph.Ref.TheVariants.{Void, Node}
 use Rattle.type_attributes.specs.declared.source.Target.{Target}
 use Rattle.type_attributes.specs.declared.source.Target.TheVariants as targets
 use Rattle.unit_graph.specs.declared.links.Out.{Out}
 use Rattle.unit_graph.specs.declared.places.Row.{Row}
-use Rattle.unit_graph.specs.Links.{is_at, or_here, number_from, number_of, linked_to, ref_of}
+use Rattle.unit_graph.specs.Links.{ref_of}
 use Rattle.unit_graph.specs.Links.{with_ref, refs_from, nodes_from}
 use Rattle.unit_graph.specs.Numbers.{Numbers}
 use Rattle.unit_graph.specs.Sources.{Source}
 use Rattle.unit_graph.proofs.Linking.{nodes_end, nodes_go_on, nodes_stop}
+use Rattle.unit_graph.proofs.Within.{ref_below}
 use Rattle.func_types.specs.Prototypes.{func_with, numbered, prototype_of, prototypes_in}
 use Rattle.func_types.specs.declared.file_funcs.FileFunc.{FileFunc}
 use Rattle.func_types.specs.declared.protos.Func.{Func}
 use Rattle.func_types.proofs.Choosing.{enumerate_more}
-
--- the references of a linked node are to nodes
-here_below : (k n m : ℕ) (t : Bool) (o : Option ℕ) → ((j : ℕ) → o ≡ Some j → j < k + 1 + m)
-    → or_here k t o ≡ Some n → n < k + suc m
-here_below k n m t (Some j) ih e = let q : j ≡ n = cc in omega (arith, ih j refl)
-here_below k n m true None ih e = let q : k ≡ n = cc in omega arith
-here_below k n m false None ih e = cc
-
-number_below : (p : ℕ × ℕ) (k n : ℕ) (ss : List Source) → number_from p k ss ≡ Some n
-    → n < k + length ss
-number_below p k n [] e = cc
-number_below p k n (s ∷ ss) e = here_below k n (length ss) (is_at p s) (number_from p (k + 1) ss)
-    (λ (j : ℕ) (h : number_from p (k + 1) ss ≡ Some j). number_below p (k + 1) j ss h) e
-
-same_ref : (a b : Ref) → ◌≡◌ {A = Result Ref Out} (Ok a) (Ok b) → a ≡ b
-same_ref a b e = cc
-
-linked_below : (all : List Source) (file from to : ℕ) (o : Option ℕ) (r : Ref) → ((n : ℕ)
-    → o ≡ Some n → n < length all) → linked_to file from to o ≡ Ok r → IsBelow (length all) r
-linked_below all file from to None r below e = cc
-linked_below all file from to (Some n) r below e =
-    subst (IsBelow (length all)) (same_ref (Node n) r e) (below n refl)
-
-of_below : (all : List Source) (file to n : ℕ) (t : Bool)
-    → (if t then number_from (file, to) 0 all else None) ≡ Some n → n < length all
-of_below all file to n true e = omega (arith, number_below (file, to) 0 n all e)
-of_below all file to n false e = cc
-
-index_below : (all : List Source) (index : ℕ) (r : Ref) (t : Bool) → nat_lt index (length all) ≡ t
-    → ◌≡◌ {A = Result Ref Out} (if t then Ok (Node index) else Ok Void) (Ok r)
-    → IsBelow (length all) r
-index_below all index r true t e =
-    subst (IsBelow (length all)) (same_ref (Node index) r e) (ltb-true index (length all) t)
-index_below all index r false t e = subst (IsBelow (length all)) (same_ref Void r e) tt
-
-ref_below : (all : List Source) (file index : ℕ) (t : Target) (r : Ref)
-    → ref_of all file index t ≡ Ok r → IsBelow (length all) r
-ref_below all file index targets.Void r e = subst (IsBelow (length all)) (same_ref Void r e) tt
-ref_below all file index targets.Index r e =
-    index_below all index r (nat_lt index (length all)) refl e
-ref_below all file index (targets.Entry from to) r e = linked_below all file from to
-    (number_of all file to) r (λ (n : ℕ) (h : number_of all file to ≡ Some n).
-    of_below all file to n (nat_lt to (2 ^ 64)) h) e
 
 -- and there are as many as targets
 abbrev Fine : ℕ → List Ref → ℕ → Type 0

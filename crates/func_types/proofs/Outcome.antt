@@ -4,12 +4,12 @@ use Rattle.std.proofs.Common.{◌++◌, length, Result, Ok, Err, if◌then◌els
 use Rattle.std.proofs.Common.{◌∙◌, arith}
 use Rattle.std.specs.Prelude.{All}
 use Rattle.std.specs.List.{enumerate_from}
-use Rattle.std.proofs.lemmas.Bool.Decides.{nat_tests}
 use Rattle.std.proofs.lemmas.List.{length-append, length-map}
 use Rattle.std.proofs.lemmas.List.Elements.{All-append, All-cons, All-head, All-nil, All-tail}
 use Rattle.std.proofs.lemmas.List.Elements.{All-weaker}
 use Rattle.std.proofs.lemmas.List.FromFn.{length-enumerate_from}
-use Rattle.c_model.specs.Kinds.{HasNoNul}
+use Rattle.std.proofs.lemmas.Bool.{lt-ltb, le-ltb}
+use Rattle.dw_base.specs.Texts.{HasNoNul}
 use Rattle.c_model.specs.declared.graph.CType.{CType}
 use Rattle.c_model.specs.declared.graph.Ref.{Ref}
 use Rattle.c_model.specs.Graph.{IsBelow, RefersWithin}
@@ -43,13 +43,6 @@ fails (UnitFault a b c) most units nodes h = ap (linked most units nodes) h
 fails (NodesTooMany a) most units nodes h = ap (linked most units nodes) h
 fails (TypeRefOut a b c d) most units nodes h = ap (linked most units nodes) h
 
--- too many nodes, or not
-are_more : (n m : ℕ) → n < m → nat_lt n m ≡ true
-are_more n m lt = grind (arith, nat_tests)
-
-are_few : (n m : ℕ) → m ≤ n → nat_lt n m ≡ false
-are_few n m le = grind (arith, nat_tests)
-
 counted : (most : ℕ) (units : List FileUnit) (nodes : List CType) (fs : List FileFunc) (b : Bool)
     → functions_from 0 [] units ≡ Ok fs → nat_lt most (length nodes + 2 * length fs) ≡ b
     → prototypes_of_units most units nodes
@@ -67,14 +60,14 @@ pub too_many : (most : ℕ) (units : List FileUnit) (nodes : List CType) (fs : L
     → functions_from 0 [] units ≡ Ok fs → most < length nodes + 2 * length fs
     → prototypes_of_units most units nodes ≡ Err (NodesTooMany (length nodes + 2 * length fs))
 too_many most units nodes fs read more =
-    counted most units nodes fs true read (are_more most (length nodes + 2 * length fs) more)
+    counted most units nodes fs true read (lt-ltb most (length nodes + 2 * length fs) more)
 
 few : (most : ℕ) (units : List FileUnit) (nodes : List CType) (fs : List FileFunc) (g : IsGraphOf
     units nodes) → functions_from 0 [] units ≡ Ok fs → length nodes + 2 * length fs ≤ most
     → prototypes_of_units most units nodes
     ≡ told_out units nodes fs (nodes_from g.all [] (prototypes_in (length nodes) fs))
 few most units nodes fs g read le =
-    counted most units nodes fs false read (are_few most (length nodes + 2 * length fs) le)
+    counted most units nodes fs false read (le-ltb most (length nodes + 2 * length fs) le)
     ∙ ap (λ (r : Result (List Source) UnitRefusal). told_out units nodes fs
     (nodes_from (sources_by r) [] (prototypes_in (length nodes) fs))) g.gathers
 

@@ -3,7 +3,8 @@ ghost use Rattle.std.specs.Prelude.{◌≡◌, ◌<◌, ◌≤◌, ◌+◌, ◌*
 ghost use Rattle.std.specs.List.{filter_map};
 ghost use Rattle.c_model.specs.Graph.{RefersWithin};
 ghost use Rattle.c_model.specs.Forwards.{HasFittingForwards};
-ghost use Rattle.c_model.specs.Kinds.{HasNoNul, IsWellFormed};
+ghost use Rattle.c_model.specs.Kinds.{IsWellFormed};
+ghost use Rattle.dw_base.specs.Texts.{HasNoNul};
 ghost use Rattle.func_types.specs.Chosen.{class_behind, chosen_funcs, chosen_graph};
 
 use crate::nodes::{first_nodes, push_funcs, push_prototypes};

@@ -2,7 +2,8 @@
 ghost use Rattle.std.specs.Prelude.{◌≡◌, ◌<◌, ◌≤◌, ◌+◌, ◌*◌, ◌^◌, [], All, List, Ok, length, IfOk};
 ghost use Rattle.c_model.specs.Forwards.{HasFittingForwards};
 ghost use Rattle.c_model.specs.Graph.{RefersWithin};
-ghost use Rattle.c_model.specs.Kinds.{HasNoNul, IsWellFormed};
+ghost use Rattle.c_model.specs.Kinds.{IsWellFormed};
+ghost use Rattle.dw_base.specs.Texts.{HasNoNul};
 ghost use Rattle.unit_graph.specs.Links.{IsGraphOf};
 ghost use Rattle.unit_graph.specs.Numbers.{rows_from};
 ghost use Rattle.unit_graph.specs.Sources.{IsReadable, Source, gathered};

@@ -92,12 +92,12 @@ none_before k types pointer r None at e = refl
 none_before k types pointer r (Some s) at e =
     absurd (none-some s (sym e ∙ more_under k types pointer r s at))
 
-there : (f : Ref → Option ℕ) (types : List CType) (pointer x s : ℕ) (t : Option CType)
+sized_within : (f : Ref → Option ℕ) (types : List CType) (pointer x s : ℕ) (t : Option CType)
     → slice_get types x ≡ t
     → option_and_then (λ (u : CType). option_and_then fitting
     (size_by f pointer (size_rule u.label.kind) u)) t ≡ Some s → x < length types
-there f types pointer x s None at e = absurd (none-some s e)
-there f types pointer x s (Some t) at e = slice_get_within types x t at
+sized_within f types pointer x s None at e = absurd (none-some s e)
+sized_within f types pointer x s (Some t) at e = slice_get_within types x t at
 
 apart_by : (x y : ℕ) (ys : List ℕ) (b : Bool) → eqb x y ≡ b → (list_any (eqb x) (y ∷ ys) ≡ true → ⊥)
     → ((list_any (eqb x) ys ≡ true → ⊥) → AllByRecursion (λ z. eqb x z ≡ false) ys)
@@ -129,7 +129,8 @@ module _ (types : List CType) (pointer : ℕ) where
   left_more k x s xs l e f = record {
     distinct = (apart x xs (λ m. none-some s (sym (l.none x m) ∙ e)), l.distinct);
     below = λ q m. member q x xs (eqb q x) refl m (λ y. y < length types)
-        (there (size_in k types pointer) types pointer x s (slice_get types x) refl e) (l.below q);
+        (sized_within (size_in k types pointer) types pointer x s (slice_get types x) refl e)
+        (l.below q);
     none =
         λ q m. member q x xs (eqb q x) refl m (λ y. size_in k types pointer (Node y) ≡ None) f (λ n.
         none_before k types pointer (Node q) (size_in k types pointer (Node q)) refl (l.none q n));

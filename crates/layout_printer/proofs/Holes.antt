@@ -36,8 +36,8 @@ pub range_push : (n : ℕ) → range_with_len 0 (n + 1) ≡ range_with_len 0 n +
 range_push n = sym (map-id (range_with_len 0 (n + 1))) ∙ map-range_with_len_more
     (λ x. x) 0 n n (zero-add n) ∙ ap (λ l. l ++ n ∷ []) (map-id (range_with_len 0 n))
 
-one_more : (f n : ℕ) → n - f + cond (leb f n) 1 0 ≡ suc n - f
-one_more f n = ⊎_elim
+farther_step : (f n : ℕ) → n - f + cond (leb f n) 1 0 ≡ suc n - f
+farther_step f n = ⊎_elim
     (λ (below : n < f). ap (λ m. n - f + m) (cond-false (leb f n) 1 0 (lt-leb f n below))
     ∙ omega arith)
     (λ (above : f ≤ n). ap (λ m. n - f + m) (cond-true (leb f n) 1 0 (le-leb f n above))
@@ -53,7 +53,7 @@ free_bits_are ss (suc n) =
     ∙ sum_by_push (λ b. cond (is_past ss b) 1 0) (range_with_len 0 n) n
     ∙ ap (λ m. m + cond (is_past ss n) 1 0) (free_bits_are ss n)
     ∙ ap (λ t. n - farthest ss + cond t 1 0) (is_past-farthest ss n)
-    ∙ one_more (farthest ss) n
+    ∙ farther_step (farthest ss) n
 
 -- a hole by the farthest end
 pub hole_is : (ss : List Slot) (hole from start end : ℕ) → hole ≡ from - end → from ≡ start

@@ -12,13 +12,13 @@ use Rattle.std.proofs.lemmas.Option.{slice_get-map}
 use Rattle.c_model.specs.declared.graph.CType.{CType}
 use Rattle.c_model.specs.declared.graph.Ref.{Ref}
 use Rattle.c_model.specs.declared.graph.Ref.TheVariants.{Void, Node}
+use Rattle.dw_base.proofs.Lists.{slice_get_set, slice_get_set_other, slice_get_none}
 use Rattle.layout_printer.specs.Sizes.{AreSizes, size_of}
 use Rattle.layout_printer.specs.Finding.{AreFound, IsChain, IsKnown, IsOn, StaysKnown, behind}
 use Rattle.layout_printer.specs.Finding.{found_at, if_unknown, kept_at, sized, unknown_at}
 use Rattle.layout_printer.specs.declared.sizes.Sizes.{Sizes}
-use Rattle.layout_printer.proofs.Ways.{chain_less, chain_more, end_size, got_other, got_same}
+use Rattle.layout_printer.proofs.Ways.{chain_less, chain_more, end_size}
 use Rattle.layout_printer.proofs.Ways.{on_last, on_more, on_new, past_none, size_link, void_none}
-use Rattle.layout_printer.proofs.Ways.{within}
 
 -- where nothing is known of the size of what a reference is to
 number_is : (z y : ℕ) (o : Option (Option (Option ℕ))) → if_unknown z o ≡ Some y
@@ -36,7 +36,7 @@ unknown_is found (Node z) y e =
 
 known_is : (found : List (Option (Option ℕ))) (x : ℕ) (o : Option (Option (Option ℕ)))
     → slice_get found x ≡ o → x < length found → if_unknown x o ≡ None → IsKnown found x
-known_is found x None at lt e = absurd (within found x lt at)
+known_is found x None at lt e = absurd (slice_get_none found x lt at)
 known_is found x (Some None) at lt e = absurd (none-some x (sym e))
 known_is found x (Some (Some o)) at lt e = (o, at)
 
@@ -52,9 +52,9 @@ stays_set found y o lt z k = by (eqb z y) refl
     by true e = (
       o,
       subst (λ (n : ℕ). slice_get (set found y (Some o)) n ≡ Some (Some o))
-          (sym (eqb-true z y e)) (got_same found y (Some o) lt),
+          (sym (eqb-true z y e)) (slice_get_set found y (Some o) lt),
     )
-    by false e = (k.0, got_other found y z (Some o) (differ z y e) ∙ k.1)
+    by false e = (k.0, slice_get_set_other found y z (Some o) (differ z y e) ∙ k.1)
 
 -- the sizes known on the way from a type: the old ones, and none for those of the path
 pub record IsFollowing (types : List CType) (old found : List (Option (Option ℕ))) (path : List ℕ)
@@ -94,10 +94,11 @@ follow_on types old found path at x y t f e there =
           (record { t = t; here = there; leads = refl });
       none = λ z m. ⊎_elim
           (λ (o : IsOn z path).
-          got_other found y z (Some None) (λ (q : z ≡ y). none-some None (same_Some None (Some None)
-          (sym u.1 ∙ ap (slice_get found) (sym q) ∙ f.none z o))) ∙ f.none z o)
+          slice_get_set_other found y z (Some None) (λ (q : z ≡ y). none-some None
+          (same_Some None (Some None) (sym u.1 ∙ ap (slice_get found) (sym q) ∙ f.none z o)))
+          ∙ f.none z o)
           (λ (q : z ≡ y). subst (λ (n : ℕ). slice_get new n ≡ Some (Some None)) (sym q)
-          (got_same found y (Some None) lt))
+          (slice_get_set found y (Some None) lt))
           (on_last z y path m);
       right = λ z o h. right z o h (eqb z y) refl;
       stays = λ z k. stays z (f.stays z k);
@@ -106,7 +107,7 @@ follow_on types old found path at x y t f e there =
             None,
             subst
                 (λ (n : ℕ). slice_get new n ≡ Some (Some None)) is
-                (got_same found y (Some None) lt),
+                (slice_get_set found y (Some None) lt),
           ))
           (λ (k : IsKnown found x). stays x k)
           (f.started less));
@@ -119,7 +120,7 @@ follow_on types old found path at x y t f e there =
     right z o h false q = ⊎_elim
         (λ (k : slice_get old z ≡ Some (Some o)). inl k)
         (λ (m : IsOn z path). inr (on_more z y path m))
-        (f.right z o (sym (got_other found y z (Some None) (differ z y q)) ∙ h))
+        (f.right z o (sym (slice_get_set_other found y z (Some None) (differ z y q)) ∙ h))
 
 pub found_way : (types : List CType) (pointer : ℕ) (old found : List (Option (Option ℕ)))
     (path : List ℕ) (at : Ref) (x : ℕ)
@@ -197,14 +198,15 @@ return_on types pointer old found path rest size new y t r e there n =
         → (o ≡ size_of types pointer (Node z)) ⊎ IsOn z rest
     right lt is z o h true q =
         let same : z ≡ y = eqb-true z y q in
-        let got : new ≡ o = same_Some new o (same_Some (Some new) (Some o) (sym (got_same found y
-        (Some new) lt) ∙ ap (slice_get (set found y (Some new))) (sym same) ∙ h)) in
+        let got : new ≡ o = same_Some new o (same_Some (Some new) (Some o)
+        (sym (slice_get_set found y (Some new) lt)
+        ∙ ap (slice_get (set found y (Some new))) (sym same) ∙ h)) in
         inl (sym got ∙ is ∙ ap (λ (n : ℕ). size_of types pointer (Node n)) (sym same))
     right lt is z o h false q = ⊎_elim
         (λ (k : o ≡ size_of types pointer (Node z)). inl k)
         (λ (m : IsOn z path). ⊎_elim (λ (n : IsOn z rest). inr n)
         (λ (s : z ≡ y). absurd (differ z y q s)) (on_last z y rest (subst (IsOn z) e m)))
-        (r.right.right z o (sym (got_other found y z (Some new) (differ z y q)) ∙ h))
+        (r.right.right z o (sym (slice_get_set_other found y z (Some new) (differ z y q)) ∙ h))
 
 -- before anything is known
 nothing_known : (n y : ℕ) (o : Option ℕ)

@@ -10,6 +10,7 @@ use Rattle.std.proofs.lemmas.Bool.{cases_lt}
 use Rattle.c_model.specs.declared.graph.CType.{CType}
 use Rattle.c_model.specs.declared.graph.Ref.{Ref}
 use Rattle.c_model.specs.declared.graph.Ref.TheVariants.{Void, Node}
+use Rattle.dw_base.proofs.Lists.{slice_get_none}
 use Rattle.layout_printer.specs.Sizes.{fitting, size_by, size_from, size_in, size_of, size_rule}
 use Rattle.layout_printer.specs.Finding.{AreFound, IsChain, IsLink, IsOn, behind, behind_by}
 use Rattle.layout_printer.specs.Finding.{first_on, found_at, if_unknown, sized, unknown_at}
@@ -17,26 +18,6 @@ use Rattle.layout_printer.specs.declared.sizes.SizeRule.{SizeRule}
 use Rattle.layout_printer.specs.declared.sizes.SizeRule.TheVariants.{Stated, Pointer, Elements}
 use Rattle.layout_printer.specs.declared.sizes.SizeRule.TheVariants.{Target, Unsized}
 use Rattle.layout_printer.proofs.Chains.{size_fixed}
-
--- an element that is written
-pub got_same : {X : Type 0} (xs : List X) (i : ℕ) (y : X) → i < length xs
-    → slice_get (set xs i y) i ≡ Some y
-got_same [] i y lt = absurd (omega arith)
-got_same (x ∷ xs) zero y lt = refl
-got_same (x ∷ xs) (suc i) y lt = got_same xs i y (omega arith)
-
-pub got_other : {X : Type 0} (xs : List X) (i j : ℕ) (y : X) → (j ≡ i → ⊥)
-    → slice_get (set xs i y) j ≡ slice_get xs j
-got_other [] i j y ne = refl
-got_other (x ∷ xs) zero zero y ne = absurd (ne refl)
-got_other (x ∷ xs) zero (suc j) y ne = refl
-got_other (x ∷ xs) (suc i) zero y ne = refl
-got_other (x ∷ xs) (suc i) (suc j) y ne = got_other xs i j y (λ e. ne (ap suc e))
-
-pub within : {X : Type 0} (xs : List X) (i : ℕ) → i < length xs → slice_get xs i ≡ None → ⊥
-within [] i lt e = omega arith
-within (x ∷ xs) zero lt e = none-some x (sym e)
-within (x ∷ xs) (suc i) lt e = within xs i (omega arith) e
 
 -- of how many types nothing is known
 abbrev pub unknown_count : List (Option (Option ℕ)) → ℕ
@@ -189,7 +170,7 @@ module _ (types : List CType) (pointer : ℕ) where
           → option_flatten (option_flatten o) ≡ size_of types pointer (Node y)
       by None at e = sym (past_none (length types) y (slice_get_past types y (⊎_elim
           (λ (lt : y < length types). absurd (let l : y
-          < length found = (let c = f.covers in omega (arith, c)) in within found y l at))
+          < length found = (let c = f.covers in omega (arith, c)) in slice_get_none found y l at))
           (λ (le : length types ≤ y). le)
           (cases_lt y (length types)))))
       by (Some None) at e = absurd (none-some y (sym e))

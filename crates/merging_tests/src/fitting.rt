@@ -1,7 +1,7 @@
 //! What the choice asks of function entries, tested.
 ghost use Rattle.std.specs.Prelude.{◌<◌, ◌≤◌, All, IsTrue, length};
 ghost use Rattle.c_model.specs.Graph.{RefersWithin};
-ghost use Rattle.c_model.specs.Kinds.{HasNoNul};
+ghost use Rattle.dw_base.specs.Texts.{HasNoNul};
 
 use c_model::Graph;
 use func_types::Func;

@@ -35,14 +35,14 @@ kept_more types pointer style x s shown old new is l counted updates k q other e
         subst (λ (t : Counted). IsKept types pointer style q t) (same_Some shown other h) kept
     by false at h = k q other h
 
-there : (types : List CType) (x s : ℕ) (o : Option CType) → slice_get types x ≡ o
+place_within_step : (types : List CType) (x s : ℕ) (o : Option CType) → slice_get types x ≡ o
     → option_and_then (structure_by types x) o ≡ Some s → x < length types
-there types x s None at e = absurd (none-some s e)
-there types x s (Some t) at e = slice_get_within types x t at
+place_within_step types x s None at e = absurd (none-some s e)
+place_within_step types x s (Some t) at e = slice_get_within types x t at
 
 -- a place with a structure is one of the table
 pub place_within : (types : List CType) (x s : ℕ) → structure_at types x ≡ Some s → x < length types
-place_within types x s e = there types x s (slice_get types x) refl e
+place_within types x s e = place_within_step types x s (slice_get types x) refl e
 
 -- the line of a type: its name, and what is kept behind it
 pub line_is :

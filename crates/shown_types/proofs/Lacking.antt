@@ -4,7 +4,7 @@ use Rattle.std.proofs.Common.{Option, None, Some, inl, inr, refl, sym, ap, ◌�
 use Rattle.std.proofs.Common.{length, get_or, is_none, if◌then◌else◌, slice_get}
 use Rattle.std.specs.Option.{option_and_then, option_map, option_map_or}
 use Rattle.std.proofs.lemmas.Bool.{eqb-true}
-use Rattle.std.proofs.lemmas.Option.{slice_get_within, slice_get-get_or}
+use Rattle.std.proofs.lemmas.Option.{slice_get_within, slice_get-get_or, same_Some}
 use Rattle.btf_codec.specs.Fields.{id_of, target_at}
 use Rattle.c_model.specs.declared.kinds.TheConstants.{BTF_KIND_STRUCT, BTF_KIND_UNION}
 use Rattle.c_model.specs.declared.kinds.TheConstants.{BTF_KIND_TYPEDEF}
@@ -24,15 +24,12 @@ use Rattle.shown_types.proofs.Ranges.{find_none, find_at}
 abbrev Found : List CType → ℕ → Type 0
 Found types s = (u : CType) × (slice_get types s ≡ Some u) × (is_structure u ≡ true)
 
-some_is : (y s : ℕ) → ◌≡◌ {A = Option ℕ} (Some y) (Some s) → y ≡ s
-some_is y s e = cc
-
 nameless_found :
     (types : List CType) (y s : ℕ) (u : CType) (b c : Bool) → slice_get types y ≡ Some u
     → is_structure u ≡ b
     → (if b && not c then Some y else None) ≡ Some s → Found types s
 nameless_found types y s u true false at e h =
-    (u, subst (λ (k : ℕ). slice_get types k ≡ Some u) (some_is y s h) at, e)
+    (u, subst (λ (k : ℕ). slice_get types k ≡ Some u) (same_Some y s h) at, e)
 nameless_found types y s u true true at e h = absurd (cc)
 nameless_found types y s u false true at e h = absurd (cc)
 nameless_found types y s u false false at e h = absurd (cc)
@@ -56,7 +53,7 @@ by_found :
     then nameless_at types (target_at t.targets 0) else None) ≡ Some s
     → Found types s
 by_found types x s t true true d at e h =
-    (t, subst (λ (k : ℕ). slice_get types k ≡ Some t) (some_is x s h) at, e)
+    (t, subst (λ (k : ℕ). slice_get types k ≡ Some t) (same_Some x s h) at, e)
 by_found types x s t true false d at e h = absurd (cc)
 by_found types x s t false c true at e h = target_found types (target_at t.targets 0) s h
 by_found types x s t false c false at e h = absurd (cc)

@@ -7,40 +7,16 @@ use Rattle.std.specs.Map.{lookup}
 use Rattle.std.specs.Option.{option_flatten}
 use Rattle.std.specs.Str.{bytes_eq}
 use Rattle.std.proofs.Math.ListN.{set}
-use Rattle.std.proofs.lemmas.Bool.{cases_lt}
+use Rattle.std.proofs.lemmas.Bool.{cases_lt, and_parts}
 use Rattle.std.proofs.lemmas.List.{append-nil, length-set}
 use Rattle.std.proofs.lemmas.Option.{none-some, same_Some, slice_get_past}
 use Rattle.std.proofs.lemmas.Slice.Eq.{bytes_eq-Decides}
 use Rattle.c_model.specs.declared.graph.CType.{CType}
+use Rattle.dw_base.proofs.Lists.{slice_get_set, slice_get_set_other}
 use Rattle.shown_types.specs.Listed.{has_name, is_listed, name_at, places_named}
 use Rattle.shown_types.specs.ByName.{AreNamed, first_from, place_of}
 use Rattle.shown_types.proofs.Ranges.{range_next}
 use denote.Bor.{Bor}
-
--- an element that is written
-got_same : {X : Type 0} (xs : List X) (i : ℕ) (y : X) → i < length xs
-    → slice_get (set xs i y) i ≡ Some y
-got_same [] i y lt = absurd (omega arith)
-got_same (x ∷ xs) zero y lt = refl
-got_same (x ∷ xs) (suc i) y lt = got_same xs i y (omega arith)
-
-got_other : {X : Type 0} (xs : List X) (i j : ℕ) (y : X) → (j ≡ i → ⊥)
-    → slice_get (set xs i y) j ≡ slice_get xs j
-got_other [] i j y ne = refl
-got_other (x ∷ xs) zero zero y ne = absurd (ne refl)
-got_other (x ∷ xs) zero (suc j) y ne = refl
-got_other (x ∷ xs) (suc i) zero y ne = refl
-got_other (x ∷ xs) (suc i) (suc j) y ne = got_other xs i j y (λ e. ne (ap suc e))
-
--- equal names
-turned : (a b : List ℕ) (s t : Bool) → bytes_eq a b ≡ s → bytes_eq b a ≡ t → s ≡ t
-turned a b true true e f = refl
-turned a b false false e f = refl
-turned a b true false e f = sym ((bytes_eq-Decides b a).1 (sym ((bytes_eq-Decides a b).0 e))) ∙ f
-turned a b false true e f = sym e ∙ (bytes_eq-Decides a b).1 (sym ((bytes_eq-Decides b a).0 f))
-
-bytes_eq_turned : (a b : List ℕ) → bytes_eq a b ≡ bytes_eq b a
-bytes_eq_turned a b = turned a b (bytes_eq a b) (bytes_eq b a) refl refl
 
 -- the first place of a name, with one place more before
 first_step : (types : List CType) (name : List ℕ) (x : ℕ) → x < length types
@@ -94,12 +70,13 @@ named_more types x first new next later text lt showable is old updates n = reco
       ∙ sym (taken types name x lt showable);
   follows = λ y le listed. ⊎_elim
       (λ (less : x < y).
-      got_other next x y later (λ e. omega (arith, less, e)) ∙ n.follows y (omega arith) listed)
+      slice_get_set_other next x y later (λ e. omega (arith, less, e))
+      ∙ n.follows y (omega arith) listed)
       (λ (ge : y ≤ x).
       let same : x ≡ y = omega arith in
       subst (λ (z : ℕ).
       slice_get (set next x later) z ≡ Some (first_from types (name_at types z) (z + 1))) same
-      (got_same next x later (let c = n.covers in omega (arith, c, lt))
+      (slice_get_set next x later (let c = n.covers in omega (arith, c, lt))
       ∙ ap (λ (o : Option ℕ). Some o)
       (old ∙ n.heads text.now ∙ ap (λ (t : List ℕ). first_from types t (x + 1)) is)))
       (cases_lt x y);
@@ -201,11 +178,6 @@ gone_far types name all whole count at le g =
     sym (append-nil all) ∙ sym (ap
     (λ (n : ℕ). all ++ filter (has_name types name) (range_with_len g.from n)) none) ∙ g.rest
 
-both : (a b : Bool) → (a && b) ≡ true → (a ≡ true) × (b ≡ true)
-both true true e = (refl, refl)
-both true false e = absurd (cc)
-both false b e = absurd (cc)
-
 pub go_on : (types : List CType) (name all new whole : List ℕ) (count x : ℕ)
     (first : List (Bor (List ℕ) × ℕ)) (next : List (Option ℕ)) (at : Option ℕ)
     → AreNamed types 0 first next → IsGoing types name count all whole (Some x)
@@ -213,7 +185,7 @@ pub go_on : (types : List CType) (name all new whole : List ℕ) (count x : ℕ)
     → IsGoing types name (count + 1) new whole at
 go_on types name all new whole count x first next at n g pushed is =
     let s = find_yes (has_name types name) g.from (length types - g.from) x (sym g.next) in
-    let b = both (is_listed types x) (bytes_eq (name_at types x) name) s.holds in
+    let b = and_parts (is_listed types x) (bytes_eq (name_at types x) name) s.holds in
     let same : name_at types x ≡ name = (bytes_eq-Decides (name_at types x) name).0 b.1 in
     let all_of : g.from + (length types - g.from) - (x + 1) ≡ length types - (x + 1) =
     (let k = s.below in let f = s.from in omega (arith, k, f)) in

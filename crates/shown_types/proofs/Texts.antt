@@ -7,8 +7,10 @@ use Rattle.std.proofs.lemmas.List.Elements.{All-append, filter-append}
 use Rattle.std.proofs.lemmas.Grind.{flat_map-append}
 use Rattle.std.specs.List.{filter, flat_map}
 use Rattle.std.specs.Option.{option_or}
+use Rattle.std.proofs.Math.Bool.{or-false}
 use Rattle.c_model.specs.declared.graph.CType.{CType}
 use Rattle.layout_printer.specs.declared.slots.TypeLayout.{TypeLayout}
+use Rattle.dw_base.proofs.Bools.{or_true}
 use Rattle.shown_types.specs.declared.fault.ShowFault.{ShowFault}
 use Rattle.shown_types.specs.declared.fault.ShowFault.TheVariants.{NoName, NoSize, Memory}
 use Rattle.shown_types.specs.declared.showing.Style.{Style}
@@ -76,14 +78,6 @@ begun-push : (xs : List (List ℕ)) (x : List ℕ) → is_begun (xs ++ x ∷ [])
 begun-push [] x = refl
 begun-push (y ∷ ys) x = refl
 
-or-true : (b : Bool) → (b || true) ≡ true
-or-true true = refl
-or-true false = refl
-
-or-false : (b : Bool) → (b || false) ≡ b
-or-false true = refl
-or-false false = refl
-
 -- the text of one pair more
 more_text :
     (types : List CType) (style : Style) (pairs : List Pair) (p : Pair) (started : Bool) (b : Bool)
@@ -114,7 +108,7 @@ more_started :
     → (started || has_holes style p)
     ≡ is_begun (map (piece types style) (kept style (pairs ++ p ∷ [])))
 more_started types style pairs p started true e is =
-    ap (λ (c : Bool). started || c) e ∙ or-true started
+    ap (λ (c : Bool). started || c) e ∙ or_true started
     ∙ sym (ap is_begun (ap (map (piece types style)) (kept-push style pairs p true e)
     ∙ map-append (piece types style) (kept style pairs) (p ∷ []))
     ∙ begun-push (map (piece types style) (kept style pairs)) (piece types style p))

@@ -3,7 +3,8 @@ ghost use Rattle.std.specs.Prelude.{◌≡◌, ◌<◌, ◌^◌, ℕ, All, Some,
 ghost use Rattle.c_model.specs.Graph.{IsBelow, RefersWithin};
 ghost use Rattle.std.specs.Option.{option_copied};
 ghost use Rattle.btf_strings.specs.Kept.{IsSection};
-ghost use Rattle.c_model.specs.Kinds.{HasNoNul, IsWellFormed, row_of};
+ghost use Rattle.c_model.specs.Kinds.{IsWellFormed, row_of};
+ghost use Rattle.dw_base.specs.Texts.{HasNoNul};
 ghost use Rattle.small_graphs.specs.Rows.{parts_by};
 ghost use Rattle.c_model.specs.Partition.{label_at, targets_at};
 ghost use Rattle.c_model.specs.Forwards.{Tag, declaration_at, forward_at, HasFittingForwards};

@@ -10,6 +10,7 @@ use Rattle.std.proofs.lemmas.List.{length-replicate}
 use Rattle.std.proofs.lemmas.List.Folds.{find-append}
 use Rattle.c_model.specs.Graph.{Shape}
 use Rattle.c_model.specs.Forwards.{forward_at}
+use Rattle.dw_base.proofs.Options.{or_none}
 use Rattle.split_base.specs.Building.{plain_below, source_by, IsNoted}
 use Rattle.split_base.proofs.Placing.{range_push}
 
@@ -23,10 +24,6 @@ plain_next g places x place =
     let e : 0 + x ≡ x = omega arith in
     ap (find test) (range_push 0 x) ∙ find-append test (range_with_len 0 x) ((0 + x) ∷ [])
     ∙ ap (λ (y : ℕ). option_or (plain_below g places x place) (find test (y ∷ []))) e
-
-or_none : (o : Option ℕ) → option_or o None ≡ o
-or_none None = refl
-or_none (Some x) = refl
 
 other_place : (g : Shape) (places : List ℕ) (x place : ℕ) → (get_or places x 0 ≡ place → ⊥)
     → plain_below g places (x + 1) place ≡ plain_below g places x place

@@ -169,7 +169,7 @@ module _ (g : Shape) (i j : List (List ℕ)) (a : IsForwardIndex g i) (b : IsFor
   licensed_too p x y hx hy back (defines o c k) =
       defines (open_too y hy o) (member_too y x hy o c) (one_class_too p y hy o k)
 
-agrees_too : (g : Shape) (i j : List (List ℕ)) → IsForwardIndex g i → IsForwardIndex g j
+pub agrees_too : (g : Shape) (i j : List (List ℕ)) → IsForwardIndex g i → IsForwardIndex g j
     → (p : List ℕ) → AgreesWith g j p → AgreesWith g i p
 agrees_too g i j a b p w = record {
   covers = w.covers;

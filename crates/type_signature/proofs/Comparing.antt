@@ -1,5 +1,6 @@
 -- Where each node has targets of the same classes as another of its number, no class is split.
-use Rattle.std.proofs.Common.{◌≡◌, ◌<◌, ℕ, List, Some, None, cond, map, length, get_or, sym, ◌∙◌, ap}
+use Rattle.std.proofs.Common.{◌≡◌, ◌<◌, ℕ, List, Some, None, cond, map, length, get_or, sym, ◌∙◌}
+use Rattle.std.proofs.Common.{ap}
 use Rattle.c_model.specs.declared.graph.CType.{CType}
 use Rattle.c_model.specs.Partition.{classes_of, targets_at}
 use Rattle.packed_graph.specs.Packed.{ref_of}

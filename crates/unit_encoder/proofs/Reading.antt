@@ -30,14 +30,14 @@ unfolding reads
 held_none local from p nodes rows unlinked = both_ways local (λ n. []) (λ n. sources_from n []) p
     (λ n. sym (sources-none n)) (holds-none local (λ n. []) p nodes rows unlinked)
 
-one_more : (local : Bool) (p q : Piece) (file : ℕ) (t : UnitTypes)
+piece_push : (local : Bool) (p q : Piece) (file : ℕ) (t : UnitTypes)
     (prev : Result (List Read) UnitRefusal) → IsHeld local p prev
     → ((nodes : ℕ → List Source) → Holds local nodes nodes p
     → Holds local (λ n. nodes n ++ sources_of file (n + length p.nodes) t)
     (λ n. nodes n ++ sources_of file (n + length p.nodes) t) q)
     → IsHeld local q (both prev (Ok (record { file = file; found = t } ∷ [])))
-one_more local p q file t (Err e) h step = absurd h
-one_more local p q file t (Ok rs) h step =
+piece_push local p q file t (Err e) h step = absurd h
+piece_push local p q file t (Ok rs) h step =
     let r : Read = record { file = file; found = t } in
     both_ways local (λ n. sources_from n rs ++ sources_of file (n + length p.nodes) t)
     (λ n. sources_from n (rs ++ r ∷ [])) q
@@ -71,7 +71,7 @@ held_more local p q us k i u t lt is found h step =
     ≡ both (reads k (take i us)) (Ok (record { file = u.file; found = t } ∷ [])) =
     ap (reads k) split ∙ reads-append k (k + i) (take i us) (u ∷ []) (omega (arith, size))
     ∙ ap (both (reads k (take i us))) (reads-one (k + i) u (Ok t) found) in
-    subst (IsHeld local q) (sym e) (one_more local p q u.file t (reads k (take i us)) h step)
+    subst (IsHeld local q) (sym e) (piece_push local p q u.file t (reads k (take i us)) h step)
 
 pub held_end : (local : Bool) (p : Piece) (us : List FileUnit) (k i : ℕ) → length us ≤ i
     → IsHeld local p (reads k (take i us)) → IsHeld local p (reads k us)

@@ -6,7 +6,7 @@ use Rattle.std.proofs.Common.{ap, subst, ◌∙◌, arith}
 use Rattle.std.specs.Prelude.{All, slice_get}
 use Rattle.std.specs.Option.{option_map, option_map_or, option_and_then}
 use Rattle.std.proofs.lemmas.Option.{none-some, slice_get_within, get_or_from_slice_get}
-use Rattle.std.proofs.lemmas.List.{length_push}
+use Rattle.std.proofs.lemmas.List.{length_push, nil_from_length}
 use Rattle.std.proofs.lemmas.List.Elements.{All-nil, All-cons, All-head, All-tail, All-append}
 use Rattle.std.proofs.lemmas.List.Elements.{All-push, All-map, All-weaker}
 use Rattle.c_model.specs.declared.label.Label.{Label}
@@ -61,17 +61,13 @@ refs_count all file index seen rs (t ∷ ts) e =
     ts) (λ (more : List Ref) (h : refs_from all file index more ts ≡ Ok rs).
     refs_count all file index more rs ts h) e
 
-no_refs : (rs : List Ref) → length rs ≡ 0 → rs ≡ []
-no_refs [] e = refl
-no_refs (r ∷ rs) e = absurd (omega arith)
-
 node_fine : (s : Source) (rs : List Ref) → IsFormedSource s → length rs ≡ length s.targets
     → IsFine (record { label = s.label; targets = rs })
 node_fine s rs f count =
     record {
       well = f.well rs count;
       declares = λ (tag : Tag) (h : declared_tag s.label ≡ Some tag). let d = f.declares tag h in
-          (d.0, no_refs rs (count ∙ d.1));
+          (d.0, nil_from_length rs (count ∙ d.1));
     }
 
 one_node : (s : Source) (seen ns : List CType) (x : Result (List Ref) Out) (go : List CType

@@ -1,8 +1,9 @@
 -- Rows that are made of nodes: those of two lists, and the numbers that they have.
-use Rattle.std.proofs.Common.{◌≡◌, ◌+◌, ◌==◌, ◌&&◌, ◌++◌, ◌∷◌, [], ℕ, Bool, true, false, List}
+use Rattle.std.proofs.Common.{◌≡◌, ◌+◌, ◌==◌, ◌&&◌, ◌++◌, ◌∷◌, [], ℕ, Bool, false, List}
 use Rattle.std.proofs.Common.{Option, None, Some, length, map, refl, sym, ap, ◌∙◌, arith}
 use Rattle.std.proofs.Common.{append_assoc, append-nil}
 use Rattle.std.proofs.lemmas.List.{map-append}
+use Rattle.std.proofs.Math.Bool.{and-false}
 use Rattle.unit_graph.specs.declared.places.Row.{Row}
 use Rattle.unit_graph.specs.Sources.{Source}
 use Rattle.unit_graph.specs.Links.{is_at, at_offset, or_here, number_from}
@@ -48,18 +49,14 @@ rows_moved c k m (s ∷ ss) e =
 
 -- ---- numbers
 
-not_here : (k : ℕ) (o : Option ℕ) → or_here k false o ≡ o
+pub not_here : (k : ℕ) (o : Option ℕ) → or_here k false o ≡ o
 not_here k None = refl
 not_here k (Some n) = refl
-
-no_place : (b : Bool) → (b && false) ≡ false
-no_place true = refl
-no_place false = refl
 
 row_here : (p : ℕ × ℕ) (k file : ℕ) (at : Option ℕ) (rest : List Row) → number_in p
     (rows_at k file at ++ rest) ≡ or_here k (file == p.0 && at_offset p.1 at) (number_in p rest)
 row_here p k file None rest = sym (ap (λ (b : Bool). or_here k b (number_in p rest))
-    (no_place (file == p.0)) ∙ not_here k (number_in p rest))
+    (and-false (file == p.0)) ∙ not_here k (number_in p rest))
 row_here p k file (Some a) rest = refl
 
 pub numbers : (p : ℕ × ℕ) (k : ℕ) (ss : List Source)

@@ -30,10 +30,10 @@ only p k (suc n) (x ∷ ss) s e here away =
     ap (or_here k (is_at p x)) (only p (k + 1) n ss s e here
     (λ m t lt f. away (suc m) t (omega arith) f) ∙ ap (λ (j : ℕ). Some j) same)
 
-there : (file at f : ℕ) (o : Option ℕ) → f ≡ file → o ≡ Some at
+place_is : (file at f : ℕ) (o : Option ℕ) → f ≡ file → o ≡ Some at
     → (f == file && at_offset at o) ≡ true
-there file at f None ef eo = absurd (none-some at eo)
-there file at f (Some b) ef eo = let is : b ≡ at = same_Some b at eo in grind (arith, nat_tests)
+place_is file at f None ef eo = absurd (none-some at eo)
+place_is file at f (Some b) ef eo = let is : b ≡ at = same_Some b at eo in grind (arith, nat_tests)
 
 later : (file at f : ℕ) (o : Option ℕ) → ((b : ℕ) → o ≡ Some b
     → (file < f) ⊎ ((file ≡ f) × (at < b))) → (f == file && at_offset at o) ≡ false
@@ -48,7 +48,7 @@ pub place_found : (all : List Source) (file at m : ℕ) (s : Source) → PlacesR
     m ≡ Some s → s.file ≡ file → s.at ≡ Some at → at < 2 ^ 64 → number_of all file at ≡ Some m
 place_found all file at m s rise e ef ea small =
     rw (within at small)
-    (only (file, at) 0 m all s e (there file at s.file s.at ef ea)
+    (only (file, at) 0 m all s e (place_is file at s.file s.at ef ea)
     (λ k t lt f. later file at t.file t.at (λ b eb.
     subst (λ x. (x < t.file) ⊎ ((x ≡ t.file) × (at < b))) ef (rise m k s t at b lt e f ea eb)))
     ∙ (let same : 0 + m ≡ m = omega arith in ap (λ (j : ℕ). Some j) same))

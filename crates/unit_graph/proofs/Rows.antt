@@ -1,7 +1,7 @@
 -- Rows of places: how a stable sort keeps the number at a place, and where a search of ordered rows
 -- ends.
 use Rattle.std.proofs.Common.{◌≡◌, ℕ, zero, suc, ◌-◌, ◌<◌, ◌≤◌, ◌==◌, ◌&&◌, not, Bool, true, false}
-use Rattle.std.proofs.Common.{List, [], ◌∷◌, length, get_or, cond, nat_lt, Option, None, Some, refl}
+use Rattle.std.proofs.Common.{List, [], ◌∷◌, length, get_or, cond, nat_lt, None, Some, refl}
 use Rattle.std.proofs.Common.{sym, ap, ◌∙◌, arith}
 use Rattle.std.specs.Ordering.{nat_cmp, ordering_then, is_lt}
 use Rattle.std.specs.declared.cmp.Ordering.{Ordering}
@@ -14,6 +14,7 @@ use Rattle.std.proofs.lemmas.Bool.Decides.{nat_tests}
 use Rattle.std.proofs.lemmas.Cmp.{nat_cmp_total, on_total, then_total}
 use Rattle.std.proofs.lemmas.List.Elements.{filter_agree}
 use Rattle.std.proofs.lemmas.List.Sorted.{ranks_by, sorted_far}
+use Rattle.unit_graph.proofs.Numbering.{not_here}
 use Rattle.unit_graph.specs.declared.places.Row.{Row}
 use Rattle.unit_graph.specs.Links.{or_here}
 use Rattle.unit_graph.specs.Numbers.{row_is_at, row_is_up_to, number_in, IsNotAfter, IsInOrder}
@@ -72,16 +73,12 @@ tie : (a b c d : ℕ) → (not (is_lt (ordering_then (nat_cmp a c) (nat_cmp b d)
     && not (is_lt (ordering_then (nat_cmp c a) (nat_cmp d b)))) ≡ (c == a && d == b)
 tie a b c d = grind (arith, nat_tests)
 
-here_not : (k : ℕ) (o : Option ℕ) → or_here k false o ≡ o
-here_not k None = refl
-here_not k (Some n) = refl
-
 kept_one : (p : ℕ × ℕ) (r : Row) (rest kept : List Row) (t : Bool) → row_is_at p r ≡ t
     → number_in p rest ≡ number_in p kept
     → or_here r.number t (number_in p rest) ≡ number_in p (cond t (r ∷ kept) kept)
 kept_one p r rest kept true e h =
     ap (or_here r.number true) h ∙ ap (λ (t : Bool). or_here r.number t (number_in p kept)) (sym e)
-kept_one p r rest kept false e h = here_not r.number (number_in p rest) ∙ h
+kept_one p r rest kept false e h = not_here r.number (number_in p rest) ∙ h
 
 of_filter : (p : ℕ × ℕ) (rows : List Row)
     → number_in p rows ≡ number_in p (filter (row_is_at p) rows)

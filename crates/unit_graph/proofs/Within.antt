@@ -50,7 +50,7 @@ index_below all index r true t e =
     subst (IsBelow (length all)) (same_ref (Node index) r e) (ltb-true index (length all) t)
 index_below all index r false t e = subst (IsBelow (length all)) (same_ref Void r e) tt
 
-ref_below : (all : List Source) (file index : ℕ) (t : Target) (r : Ref)
+pub ref_below : (all : List Source) (file index : ℕ) (t : Target) (r : Ref)
     → ref_of all file index t ≡ Ok r → IsBelow (length all) r
 ref_below all file index targets.Void r e = subst (IsBelow (length all)) (same_ref Void r e) tt
 ref_below all file index targets.Index r e =

@@ -4,9 +4,8 @@ use Rattle.std.proofs.Common.{◌∷◌, length, Option, None, Some, Result, Ok,
 use Rattle.std.proofs.Common.{subst}
 use Rattle.std.specs.Prelude.{All}
 use Rattle.std.proofs.lemmas.List.Elements.{All-nil, All-cons, All-head, All-tail}
-use Rattle.dw_base.specs.Texts.{text_of}
+use Rattle.dw_base.specs.Texts.{text_of, HasNoNul}
 use Rattle.dw_base.specs.declared.numbers.Order.{Order}
-use Rattle.c_model.specs.Kinds.{HasNoNul}
 use Rattle.dwarf_abbrev.specs.Declarations.{Declaration}
 use Rattle.dwarf_abbrev.specs.declared.spec.Spec.{Spec}
 use Rattle.dwarf_forms.specs.declared.fault.FormFault.{FormFault}
@@ -21,7 +20,8 @@ use Rattle.entry_tree.specs.Items.{item_at, coming}
 use Rattle.entry_tree.specs.Items.Standing.{nothing, null, entry}
 use Rattle.entry_tree.specs.Reads.{and_then, values_at, value_with}
 use Rattle.entry_tree.specs.declared.fault.WalkFault.{WalkFault}
-use Rattle.c_types.proofs.Formed.Names.{IsNamedCleanly, text_clean}
+use Rattle.dw_base.proofs.Texts.{text_of_no_nul}
+use Rattle.c_types.proofs.Formed.Names.{IsNamedCleanly}
 
 abbrev pub IsCleanPlain : Plain → Type 0
 IsCleanPlain (text t) = HasNoNul t
@@ -54,7 +54,7 @@ text_at_clean unit at attribute x e =
     (h : ◌≡◌ {A = Result (List ℕ × ℕ) FormFault} (Ok (t, at + length t + 1)) (Ok x)).
     subst (λ (z : List ℕ × ℕ). HasNoNul z.0) (same (t, at + length t + 1) x h)
     (cut_clean attribute t (text_of unit at)
-    (λ (u : List ℕ) (k : text_of unit at ≡ Some u). text_clean unit u at k) is)) e
+    (λ (u : List ℕ) (k : text_of unit at ≡ Some u). text_of_no_nul unit u at k) is)) e
 
 read_clean : (l : Layout) (form : ℕ) (unit : List ℕ) (at : ℕ) (order : Order) (spec : Spec)
     (x : Plain × ℕ) → read_at l form unit at order spec ≡ Ok x → IsCleanPlain x.0

@@ -5,7 +5,9 @@ use Rattle.std.proofs.Common.{refl, ap, ◌∙◌, arith}
 use Rattle.std.specs.Prelude.{All}
 use Rattle.std.proofs.lemmas.Bool.{ne_eqb}
 use Rattle.std.proofs.lemmas.List.{length-map}
-use Rattle.c_model.specs.Kinds.{PartRow, HasNoNul}
+use Rattle.std.proofs.Math.Bool.{and-false}
+use Rattle.c_model.specs.Kinds.{PartRow}
+use Rattle.dw_base.specs.Texts.{HasNoNul}
 use Rattle.dwarf_forms.specs.Meanings.{Sections}
 use Rattle.entry_tree.specs.Items.{Given}
 use Rattle.type_attributes.specs.declared.number.Number.{Number}
@@ -44,18 +46,13 @@ bare_row_formed : (c : Sections) (e : Given) (declared : Bool) → IsNamedCleanl
 bare_row_formed c e declared clean none =
     bare_formed (name_in_full (name_asked c e)) (name_clean c e clean)
 
--- one that isn't bare has no name or some enumerators
-and_false : (b : Bool) → (b && false) ≡ false
-and_false true = refl
-and_false false = refl
-
 not_bare : (declared some : Bool) (name : List ℕ) (count : ℕ) → (some ≡ true → 0 < count)
     → (declared || (not some && not (is_empty name))) ≡ false
     → (nat_lt 0 (length name) && (count == 0)) ≡ false
 not_bare true some name count has e = cc
 not_bare false true name count has e = let k : (count == 0) ≡ false =
     ne_eqb count 0 (λ (z : count ≡ 0). omega (arith, has refl)) in
-    ap (λ (b : Bool). nat_lt 0 (length name) && b) k ∙ and_false (nat_lt 0 (length name))
+    ap (λ (b : Bool). nat_lt 0 (length name) && b) k ∙ and-false (nat_lt 0 (length name))
 not_bare false false [] count has e = refl
 not_bare false false (b ∷ bs) count has e = cc
 

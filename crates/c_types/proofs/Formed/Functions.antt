@@ -6,7 +6,8 @@ use Rattle.std.proofs.lemmas.Bool.{ltb-false}
 use Rattle.std.proofs.lemmas.List.{length-append, length-map}
 use Rattle.std.proofs.lemmas.List.Elements.{All-nil, All-cons, All-append, All-map, All-weaker}
 use Rattle.c_model.specs.declared.label.Part.{Part}
-use Rattle.c_model.specs.Kinds.{PartRow, HasNoNul, FitsPart, FitsParts, parameters}
+use Rattle.c_model.specs.Kinds.{PartRow, FitsPart, FitsParts, parameters}
+use Rattle.dw_base.specs.Texts.{HasNoNul}
 use Rattle.dwarf_forms.specs.Meanings.{Sections}
 use Rattle.entry_tree.specs.Items.{Given}
 use Rattle.type_attributes.specs.declared.fault.TypeFault.TheVariants.{TooMany}

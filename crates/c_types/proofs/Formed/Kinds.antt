@@ -9,7 +9,8 @@ use Rattle.c_model.specs.declared.label.Part.{Part}
 use Rattle.c_model.specs.declared.label.Family.TheVariants.{Structure, Union, Enumeration}
 use Rattle.c_model.specs.declared.graph.Ref.{Ref}
 use Rattle.c_model.specs.Kinds.{Row, row_of, plain_row, linked_row, sized_row, members, parameters}
-use Rattle.c_model.specs.Kinds.{enumerators, word, HasNoNul, FitsParts, part_targets}
+use Rattle.c_model.specs.Kinds.{enumerators, word, FitsParts, part_targets}
+use Rattle.dw_base.specs.Texts.{HasNoNul}
 use Rattle.c_model.specs.Forwards.{Tag, declared_tag}
 use Rattle.type_attributes.specs.Labels.{plain_label}
 use Rattle.c_types.specs.Arrays.{array_label}

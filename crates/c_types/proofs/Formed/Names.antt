@@ -1,12 +1,11 @@
 -- Names have no NUL: they are texts of sections, which end before one, or values of their own.
-use Rattle.std.proofs.Common.{◌≡◌, ◌≢◌, ℕ, ◌==◌, ◌||◌, Bool, true, false, List, [], ◌∷◌, drop}
-use Rattle.std.proofs.Common.{Option, None, Some, Result, Ok, Err, if◌then◌else◌, refl, subst}
+use Rattle.std.proofs.Common.{◌≡◌, ◌≢◌, ℕ, ◌==◌, ◌||◌, Bool, true, false, List, [], ◌∷◌}
+use Rattle.std.proofs.Common.{Option, None, Some, Result, Ok, Err, refl, subst}
 use Rattle.std.specs.Option.{option_map}
 use Rattle.std.proofs.lemmas.Bool.{eqb-false}
 use Rattle.std.proofs.lemmas.List.Elements.{All-nil, All-cons}
 use Rattle.dw_base.specs.Numbers.{number_of}
-use Rattle.dw_base.specs.Texts.{text_from, text_of}
-use Rattle.c_model.specs.Kinds.{HasNoNul}
+use Rattle.dw_base.specs.Texts.{text_of, HasNoNul}
 use Rattle.dwarf_forms.specs.declared.fault.FormFault.{FormFault}
 use Rattle.dwarf_forms.specs.declared.layout.Kind.{Kind}
 use Rattle.dwarf_forms.specs.declared.layout.Kind.TheVariants.{Strp, LineStrp, Strx}
@@ -18,29 +17,12 @@ use Rattle.entry_tree.specs.Items.{Given}
 use Rattle.entry_tree.specs.Reads.{value_with}
 use Rattle.type_attributes.specs.Attributes.{asked, text_asked, name_asked, name_in_full}
 use Rattle.dwarf_abbrev.specs.declared.constants.TheConstants.{DW_AT_name}
+use Rattle.dw_base.proofs.Texts.{text_of_no_nul}
 
 -- a text that is an entry's own value has no NUL
 abbrev pub IsNamedCleanly : Given → Type 0
 IsNamedCleanly e = (attribute : ℕ) (v : Shown) (t : List ℕ) → value_with attribute e.values ≡ Some v
     → v.value ≡ text t → HasNoNul t
-
-first : (b : ℕ) (t : List ℕ) (z : Bool) → (b == 0) ≡ z → (o : Option (List ℕ))
-    → ((u : List ℕ) → o ≡ Some u → HasNoNul u)
-    → (if z then Some [] else option_map (λ (rest : List ℕ). b ∷ rest) o) ≡ Some t → HasNoNul t
-first b t true z o ih e = let q : [] ≡ t = cc in subst HasNoNul q (All-nil (λ (byte : ℕ). byte ≢ 0))
-first b t false z None ih e = cc
-first b t false z (Some u) ih e = let q : b ∷ u ≡ t = cc in
-    subst HasNoNul q (All-cons (λ (byte : ℕ). byte ≢ 0) b u (eqb-false b 0 z) (ih u refl))
-
-from_clean : (bs t : List ℕ) → text_from bs ≡ Some t → HasNoNul t
-unfolding text_from
-from_clean [] t e = cc
-from_clean (b ∷ bs) t e = first b t (b == 0) refl (text_from bs)
-    (λ (u : List ℕ) (h : text_from bs ≡ Some u). from_clean bs u h) e
-
-pub text_clean : (bytes t : List ℕ) (at : ℕ) → text_of bytes at ≡ Some t → HasNoNul t
-unfolding text_of
-text_clean bytes t at e = from_clean (drop at bytes) t e
 
 out_clean : (offset : ℕ) (n : List ℕ) (o : Option (List ℕ))
     → ((t : List ℕ) → o ≡ Some t → HasNoNul t) → or_out offset o ≡ Ok n → HasNoNul n
@@ -49,7 +31,7 @@ out_clean offset n (Some t) clean e = let q : t ≡ n = cc in subst HasNoNul q (
 
 string_clean : (section n : List ℕ) (offset : ℕ) → string_at section offset ≡ Ok n → HasNoNul n
 string_clean section n offset e = out_clean offset n (text_of section offset)
-    (λ (t : List ℕ) (h : text_of section offset ≡ Some t). text_clean section t offset h) e
+    (λ (t : List ℕ) (h : text_of section offset ≡ Some t). text_of_no_nul section t offset h) e
 
 through_clean : (strings n : List ℕ) (index : ℕ) (o : Option ℕ) → through strings index o ≡ Ok n
     → HasNoNul n

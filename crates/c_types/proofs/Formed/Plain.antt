@@ -5,7 +5,8 @@ use Rattle.std.proofs.Common.{if◌then◌else◌, refl, arith}
 use Rattle.std.proofs.lemmas.Bool.{ltb-true, and_parts}
 use Rattle.std.proofs.lemmas.Bool.Decides.{nat_tests}
 use Rattle.std.proofs.lemmas.Option.{none-some}
-use Rattle.c_model.specs.Kinds.{row_of, linked_row, HasNoNul}
+use Rattle.c_model.specs.Kinds.{row_of, linked_row}
+use Rattle.dw_base.specs.Texts.{HasNoNul}
 use Rattle.c_model.specs.Forwards.{Tag, declared_tag}
 use Rattle.dwarf_forms.specs.Meanings.{Sections}
 use Rattle.entry_tree.specs.Items.{Given}

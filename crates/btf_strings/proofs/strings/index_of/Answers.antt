@@ -1,10 +1,10 @@
 use Rattle.std.proofs.Common.{◌≡◌, ℕ, List, Some, refl, ap, arith}
 use Rattle.dw_base.specs.Texts.{text_of}
+use Rattle.dw_base.proofs.Texts.{text_within}
 use Rattle.btf_strings.specs.Names.{least_below}
 use Rattle.btf_strings.specs.Kept.{value_of}
 use denote.Bor.{Bor}
-use Rattle.btf_strings.proofs.Index.{one_more, all_indexed}
-use Rattle.btf_strings.proofs.Texts.{text_within}
+use Rattle.btf_strings.proofs.Index.{index_push, all_indexed}
 use Rattle.btf_strings.proofs.strings.index_of.Goals as goal
 
 pub loop-name-init : goal.loop-name-init
@@ -39,7 +39,7 @@ loop-name-smaller c =
 pub loop-name-preserved : goal.loop-name-preserved
 loop-name-preserved c =
     let e : text_of c.args.section.now c.loop-name.at ≡ Some c.bytes-text.result.now = cc in
-    one_more c.args.section.now c.bytes-text.result.now c.loop-name.at c.loop-name.held.entries
+    index_push c.args.section.now c.bytes-text.result.now c.loop-name.at c.loop-name.held.entries
     c.note.new.held.entries e c.loop-name.invariant c.in_ok-note.ensures
 
 pub returns : goal.returns

@@ -10,7 +10,7 @@ use Rattle.dwarf_abbrev.specs.Table.{declaration_at, table_at, ◌>>=◌}
 use Rattle.dwarf_abbrev.specs.declared.row.Row.{Row}
 use Rattle.dwarf_abbrev.specs.declared.fault.AbbrevFault.{AbbrevFault}
 use Rattle.dwarf_abbrev.specs.declared.fault.AbbrevFault.TheVariants.{AbbrevTruncated}
-use Rattle.dwarf_abbrev.proofs.Placing.{one_more, declarations_length}
+use Rattle.dwarf_abbrev.proofs.Placing.{places_push, declarations_length}
 use Rattle.dwarf_abbrev.proofs.Faults.{fault_passed}
 use Rattle.dwarf_abbrev.proofs.abbrevs.read_table.Goals as goal
 
@@ -70,7 +70,7 @@ loop-preserved c =
     let p' : Places c.loop.others c.note_place.new.others c.in-Some.row.code
     (length (declarations_of c.loop.rows.items)) = rw n at p in
     rw v (record {
-      placed = one_more (declarations_of c.loop.rows.items) (declaration_of c.in-Some.row)
+      placed = places_push (declarations_of c.loop.rows.items) (declaration_of c.in-Some.row)
           c.loop.others c.note_place.new.others c.loop.invariant.placed f p'.0 p'.1;
       so_far = goes_on (declaration_at c.args.bytes.now) AbbrevTruncated (length c.args.bytes.now)
           c.loop.counter c.loop.at c.in_ok-found.after (declarations_of c.loop.rows.items)

@@ -1,5 +1,5 @@
 use Rattle.std.proofs.Common.{◌≡◌, ℕ, List, length, sym, ap, arith}
-use Rattle.dwarf_forms.proofs.Texts.{text_within}
+use Rattle.dw_base.proofs.Texts.{text_within}
 use Rattle.dwarf_forms.proofs.reading.text.Goals as goal
 
 pub overflow_add-end : goal.overflow_add-end

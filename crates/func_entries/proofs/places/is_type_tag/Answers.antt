@@ -2,8 +2,7 @@ use Rattle.std.proofs.Common.{◌∙◌, List, ℕ, sym, ap}
 use Rattle.std.specs.Prelude.{codes}
 use Rattle.std.specs.Str.{bytes_eq}
 use Rattle.dwarf_forms.specs.Meanings.{sections}
-use Rattle.c_types.proofs.OpenPointers.{tag_by}
-use Rattle.func_entries.proofs.Placed.{other_tag}
+use Rattle.c_types.proofs.OpenPointers.{tag_by, other_tag}
 use Rattle.func_entries.proofs.places.is_type_tag.Goals as goal
 
 pub returns-then-tag-ne-DW_TAG_GNU_annotation : goal.returns-then-tag-ne-DW_TAG_GNU_annotation

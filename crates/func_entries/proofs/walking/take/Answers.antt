@@ -2,8 +2,9 @@ use Rattle.std.proofs.Common.{◌≤◌, ◌++◌, ◌∷◌, ◌∙◌, ℕ, Li
 use Rattle.dwarf_forms.specs.Meanings.{sections}
 use Rattle.type_attributes.specs.declared.source.SourceType.{SourceType}
 use Rattle.type_attributes.specs.Scopes.{scope}
+use Rattle.c_types.proofs.Stack.{shallow_first}
 use Rattle.func_entries.specs.Walking.{prototypes_at}
-use Rattle.func_entries.proofs.Reading.{low_pointed, shallow_first, never}
+use Rattle.func_entries.proofs.Reading.{low_pointed, never}
 use Rattle.func_entries.proofs.walking.take.Goals as goal
 
 pub returns-clause-types : goal.returns-clause-types

@@ -3,7 +3,8 @@ use Rattle.std.proofs.Common.{subst, ◌∙◌, arith}
 use Rattle.std.specs.Prelude.{All}
 use Rattle.c_model.specs.declared.graph.CType.{CType}
 use Rattle.c_model.specs.Graph.{RefersWithin}
-use Rattle.c_model.specs.Kinds.{HasNoNul, IsWellFormed}
+use Rattle.c_model.specs.Kinds.{IsWellFormed}
+use Rattle.dw_base.specs.Texts.{HasNoNul}
 use Rattle.unit_graph.specs.Links.{IsGraphOf}
 use Rattle.unit_graph.specs.declared.links.Out.{Out}
 use Rattle.unit_graph.proofs.Formed.{IsFine, fits, well}

@@ -1,5 +1,5 @@
 use Rattle.std.proofs.Common.{ℕ, ◌<◌, get_or}
-use Rattle.c_model.specs.Kinds.{HasNoNul}
+use Rattle.dw_base.specs.Texts.{HasNoNul}
 use Rattle.func_types.specs.declared.protos.Func.{Func}
 use Rattle.merging_tests.proofs.fitting.are_named.Given as goal
 

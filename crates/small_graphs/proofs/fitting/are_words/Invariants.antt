@@ -1,5 +1,5 @@
 use Rattle.std.proofs.Common.{ℕ, ◌<◌, ◌^◌, get_or}
-use Rattle.c_model.specs.Kinds.{HasNoNul}
+use Rattle.dw_base.specs.Texts.{HasNoNul}
 use Rattle.c_model.specs.declared.label.Part.{Part}
 use Rattle.small_graphs.proofs.fitting.are_words.Given as goal
 

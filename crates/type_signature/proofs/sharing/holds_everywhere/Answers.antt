@@ -13,5 +13,6 @@ returns g c = λ yes.
     c.requires.workers refl (λ x. g.H.HoldsAt.holds c.args.of.now x) (λ s within x from to lt.
     let one : get_or answers s true ≡ true =
     ap (λ bs. get_or bs s true) (sym c.deref.ensures.value)
-    ∙ c.all_yes.ensures yes s true (omega (arith, c.in_ok-answers.ensures.len, c.deref.ensures.len)) in
+    ∙ c.all_yes.ensures yes s true
+    (omega (arith, c.in_ok-answers.ensures.len, c.deref.ensures.len)) in
     (c.in_ok-answers.ensures.each s true within).1.met one x from to lt)

@@ -5,14 +5,14 @@ use Rattle.btf_strings.proofs.Offsets.{offset_appended, offset_kept}
 use Rattle.btf_strings.proofs.strings.Strings.put.Goals as goal
 
 -- the name as it was passed on
-passed : (c : goal.In-Some) → c.new.result ≡ c.args.name
-passed c = c.new.ensures ∙ c.bytes-bytes.ensures
+name_as_given : (c : goal.In-Some) → c.new.result ≡ c.args.name
+name_as_given c = c.new.ensures ∙ c.bytes-bytes.ensures
 
 pub returns-in-Some-clause-list : goal.returns-in-Some-clause-list
 returns-in-Some-clause-list c =
     listed_after c.args.self.now c.args.self.now c.args.name
     (with_known c.args.self.now c.args.name c.in-Some.at (ap (λ (n : List ℕ).
-    offset_of c.args.self.now n) (sym (passed c)) ∙ sym c.in-Some.ensures.value))
+    offset_of c.args.self.now n) (sym (name_as_given c)) ∙ sym c.in-Some.ensures.value))
 
 missing : (c : goal.In_ok-append) → offset_of c.args.self.now c.args.name ≡ None
 missing c = ap (λ (n : List ℕ). offset_of c.args.self.now n)
