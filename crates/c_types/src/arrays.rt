@@ -122,7 +122,7 @@ fn with_length(lengths: Lengths, length: Option<u64>) -> Lengths
 
 /// One child more.
 fn with_child(lengths: Lengths, child: &Entry<'_, '_>) -> Lengths
-    ensures { result ≡ extended lengths (made_if 0x21 subrange_length child.now) }
+    ensures { result ≡ extended lengths (made_if DW_TAG_subrange_type subrange_length child.now) }
 {
     if child.tag() == DW_TAG_subrange_type {
         with_length(lengths, length(child))
@@ -164,7 +164,7 @@ fn two_targets(alloc: Global, target: Target) -> Result<Targets, AllocError>
 /// A child of an open array.
 pub(crate) fn meet_array(child: &Entry<'_, '_>, parent: &mut OpenArray)
     ensures lengths { parent.new.lengths
-        ≡ extended parent.old.lengths (made_if 0x21 subrange_length child.now) }
+        ≡ extended parent.old.lengths (made_if DW_TAG_subrange_type subrange_length child.now) }
     ensures at { parent.new.at ≡ parent.old.at }
     ensures target { parent.new.target ≡ parent.old.target }
     ensures least { parent.new.least ≡ parent.old.least }

@@ -1,6 +1,7 @@
 //! Enumerations.
 ghost use Rattle.std.specs.Prelude.{◌≡◌, ◌++◌, [], ◌∷◌, ◌||◌, ◌&&◌, ◌==◌, not, None, true, false};
 ghost use Rattle.std.specs.Prelude.{OnOk, IfSome};
+ghost use Rattle.dwarf_abbrev.specs.declared.constants.TheConstants.{DW_AT_declaration};
 ghost use Rattle.dwarf_forms.specs.Values.{IsContext};
 ghost use Rattle.dwarf_forms.specs.Meanings.{Sections, sections, Fits64};
 ghost use Rattle.type_attributes.specs.Scopes.{scope};
@@ -274,8 +275,8 @@ pub(crate) fn open_enumeration<'a>(
     declared: Option<TypeFault>,
 ) -> OpenEnumeration<'a>
     requires context { IsContext ctx.now.form }
-    requires defined { is_set (flag_asked 0x3c entry.now) ≡ false }
-    requires declared { declared ≡ noted None (flag_asked 0x3c entry.now).refused }
+    requires defined { is_set (flag_asked DW_AT_declaration entry.now) ≡ false }
+    requires declared { declared ≡ noted None (flag_asked DW_AT_declaration entry.now).refused }
     ensures { ComesTo (scope ctx.now) (Enumeration result)
         (enumeration_row (sections ctx.now.form) entry.now) }
 {

@@ -92,7 +92,7 @@ fn read_tag<'a>(
     least: &mut Option<TypeFault>,
 ) -> Option<Name<'a>>
     requires context { IsContext ctx.now }
-    requires annotation { entry.now.tag ≡ 0x6000 }
+    requires annotation { entry.now.tag ≡ DW_TAG_GNU_annotation }
     ensures tag { result ≡ (if is_type_tag (sections ctx.now) entry.now
         then Some (name_in_full (tag_asked (sections ctx.now) entry.now)) else None) }
     ensures noted { least.new ≡ noted least.old ((name_asked (sections ctx.now)

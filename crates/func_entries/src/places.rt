@@ -149,11 +149,11 @@ pub(crate) fn place(
         (sections ctx.now) (stands_in placing.old.pointers.items entry.now.depth)
         entry.now) }
     ensures arrays { OnOk result
-        (placing.new.has_array ≡ (placing.old.has_array || entry.now.tag == 0x01)) }
+        (placing.new.has_array ≡ (placing.old.has_array || entry.now.tag == DW_TAG_array_type)) }
     ensures deepening { OnOk result (AreDeepening placing.new.pointers.items) }
     ensures standing { OnOk result ((d : ℕ) → d ≤ entry.now.depth + 1
         → stands_in placing.new.pointers.items d ≡ (if entry.now.depth + 1 == d
-        then entry.now.tag == 0x0f else stands_in placing.old.pointers.items d)) }
+        then entry.now.tag == DW_TAG_pointer_type else stands_in placing.old.pointers.items d)) }
 {
     let depth = entry.depth();
     leave(&mut placing.pointers, depth);

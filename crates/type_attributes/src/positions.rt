@@ -95,7 +95,8 @@ fn constant_offset(bytes: Option<Option<i128>>) -> Option<Number>
 /// The bytes before the storage of a member; none where they are computed at run time.
 fn location(member: &Entry<'_, '_>, least: &mut Option<TypeFault>) -> Option<Number>
     ensures said { result ≡ location_in member.now }
-    ensures noted { least.new ≡ noted least.old (offset_asked 0x38 member.now).refused }
+    ensures noted { least.new
+        ≡ noted least.old (offset_asked DW_AT_data_member_location member.now).refused }
 {
     let bytes = offset(member, DW_AT_data_member_location, least);
     if is_given(member, DW_AT_data_member_location) {
@@ -125,10 +126,10 @@ fn storage(
     member: &Entry<'_, '_>,
     least: &mut Option<TypeFault>,
 ) -> Option<Number>
-    requires { has 0x0b member.now ≡ false
+    requires { has DW_AT_byte_size member.now ≡ false
         → AreKnown (scope ctx.now) ctx.now.extents }
     ensures said { result ≡ storage_in (scope ctx.now) member.now }
-    ensures noted { least.new ≡ noted least.old (constant_asked 0x0b member.now).refused }
+    ensures noted { least.new ≡ noted least.old (constant_asked DW_AT_byte_size member.now).refused }
 {
     if is_given(member, DW_AT_byte_size) {
         return signed_constant(member, DW_AT_byte_size, least);
@@ -195,11 +196,11 @@ fn first_in_storage(
     member: &Entry<'_, '_>,
     least: &mut Option<TypeFault>,
 ) -> Option<i128>
-    requires { is_little ctx.now.form.order ≡ true → has 0x0b member.now ≡ false
+    requires { is_little ctx.now.form.order ≡ true → has DW_AT_byte_size member.now ≡ false
         → AreKnown (scope ctx.now) ctx.now.extents }
     ensures said { result ≡ first_bit ctx.now.form.order (scope ctx.now) member.now }
-    ensures noted { least.new ≡ noted least.old ((offset_asked 0x38
-        member.now).refused ++ ((constant_asked 0x0c member.now).refused
+    ensures noted { least.new ≡ noted least.old ((offset_asked DW_AT_data_member_location
+        member.now).refused ++ ((constant_asked DW_AT_bit_offset member.now).refused
         ++ storage_refused ctx.now.form.order member.now)) }
 {
     let location = location(member, least);
@@ -223,7 +224,7 @@ pub fn position(
     member: &Entry<'_, '_>,
     least: &mut Option<TypeFault>,
 ) -> Option<u128>
-    requires member { member.now.tag ≡ 0x0d }
+    requires member { member.now.tag ≡ DW_TAG_member }
     requires ready { IsReady ctx.now member.now }
     ensures said { result ≡ (position_of (scope ctx.now) member.now).said }
     ensures noted { least.new
