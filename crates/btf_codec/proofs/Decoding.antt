@@ -13,6 +13,7 @@ use Rattle.c_model.specs.declared.graph.CType.{CType}
 use Rattle.c_model.specs.declared.graph.Ref.{Ref}
 use Rattle.c_model.specs.declared.graph.Ref.TheVariants.{Void, Node}
 use Rattle.c_model.specs.Kinds.{FitsParts, FitsPart, IsWellFormed, PartRow, Row, part_targets}
+use Rattle.c_model.specs.declared.kinds.TheConstants.{BTF_KIND_FUNC}
 use Rattle.btf_codec.specs.Fields.{Field, bit_of, fields_of, high_of, id_of, layout_of, low_of}
 use Rattle.btf_codec.specs.Fields.{part_fields, parts_fields, rest_by, target_at, vlen_of}
 use Rattle.btf_codec.specs.Spells.{StandsFor}
@@ -384,7 +385,7 @@ targets_count layout t w has =
     ∙ ap (λ (o : Option PartRow). w.row.targets + part_targets o (length t.label.parts)) has.is
     ∙ ap (λ (b : Bool). w.row.targets + (if b then length t.label.parts else 0)) has.refer
 
-vlen_plain : (l : Label) → (l.kind == 12) ≡ false → length l.parts ≡ vlen_of l
+vlen_plain : (l : Label) → (l.kind == BTF_KIND_FUNC) ≡ false → length l.parts ≡ vlen_of l
 vlen_plain l e = rw e refl
 
 first_and_rest : (rs : List Ref) (n : ℕ) → length rs ≡ 1 + n → target_at rs 0 ∷ drop 1 rs ≡ rs
@@ -447,10 +448,11 @@ rest_law (Some Link) s t w fs [] g h = absurd h
 rest_law (Some Link) s t w fs (a ∷ ws) g h =
     record {
       type =
-          same_type t 0 (if t.label.kind == 12 then vlen_of t.label else 0) [] (ref_of a ∷ [])
+          same_type t 0 (if t.label.kind == BTF_KIND_FUNC then vlen_of t.label else 0) []
+          (ref_of a ∷ [])
           (no_size t w (g.size_is refl))
-          (linkage (t.label.kind == 12) t.label.extra (length t.label.parts)
-          (λ (e : (t.label.kind == 12) ≡ false). no_extra t w (g.extra_is refl e)))
+          (linkage (t.label.kind == BTF_KIND_FUNC) t.label.extra (length t.label.parts)
+          (λ (e : (t.label.kind == BTF_KIND_FUNC) ≡ false). no_extra t w (g.extra_is refl e)))
           (no_parts t w g.parts_is)
           (one_target t.targets a (so_many t w 1 g.parts_is g.targets_is) h.0);
       rest = h.1;

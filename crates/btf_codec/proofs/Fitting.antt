@@ -11,6 +11,7 @@ use Rattle.c_model.specs.declared.label.Part.{Part}
 use Rattle.c_model.specs.declared.graph.CType.{CType}
 use Rattle.c_model.specs.declared.graph.Ref.{Ref}
 use Rattle.c_model.specs.declared.graph.Ref.TheVariants.{Void}
+use Rattle.c_model.specs.declared.kinds.TheConstants.{BTF_KIND_FUNC}
 use Rattle.btf_codec.specs.Fields.{Field, Named, Number, bit_of, fields_of, id_of, info_of}
 use Rattle.btf_codec.specs.Fields.{layout_of, parts_fields, rest_fields, target_at, vlen_of}
 use Rattle.btf_codec.specs.Reading.{checked, first_past, flag_in, head_of, ids_by, is_clean}
@@ -211,7 +212,8 @@ module _ (s : List ℕ) (w : ℕ → ℕ) (count : ℕ) where
   one_id x rs i b e = past_join (count + 1) x [] (word_below x rs i b e) refl
 
   no_vlen : (layout : Layout) (t : CType) → layout_of t.label.kind ≡ Some layout
-      → (t.label.kind == 12) ≡ false → length t.label.parts ≡ 0 → (vlen_of t.label == 0) ≡ true
+      → (t.label.kind == BTF_KIND_FUNC) ≡ false → length t.label.parts ≡ 0
+      → (vlen_of t.label == 0) ≡ true
   no_vlen layout t laid plain none = eq-eqb (vlen_of t.label) 0 (vlen_none t.label 0 plain none)
 
   names_join : (p : PartLayout) (n : ℕ) → w 0 < length s → first_past (length s)
@@ -269,7 +271,7 @@ module _ (s : List ℕ) (w : ℕ → ℕ) (count : ℕ) where
   rest_read Link t zero lies h = absurd h
   rest_read Link t (suc zero) lies h =
       record {
-        vlen = linked_vlen (t.label.kind == 12) t.label.extra
+        vlen = linked_vlen (t.label.kind == BTF_KIND_FUNC) t.label.extra
             (length t.label.parts) lies.extra lies.parts;
         third = refl;
         width = refl;

@@ -4,6 +4,7 @@ use Rattle.std.proofs.Common.{Some, if◌then◌else◌, refl, ap, subst, arith}
 use Rattle.std.proofs.lemmas.Bool.{eqb-true}
 use Rattle.c_model.specs.Kinds.{IsWellFormed, PartRow, Row, linked_row, row_of}
 use Rattle.c_model.specs.declared.graph.CType.{CType}
+use Rattle.c_model.specs.declared.kinds.TheConstants.{BTF_KIND_FUNC}
 use Rattle.btf_codec.specs.Fields.{bit_of, info_of, vlen_of}
 
 -- the numbers of a row fit their words
@@ -88,14 +89,14 @@ linkage row k extra is e lt =
     let x : 3 ≡ row.extra = ap (λ (r : Row). r.extra) q in
     omega arith
 
-vlen_by : (t : CType) (b : Bool) → (t.label.kind == 12) ≡ b → IsWellFormed t
+vlen_by : (t : CType) (b : Bool) → (t.label.kind == BTF_KIND_FUNC) ≡ b → IsWellFormed t
     → (if b then t.label.extra else length t.label.parts) ≤ 65535
 vlen_by t true e w =
     linkage w.row t.label.kind t.label.extra (eqb-true t.label.kind 12 e) w.of_kind w.extra
 vlen_by t false e w = w.few
 
 pub vlen_few : (t : CType) → IsWellFormed t → vlen_of t.label ≤ 65535
-vlen_few t w = vlen_by t (t.label.kind == 12) refl w
+vlen_few t w = vlen_by t (t.label.kind == BTF_KIND_FUNC) refl w
 
 bit_small : (b : Bool) → bit_of b ≤ 1
 bit_small true = omega arith

@@ -11,6 +11,7 @@ use Rattle.c_model.specs.declared.label.Label.{Label}
 use Rattle.c_model.specs.declared.label.Part.{Part}
 use Rattle.c_model.specs.declared.graph.CType.{CType}
 use Rattle.c_model.specs.Kinds.{FitsPart, IsWellFormed, Row}
+use Rattle.c_model.specs.declared.kinds.TheConstants.{BTF_KIND_FUNC}
 use Rattle.btf_codec.specs.Fields.{Field, Named, Number, bit_of, fields_of, high_of, info_of}
 use Rattle.btf_codec.specs.Fields.{layout_of, low_of, parts_fields, rest_by, rest_fields, vlen_of}
 use Rattle.btf_codec.specs.Reading.{first_past, flag_in, ids_by, is_clean, is_info, is_third}
@@ -91,7 +92,8 @@ flag_ok true false h t = cc
 flag_ok false true h t = refl
 flag_ok false false h t = t
 
-pub vlen_none : (l : Label) (v : ℕ) → (l.kind == 12) ≡ false → length l.parts ≡ v → vlen_of l ≡ v
+pub vlen_none : (l : Label) (v : ℕ) → (l.kind == BTF_KIND_FUNC) ≡ false → length l.parts ≡ v
+    → vlen_of l ≡ v
 vlen_none l v e h = rw e h
 
 linked_by : (b : Bool) (v : ℕ) → (if b then nat_lt v 3 else v == 0) ≡ true
