@@ -2,7 +2,6 @@
 pub mod Sources
 pub mod Files
 pub mod Apart
-pub mod Files
 pub mod Laws
 pub mod Links
 pub mod Numbers
