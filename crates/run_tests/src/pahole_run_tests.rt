@@ -230,7 +230,14 @@ const RUNS: &[Run] = &[
         None,
     ),
     (WORDS, Content::Absent, Some((1, 9)), 3, "pahole: c", None),
-    ("", Content::Absent, None, 2, "pahole: word 0: usage 6\n", None),
+    (
+        "",
+        Content::Absent,
+        None,
+        2,
+        "pahole: word 0: usage 6\n",
+        None,
+    ),
     (
         "--btf_base=b --btf_encode_detached=o a",
         ONE_INT,
@@ -351,7 +358,7 @@ fn tells_of_a_made_input(rt: HostRuntime) -> Result<(), Fail> {
 #[test]
 fn reads_units_at_once(rt: HostRuntime) -> Result<(), Fail> {
     let alloc = rt.alloc();
-    let gate = gates::Content::new();
+    let gate = gates::Held::new();
     let lists = file_with(alloc, Order::Little, &[LIST_HEAD, LIST_HEAD])?;
     let mut files = Vec::new(alloc);
     add_file(alloc, &mut files, b"a", lists.as_slice(), &[])?;
