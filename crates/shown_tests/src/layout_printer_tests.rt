@@ -352,7 +352,7 @@ const WIDE_BY_128: &[u8] = b"struct s {\n\
 /// line has, and its text; where nothing is said of cache lines, its line of sizes.
 type Printed = (&'static str, Rows, u32, u32, Option<u32>, &'static [u8]);
 
-const PRINTED: &[Printed] = &[
+const PRINTED: [Printed; 9] = [
     (
         "a typedef of a structure",
         REGISTRY,
@@ -442,7 +442,7 @@ fn text_by(
 
 /// The first type with another text.
 fn first_other_text(alloc: Global) -> Result<Option<&'static str>, Fail> {
-    for &(name, rows, id, structure, line, wanted) in PRINTED {
+    for (name, rows, id, structure, line, wanted) in PRINTED {
         if text_by(alloc, rows, id, structure, line)?.items() != wanted {
             return Ok(Some(name));
         }
