@@ -16,10 +16,10 @@ use Rattle.c_model.specs.Graph.{RefersWithin}
 use Rattle.c_model.specs.declared.graph.CType.{CType}
 use Rattle.btf_codec.specs.Fields.{fields_of}
 use Rattle.btf_codec.specs.Gives.{EndsWithNul, base_seen}
-use Rattle.btf_codec.specs.Reading.{◌>>=◌, Before, File, Shown, accepted, file_of, is_begun}
+use Rattle.btf_codec.specs.Reading.{◌>>=◌, Before, File, Decoded, accepted, file_of, is_begun}
 use Rattle.btf_codec.specs.Reading.{is_ended, is_header, is_wanted, magic_order, names_before}
 use Rattle.btf_codec.specs.Reading.{order_in, pieces_fault, pieces_of, places, sections_of}
-use Rattle.btf_codec.specs.Reading.{table_of, type_shown, types_before, types_of, wanted_order}
+use Rattle.btf_codec.specs.Reading.{table_of, decoded_type, types_before, types_of, wanted_order}
 use Rattle.btf_codec.specs.Reading.{word_in}
 use Rattle.btf_codec.specs.Spells.{BeginsEmpty, Spells, StandsFor, base_names, base_types}
 use Rattle.btf_codec.specs.Spells.{half_bytes, header_bytes, words_bytes}
@@ -318,7 +318,7 @@ spelled_parts before want order bytes body names pieces h ends o s strings cut f
     let count : length (types_before before) + length pieces ≡ base_types (base_seen before)
     + length (types_of (names_before before ++ names) order pieces) =
     let m = length-map pieces
-    (λ (p : List ℕ). type_shown (names_before before ++ names) (word_in order p)) in
+    (λ (p : List ℕ). decoded_type (names_before before ++ names) (word_in order p)) in
     omega (arith, m, types_seen before) in
     let words : List ℕ = pieces_words order pieces in
     let length_is : length body ≡ 4 * length (pieces_words order pieces) = ap (λ (xs : List ℕ).
@@ -371,21 +371,21 @@ file_spells before want order bytes names pieces h ends e =
 
 -- a table that was read, over the one before it
 pub record Taken (before : Option Before) (want : Option Order) (bytes : List ℕ)
-    (t : Shown) : Type 0 where
+    (t : Decoded) : Type 0 where
   pub own : List CType
   pub base_is : length (types_before before) ≡ t.base
   pub types_are : types_before before ++ own ≡ t.types
   pub spells : Spells (base_seen before) t.order own t.names bytes
   pub wanted : is_wanted want t.order ≡ true
 
-pub taken : (before : Option Before) (want : Option Order) (bytes : List ℕ) (t : Shown)
+pub taken : (before : Option Before) (want : Option Order) (bytes : List ℕ) (t : Decoded)
     → AreBytes bytes → EndsWithNul (names_before before) → table_of before want bytes ≡ Ok t
     → Taken before want bytes t
 unfolding table_of
 taken before want bytes t h ends e =
     let a = bound (file_of (is_some before) (length (types_before before))
     (length (names_before before)) want bytes)
-    (λ (f : File). let r : Result Shown BtfFault = Ok (record {
+    (λ (f : File). let r : Result Decoded BtfFault = Ok (record {
       order = f.order;
       base = length (types_before before);
       types = types_before before ++ types_of
@@ -394,20 +394,20 @@ taken before want bytes t h ends e =
     }) in r) t e in
     let p = file_parts (is_some before) (length (types_before before))
     (length (names_before before)) want bytes a.value a.is in
-    let q = subst (λ (f : File). ◌≡◌ {A = Result Shown BtfFault} (Ok (record {
+    let q = subst (λ (f : File). ◌≡◌ {A = Result Decoded BtfFault} (Ok (record {
       order = f.order;
       base = length (types_before before);
       types = types_before before ++ types_of (names_before
           before ++ f.names) f.order f.pieces;
       names = f.names;
     })) (Ok t)) (sym p.is) a.rest in
-    let s : ◌≡◌ {A = Shown} (record {
+    let s : ◌≡◌ {A = Decoded} (record {
       order = p.order;
       base = length (types_before before);
       types = types_before before ++ types_of (names_before before ++ p.names) p.order p.pieces;
       names = p.names;
     }) t = cc in
-    subst (λ (u : Shown). Taken before want bytes u) s (record {
+    subst (λ (u : Decoded). Taken before want bytes u) s (record {
       own = types_of (names_before before ++ p.names) p.order p.pieces;
       base_is = refl;
       types_are = refl;
@@ -425,13 +425,13 @@ own_are : (xs ys zs : List CType) (n : ℕ) → length xs ≡ n → xs ++ ys ≡
 own_are xs ys zs n l e = sym ((λ i. drop (sym l i) (sym e i)) ∙ drop-append_seam xs ys)
 
 pub record Shows (before : Option Before) (want : Option Order) (bytes : List ℕ)
-    (t : Shown) : Type 0 where
+    (t : Decoded) : Type 0 where
   pub base : t.base ≡ length (types_before before)
   pub first : take t.base t.types ≡ types_before before
   pub spelled : Spells (base_seen before) t.order (drop t.base t.types) t.names bytes
   pub wanted : is_wanted want t.order ≡ true
 
-pub shows : (before : Option Before) (want : Option Order) (bytes : List ℕ) (t : Shown)
+pub shows : (before : Option Before) (want : Option Order) (bytes : List ℕ) (t : Decoded)
     → AreBytes bytes → EndsWithNul (names_before before) → table_of before want bytes ≡ Ok t
     → Shows before want bytes t
 shows before want bytes t h ends e =

@@ -21,7 +21,7 @@ use Rattle.c_model.specs.declared.graph.CType.{CType}
 use Rattle.dw_base.proofs.Bools.{or_true}
 use Rattle.btf_codec.specs.Fields.{Field, fields_of}
 use Rattle.btf_codec.specs.Gives.{EndsWithNul, Fails, base_seen}
-use Rattle.btf_codec.specs.Reading.{Before, Shown, first_past, file_of, head_of, ids_by, is_begun}
+use Rattle.btf_codec.specs.Reading.{Before, Decoded, first_past, file_of, head_of, ids_by, is_begun}
 use Rattle.btf_codec.specs.Reading.{is_ended, is_header, is_wanted, names_before, names_by}
 use Rattle.btf_codec.specs.Reading.{order_in, pieces_fault, pieces_of, sections_of, table_of}
 use Rattle.btf_codec.specs.Reading.{types_before, types_of, vlen_in, word_in, words_at, words_fault}
@@ -31,7 +31,7 @@ use Rattle.btf_codec.specs.declared.fault.BtfFault.{BtfFault}
 use Rattle.btf_codec.specs.declared.fault.BtfFault.TheVariants.{BtfMagic, BtfHeader, BtfTruncated}
 use Rattle.btf_codec.specs.declared.fault.BtfFault.TheVariants.{BtfKind, BtfInfo, BtfName, BtfRef}
 use Rattle.btf_codec.specs.declared.fault.BtfFault.TheVariants.{BtfStrings, Memory}
-use Rattle.btf_codec.specs.declared.layout.Layout.{Layout}
+use Rattle.btf_codec.specs.declared.layout.KindLayout.{KindLayout}
 use Rattle.btf_codec.proofs.Accepted.{file_spells, length_words, names_seen, types_seen}
 use Rattle.btf_codec.proofs.Alone.{spelled_alone}
 use Rattle.btf_codec.proofs.Below.{no_fault_join}
@@ -92,9 +92,9 @@ no_fault : (s : List ℕ) (w : ℕ → ℕ) (count place id n : ℕ) → TypeRea
     → words_fault place id (length s) count w ≡ None
 no_fault s w count place id n r =
     no_fault_join place id (length s) count w
-    (ap (λ (o : Option Layout). first_past (length s) (names_by o w (vlen_in (w 1)))) r.laid
+    (ap (λ (o : Option KindLayout). first_past (length s) (names_by o w (vlen_in (w 1)))) r.laid
     ∙ r.names)
-    (ap (λ (o : Option Layout). first_past (count + 1) (ids_by o w (vlen_in (w 1)))) r.laid ∙ r.ids)
+    (ap (λ (o : Option KindLayout). first_past (count + 1) (ids_by o w (vlen_in (w 1)))) r.laid ∙ r.ids)
 
 first_fine : (order : Order) (place id limit count : ℕ) (p : List ℕ) (ps : List (List ℕ))
     → words_fault place id limit count (word_in order p) ≡ None
@@ -400,7 +400,7 @@ complete before want order own names bytes h ends p wanted =
     let k = file_spells before want order bytes names f.pieces h ends f.read in
     let same = spelled_alone (base_seen before) order own
     (types_of (names_before before ++ names) order f.pieces) names names bytes p k in
-    t ∙ ap (λ (ts : List CType). let r : Result Shown BtfFault = Ok
+    t ∙ ap (λ (ts : List CType). let r : Result Decoded BtfFault = Ok
     (record {
       order = order;
       base = length (types_before before);
@@ -409,7 +409,7 @@ complete before want order own names bytes h ends p wanted =
     }) in r) same.0
 
 -- what is refused for want of memory alone
-pub memory_alone : (e : BtfFault) (r : Result Shown BtfFault) (t : Shown) → Fails e r → r ≡ Ok t
+pub memory_alone : (e : BtfFault) (r : Result Decoded BtfFault) (t : Decoded) → Fails e r → r ≡ Ok t
     → e ≡ Memory
 memory_alone BtfMagic r t h f = cc
 memory_alone BtfHeader r t h f = cc

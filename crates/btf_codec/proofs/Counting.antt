@@ -9,9 +9,9 @@ use Rattle.c_model.specs.declared.graph.CType.{CType}
 use Rattle.c_model.specs.declared.graph.Ref.{Ref}
 use Rattle.btf_codec.specs.Fields.{Field, fields_of, layout_of, part_fields, parts_fields, rest_by}
 use Rattle.btf_codec.specs.Fields.{rest_fields, target_at}
-use Rattle.btf_codec.specs.declared.layout.Layout.{Layout}
-use Rattle.btf_codec.specs.declared.layout.Layout.TheVariants.{Int, Link, Array, Forward}
-use Rattle.btf_codec.specs.declared.layout.Layout.TheVariants.{TaggedLink, Float, Sized, Prototype}
+use Rattle.btf_codec.specs.declared.layout.KindLayout.{KindLayout}
+use Rattle.btf_codec.specs.declared.layout.KindLayout.TheVariants.{Int, Link, Array, Forward}
+use Rattle.btf_codec.specs.declared.layout.KindLayout.TheVariants.{TaggedLink, Float, Sized, Prototype}
 use Rattle.btf_codec.specs.declared.layout.PartLayout.{PartLayout}
 use Rattle.btf_codec.specs.declared.layout.PartLayout.TheVariants.{Member, Enumerator}
 use Rattle.btf_codec.specs.declared.layout.PartLayout.TheVariants.{WideEnumerator, Parameter}
@@ -32,7 +32,7 @@ length_parts layout n each (p ∷ ps) rs =
     )
 
 -- the fields of a type whose layout is known
-pub length_by : (t : CType) (o : Option Layout) → o ≡ layout_of t.label.kind
+pub length_by : (t : CType) (o : Option KindLayout) → o ≡ layout_of t.label.kind
     → length (fields_of t) ≡ 2 + length (rest_by o t.label t.targets)
 unfolding fields_of
 length_by t o e = rw (← e) (omega arith)
@@ -72,20 +72,20 @@ length_any Parameter (p ∷ ps) rs qs = omega (arith, length_any Parameter ps (d
 length_any Variable (p ∷ ps) rs qs = omega (arith, length_any Variable ps (drop 1 rs) (drop 1 qs))
 
 -- what the parts take is no more than what the type takes
-pub sized_fits : (layout : Layout) (parts : PartLayout) (t : CType) (ps : List Part) → layout
+pub sized_fits : (layout : KindLayout) (parts : PartLayout) (t : CType) (ps : List Part) → layout
     ≡ Sized parts → ps ≡ t.label.parts → length (rest_fields layout t.label t.targets) < 2 ^ 32
     → length (parts_fields parts ps []) < 2 ^ 32
 sized_fits layout parts t ps e p h =
     let g : length (rest_fields (Sized parts) t.label t.targets) < 2 ^ 32 =
-    subst (λ (l : Layout). length (rest_fields l t.label t.targets) < 2 ^ 32) e h in
+    subst (λ (l : KindLayout). length (rest_fields l t.label t.targets) < 2 ^ 32) e h in
     rw p (omega (arith, g, length_any parts t.label.parts [] t.targets))
 
-pub prototype_fits : (layout : Layout) (t : CType) (ps : List Part) → layout ≡ Prototype
+pub prototype_fits : (layout : KindLayout) (t : CType) (ps : List Part) → layout ≡ Prototype
     → ps ≡ t.label.parts → length (rest_fields layout t.label t.targets) < 2 ^ 32
     → length (parts_fields Parameter ps []) < 2 ^ 32
 prototype_fits layout t ps e p h =
     let g : length (rest_fields Prototype t.label t.targets) < 2 ^ 32 =
-    subst (λ (l : Layout). length (rest_fields l t.label t.targets) < 2 ^ 32) e h in
+    subst (λ (l : KindLayout). length (rest_fields l t.label t.targets) < 2 ^ 32) e h in
     rw p (omega (arith, g, length_any Parameter t.label.parts [] (drop 1 t.targets)))
 
 -- a type has six words at most besides those of its parts, and a part three
@@ -102,7 +102,7 @@ parts_at_most Parameter ps rs =
 parts_at_most Variable ps rs =
     omega (arith, length_parts Variable 3 (λ (p : Part) (r : Ref). refl) ps rs)
 
-rest_at_most : (o : Option Layout) (t : CType)
+rest_at_most : (o : Option KindLayout) (t : CType)
     → length (rest_by o t.label t.targets) ≤ 4 + 3 * length t.label.parts
 rest_at_most None t = omega arith
 rest_at_most (Some Int) t = omega arith

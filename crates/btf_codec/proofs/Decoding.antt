@@ -19,9 +19,9 @@ use Rattle.btf_codec.specs.Fields.{part_fields, parts_fields, rest_by, target_at
 use Rattle.btf_codec.specs.Spells.{StandsFor}
 use Rattle.btf_codec.proofs.KindTable.{kind_known, vlen_few}
 use Rattle.btf_codec.proofs.Shapes.{HasParts, PartShape, ShapeOf, Together, refers, together}
-use Rattle.btf_codec.specs.declared.layout.Layout.{Layout}
-use Rattle.btf_codec.specs.declared.layout.Layout.TheVariants.{Int, Link, Array, Forward}
-use Rattle.btf_codec.specs.declared.layout.Layout.TheVariants.{TaggedLink, Float, Sized, Prototype}
+use Rattle.btf_codec.specs.declared.layout.KindLayout.{KindLayout}
+use Rattle.btf_codec.specs.declared.layout.KindLayout.TheVariants.{Int, Link, Array, Forward}
+use Rattle.btf_codec.specs.declared.layout.KindLayout.TheVariants.{TaggedLink, Float, Sized, Prototype}
 use Rattle.btf_codec.specs.declared.layout.PartLayout.{PartLayout}
 use Rattle.btf_codec.specs.declared.layout.PartLayout.TheVariants.{Member, Enumerator}
 use Rattle.btf_codec.specs.declared.layout.PartLayout.TheVariants.{WideEnumerator, Parameter}
@@ -271,7 +271,7 @@ make k n f size extra parts targets rest =
       rest = rest;
     }
 
-by_layout : Option Layout → List ℕ → ℕ → List ℕ → Bool → ℕ → List ℕ → Back
+by_layout : Option KindLayout → List ℕ → ℕ → List ℕ → Bool → ℕ → List ℕ → Back
 by_layout None s k n f v ws = make k n f 0 0 [] [] ws
 by_layout (Some Int) s k n f v ws = make k n f (word ws 0) (word ws 1) [] [] (drop 2 ws)
 by_layout (Some Link) s k n f v ws =
@@ -430,7 +430,7 @@ prototype_back s t w fs a ws g first h =
       rest = p.rest;
     }
 
-rest_law : (o : Option Layout) (s : List ℕ) (t : CType) (w : IsWellFormed t) (fs : List Field)
+rest_law : (o : Option KindLayout) (s : List ℕ) (t : CType) (w : IsWellFormed t) (fs : List Field)
     (ws : List ℕ) → Together t.label.kind (Some w.row) o
     → AllZip (StandsFor s) (rest_by o t.label t.targets ++ fs) ws → TypeBack s t fs
     (by_layout o s t.label.kind t.label.name t.label.flag (vlen_of t.label) ws)

@@ -19,9 +19,9 @@ use Rattle.btf_codec.specs.Reading.{is_info, is_third, is_vlen, kind_in, may_fla
 use Rattle.btf_codec.specs.Reading.{part_width, places, type_width, vlen_in, words_at}
 use Rattle.btf_codec.specs.Spells.{StandsFor}
 use Rattle.btf_codec.specs.declared.fault.BtfFault.TheVariants.{BtfTruncated, BtfInfo}
-use Rattle.btf_codec.specs.declared.layout.Layout.{Layout}
-use Rattle.btf_codec.specs.declared.layout.Layout.TheVariants.{Int, Link, Array, Forward}
-use Rattle.btf_codec.specs.declared.layout.Layout.TheVariants.{TaggedLink, Float, Sized, Prototype}
+use Rattle.btf_codec.specs.declared.layout.KindLayout.{KindLayout}
+use Rattle.btf_codec.specs.declared.layout.KindLayout.TheVariants.{Int, Link, Array, Forward}
+use Rattle.btf_codec.specs.declared.layout.KindLayout.TheVariants.{TaggedLink, Float, Sized, Prototype}
 use Rattle.btf_codec.specs.declared.layout.PartLayout.{PartLayout}
 use Rattle.btf_codec.specs.declared.layout.PartLayout.TheVariants.{Member, Enumerator}
 use Rattle.btf_codec.specs.declared.layout.PartLayout.TheVariants.{WideEnumerator, Parameter}
@@ -29,8 +29,8 @@ use Rattle.btf_codec.specs.declared.layout.PartLayout.TheVariants.{Variable}
 use Rattle.btf_codec.proofs.Below.{id_below, offset_below, past_join}
 use Rattle.btf_codec.proofs.KindTable.{kind_known, vlen_few}
 use Rattle.btf_codec.proofs.Rows.{never_sized, row_by, well_laid}
-use Rattle.btf_codec.proofs.Showing.{fields_with, ids_sized, part_ids, part_names, shape_there}
-use Rattle.btf_codec.proofs.Showing.{vlen_none}
+use Rattle.btf_codec.proofs.Decoded.{fields_with, ids_sized, part_ids, part_names, shape_there}
+use Rattle.btf_codec.proofs.Decoded.{vlen_none}
 use Rattle.btf_codec.proofs.Splitting.{width_some}
 
 pub all_true : (a b : Bool) → a ≡ true → b ≡ true → (a && b) ≡ true
@@ -56,7 +56,7 @@ flags_hold : (f m : Bool) → (IsTrue f → IsTrue m) → (not f || m) ≡ true
 flags_hold true m h = h refl
 flags_hold false m h = refl
 
-flag_row : (layout : Layout) (k : ℕ) → (row_by layout k).flag ≡ may_flag k
+flag_row : (layout : KindLayout) (k : ℕ) → (row_by layout k).flag ≡ may_flag k
 flag_row Int k = refl
 flag_row Link k = refl
 flag_row Array k = refl
@@ -189,7 +189,7 @@ module _ (s : List ℕ) (w : ℕ → ℕ) (count : ℕ) where
       }
 
   -- what follows the name and the info word
-  record RestRead (layout : Layout) (k v m : ℕ) : Type 0 where
+  record RestRead (layout : KindLayout) (k v m : ℕ) : Type 0 where
     pub vlen : is_vlen layout k v ≡ true
     pub third : is_third layout (w 2) ≡ true
     pub width : type_width layout v ≡ suc (suc m)
@@ -197,7 +197,7 @@ module _ (s : List ℕ) (w : ℕ → ℕ) (count : ℕ) where
     pub ids : first_past (count + 1) (ids_by (Some layout) w v) ≡ None
 
   -- a type in the words from the first on
-  record Lies (layout : Layout) (t : CType) : Type 0 where
+  record Lies (layout : KindLayout) (t : CType) : Type 0 where
     pub laid : layout_of t.label.kind ≡ Some layout
     pub parts : FitsParts (row_by layout t.label.kind).parts t.label.parts
     pub extra : t.label.extra < (row_by layout t.label.kind).extra
@@ -211,7 +211,7 @@ module _ (s : List ℕ) (w : ℕ → ℕ) (count : ℕ) where
       → first_past (count + 1) (x ∷ []) ≡ None
   one_id x rs i b e = past_join (count + 1) x [] (word_below x rs i b e) refl
 
-  no_vlen : (layout : Layout) (t : CType) → layout_of t.label.kind ≡ Some layout
+  no_vlen : (layout : KindLayout) (t : CType) → layout_of t.label.kind ≡ Some layout
       → (t.label.kind == BTF_KIND_FUNC) ≡ false → length t.label.parts ≡ 0
       → (vlen_of t.label == 0) ≡ true
   no_vlen layout t laid plain none = eq-eqb (vlen_of t.label) 0 (vlen_none t.label 0 plain none)
@@ -235,7 +235,7 @@ module _ (s : List ℕ) (w : ℕ → ℕ) (count : ℕ) where
         names = names_join p n lies.name r.names;
         ids = ap (λ (xs : List ℕ). first_past (count + 1) xs)
             (ids_sized p w n (λ (q : p ≡ Parameter). never_sized t.label.kind (lies.laid
-            ∙ ap (λ (l : PartLayout). let o : Option Layout = Some (Sized l) in o) q))) ∙ r.ids;
+            ∙ ap (λ (l : PartLayout). let o : Option KindLayout = Some (Sized l) in o) q))) ∙ r.ids;
       })
 
   prototype_read : (t : CType) (m n : ℕ) → Lies Prototype t → n ≡ vlen_of t.label
@@ -252,7 +252,7 @@ module _ (s : List ℕ) (w : ℕ → ℕ) (count : ℕ) where
             (word_below (w 2) t.targets 0 lies.below f) r.ids;
       })
 
-  rest_read : (layout : Layout) (t : CType) (m : ℕ) → Lies layout t
+  rest_read : (layout : KindLayout) (t : CType) (m : ℕ) → Lies layout t
       → AllZip (StandsFor s) (rest_fields layout t.label t.targets) (words_at w 2 1 m)
       → RestRead layout t.label.kind (vlen_of t.label) m
   unfolding places
@@ -342,14 +342,14 @@ module _ (s : List ℕ) (w : ℕ → ℕ) (count : ℕ) where
 
   -- the whole type passes its checks
   pub record TypeRead (n : ℕ) : Type 0 where
-    pub layout : Layout
+    pub layout : KindLayout
     pub laid : layout_of (kind_in (w 1)) ≡ Some layout
     pub info : is_info layout (w 1) (w 2) ≡ true
     pub width : type_width layout (vlen_in (w 1)) ≡ n
     pub names : first_past (length s) (names_by (Some layout) w (vlen_in (w 1))) ≡ None
     pub ids : first_past (count + 1) (ids_by (Some layout) w (vlen_in (w 1))) ≡ None
 
-  read_by : (t : CType) (wf : IsWellFormed t) (layout : Layout) (m : ℕ) → Lies layout t
+  read_by : (t : CType) (wf : IsWellFormed t) (layout : KindLayout) (m : ℕ) → Lies layout t
       → wf.row ≡ row_by layout t.label.kind → w 1 ≡ info_of t.label
       → RestRead layout t.label.kind (vlen_of t.label) m → TypeRead (suc (suc m))
   read_by t wf layout m lies row e r =
@@ -387,7 +387,7 @@ module _ (s : List ℕ) (w : ℕ → ℕ) (count : ℕ) where
         ids = ap (λ (v : ℕ). first_past (count + 1) (ids_by (Some layout) w v)) ev ∙ r.ids;
       }
 
-  read_fields : (t : CType) (wf : IsWellFormed t) (layout : Layout) (n : ℕ) → layout_of t.label.kind
+  read_fields : (t : CType) (wf : IsWellFormed t) (layout : KindLayout) (n : ℕ) → layout_of t.label.kind
       ≡ Some layout → wf.row ≡ row_by layout t.label.kind → All (IsBelow count) t.targets
       → AllZip (StandsFor s) (Named t.label.name ∷ Number (info_of t.label)
       ∷ rest_fields layout t.label t.targets) (words_at w 0 1 n) → TypeRead n

@@ -10,7 +10,7 @@ use Rattle.dw_base.specs.declared.numbers.Order.{Order}
 use Rattle.dw_base.specs.declared.numbers.Order.TheVariants.{Little, Big}
 use Rattle.btf_codec.specs.Fields.{layout_of}
 use Rattle.btf_codec.specs.Gives.{Fails, IsPiece, unless}
-use Rattle.btf_codec.specs.Reading.{◌>>=◌, Before, File, Shown, file_of, names_before, table_of}
+use Rattle.btf_codec.specs.Reading.{◌>>=◌, Before, File, Decoded, file_of, names_before, table_of}
 use Rattle.btf_codec.specs.Reading.{types_before, types_of, head_of, is_begun, is_ended, kind_in}
 use Rattle.btf_codec.specs.Reading.{order_in, pieces_fault, pieces_of, sections_of, type_width}
 use Rattle.btf_codec.specs.Reading.{vlen_in, word_in}
@@ -249,7 +249,7 @@ table_read before want bytes strings based types f all b t l h a =
     let q : all
     ≡ types_before before ++ types_of (names_before before ++ f.names) f.order f.pieces = a ∙ ap
     (λ (xs : List ℕ). types_before before ++ types_of (xs ++ f.names) f.order f.pieces) l in
-    rw s (λ i. let r : Result Shown BtfFault = Ok
+    rw s (λ i. let r : Result Decoded BtfFault = Ok
     (record { order = f.order; base = sym t i; types = sym q i; names = f.names }) in r)
 
 pub still_some : {X Y : Type 0} (g : X → Y) (o : Option X) → is_some o ≡ is_some (option_map g o)

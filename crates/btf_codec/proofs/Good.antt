@@ -17,9 +17,9 @@ use Rattle.btf_codec.specs.Fields.{Field, Named, Refers, Number, fields_of, high
 use Rattle.btf_codec.specs.Fields.{layout_of, low_of, part_fields, parts_fields, rest_by, target_at}
 use Rattle.btf_codec.specs.Spells.{StandsFor}
 use Rattle.btf_codec.specs.Spelling.{HasOffset, HasOffsets, word_of, words_of}
-use Rattle.btf_codec.specs.declared.layout.Layout.{Layout}
-use Rattle.btf_codec.specs.declared.layout.Layout.TheVariants.{Int, Link, Array, Forward}
-use Rattle.btf_codec.specs.declared.layout.Layout.TheVariants.{TaggedLink, Float, Sized, Prototype}
+use Rattle.btf_codec.specs.declared.layout.KindLayout.{KindLayout}
+use Rattle.btf_codec.specs.declared.layout.KindLayout.TheVariants.{Int, Link, Array, Forward}
+use Rattle.btf_codec.specs.declared.layout.KindLayout.TheVariants.{TaggedLink, Float, Sized, Prototype}
 use Rattle.btf_codec.specs.declared.layout.PartLayout.{PartLayout}
 use Rattle.btf_codec.specs.declared.layout.PartLayout.TheVariants.{Member, Enumerator}
 use Rattle.btf_codec.specs.declared.layout.PartLayout.TheVariants.{WideEnumerator, Parameter}
@@ -85,7 +85,7 @@ fitting s (Some r) ps limit fits offsets = λ (k : ℕ) (d : Part) (lt : k < len
     let v : r.value ≤ 2 ^ 64 = limit r refl in
     record { name = (offsets k d lt, f.name); value = omega (arith, f.value, v) }
 
-good_rest : (s : Names) (t : CType) (o : Option Layout) → t.label.size < 2 ^ 32
+good_rest : (s : Names) (t : CType) (o : Option KindLayout) → t.label.size < 2 ^ 32
     → t.label.extra < 2 ^ 32 → All (IsGoodPart s) t.label.parts
     → All (IsBelow (2 ^ 32 - 1)) t.targets → AreGood s (rest_by o t.label t.targets)
 good_rest s t None size extra ps rs = tt

@@ -17,27 +17,27 @@ use Rattle.c_model.specs.declared.graph.CType.{CType}
 use Rattle.btf_codec.specs.Fields.{fields_of, layout_of}
 use Rattle.btf_codec.specs.Reading.{◌>>=◌, checked, first_past, head_of, ids_by, is_info, kind_in}
 use Rattle.btf_codec.specs.Reading.{name_at, names_by, pieces_fault, pieces_of, places, type_by}
-use Rattle.btf_codec.specs.Reading.{type_shown, type_width, types_of, vlen_in, word_in, words_at}
+use Rattle.btf_codec.specs.Reading.{decoded_type, type_width, types_of, vlen_in, word_in, words_at}
 use Rattle.btf_codec.specs.Reading.{words_fault}
 use Rattle.btf_codec.specs.Spells.{StandsFor, word_bytes, words_bytes}
 use Rattle.btf_codec.specs.declared.fault.BtfFault.{BtfFault}
 use Rattle.btf_codec.specs.declared.fault.BtfFault.TheVariants.{BtfTruncated, BtfInfo}
-use Rattle.btf_codec.specs.declared.layout.Layout.{Layout}
+use Rattle.btf_codec.specs.declared.layout.KindLayout.{KindLayout}
 use Rattle.btf_codec.proofs.Below.{ids_below, no_fault_split}
 use Rattle.btf_codec.proofs.Gluing.{word_cut}
-use Rattle.btf_codec.proofs.Showing.{type_formed, type_stands}
+use Rattle.btf_codec.proofs.Decoded.{type_formed, type_stands}
 use Rattle.btf_codec.proofs.Splitting.{width_some}
 use Rattle.btf_codec.proofs.Wording.{AreBytes, word_small, words_again}
 
 -- a type that has passed its checks
 pub record Passed (w : ℕ → ℕ) (size left : ℕ) : Type 0 where
-  pub layout : Layout
+  pub layout : KindLayout
   pub laid : layout_of (kind_in (w 1)) ≡ Some layout
   pub info : is_info layout (w 1) (w 2) ≡ true
   pub size_is : size ≡ type_width layout (vlen_in (w 1))
   pub few : size ≤ left
 
-sized : (place id left size : ℕ) (w : ℕ → ℕ) (layout : Layout) (a b : Bool)
+sized : (place id left size : ℕ) (w : ℕ → ℕ) (layout : KindLayout) (a b : Bool)
     → layout_of (kind_in (w 1)) ≡ Some layout → is_info layout (w 1) (w 2) ≡ a
     → nat_lt left (type_width layout (vlen_in (w 1))) ≡ b
     → ◌≡◌ {A = Result ℕ BtfFault} (if a then (if b then Err (BtfTruncated place)
@@ -51,7 +51,7 @@ sized place id left size w layout true false l h f e =
     record { layout = layout; laid = l; info = h; size_is = sym q; few = omega (arith, q, le) }
 sized place id left size w layout false b l h f e = cc
 
-passed_by : (place id left size : ℕ) (w : ℕ → ℕ) (o : Option Layout) → layout_of (kind_in (w 1)) ≡ o
+passed_by : (place id left size : ℕ) (w : ℕ → ℕ) (o : Option KindLayout) → layout_of (kind_in (w 1)) ≡ o
     → checked place id (w 1) (w 2) left o ≡ Ok size → Passed w size left
 passed_by place id left size w None l e = cc
 passed_by place id left size w (Some layout) l e = sized place id left size w layout
@@ -77,7 +77,7 @@ pieces_words order ps = flat_map (piece_words order) ps
 
 -- a piece of bytes that has passed its checks
 pub record IsChecked (order : Order) (p : List ℕ) : Type 0 where
-  pub layout : Layout
+  pub layout : KindLayout
   pub laid : layout_of (kind_in (word_in order p 1)) ≡ Some layout
   pub info : is_info layout (word_in order p 1) (word_in order p 2) ≡ true
   pub long : length p / 4 ≡ type_width layout (vlen_in (word_in order p 1))
@@ -243,26 +243,26 @@ record OneTyped (s : List ℕ) (count : ℕ) (t : CType) (ws : List ℕ) : Type 
   pub within : All (IsBelow count) t.targets
   pub fields : AllZip (StandsFor s) (fields_of t) ws
 
-shown_by : (s : List ℕ) (w : ℕ → ℕ) (o : Option Layout) → layout_of (kind_in (w 1)) ≡ o
-    → type_by o s w ≡ type_shown s w
-unfolding type_shown
-shown_by s w o e = ap (λ (l : Option Layout). type_by l s w) (sym e)
+decoded_by : (s : List ℕ) (w : ℕ → ℕ) (o : Option KindLayout) → layout_of (kind_in (w 1)) ≡ o
+    → type_by o s w ≡ decoded_type s w
+unfolding decoded_type
+decoded_by s w o e = ap (λ (l : Option KindLayout). type_by l s w) (sym e)
 
 one_typed : (s : List ℕ) (order : Order) (place id count : ℕ) (p : List ℕ)
     → ((x : ℕ) → x < length s → text_of s x ≡ Some (name_at s x)) → IsChecked order p
     → words_fault place id (length s) count (word_in order p) ≡ None
-    → OneTyped s count (type_shown s (word_in order p)) (piece_words order p)
+    → OneTyped s count (decoded_type s (word_in order p)) (piece_words order p)
 one_typed s order place id count p texts c h =
     let w : ℕ → ℕ = word_in order p in
     let small : (i : ℕ) → word_in order p i < 2 ^ 32 = λ (i : ℕ). word_small order p i c.bytes in
     let f = no_fault_split place id (length s) count (word_in order p) h in
     let names : first_past (length s)
     (names_by (Some c.layout) (word_in order p) (vlen_in (word_in order p 1))) ≡ None =
-    ap (λ (o : Option Layout). first_past (length s)
+    ap (λ (o : Option KindLayout). first_past (length s)
     (names_by o (word_in order p) (vlen_in (word_in order p 1)))) (sym c.laid) ∙ f.0 in
     let ids : first_past (count + 1)
     (ids_by (Some c.layout) (word_in order p) (vlen_in (word_in order p 1))) ≡ None =
-    ap (λ (o : Option Layout). first_past (count + 1)
+    ap (λ (o : Option KindLayout). first_past (count + 1)
     (ids_by o (word_in order p) (vlen_in (word_in order p 1)))) (sym c.laid) ∙ f.1 in
     let one : OneTyped s count (type_by (Some c.layout) s (word_in order p)) (words_at
     (word_in order p) 0 1 (type_width c.layout (vlen_in (word_in order p 1)))) = record {
@@ -271,10 +271,10 @@ one_typed s order place id count p texts c h =
           (ids_by (Some c.layout) (word_in order p) (vlen_in (word_in order p 1))) ids;
       fields = type_stands s (word_in order p) small texts c.layout c.laid c.info names;
     } in
-    subst (λ (n : ℕ). OneTyped s count (type_shown s (word_in order p))
+    subst (λ (n : ℕ). OneTyped s count (decoded_type s (word_in order p))
     (words_at (word_in order p) 0 1 n)) (sym c.long)
     (subst (λ (t : CType). OneTyped s count t (words_at (word_in order p) 0 1 (type_width c.layout
-    (vlen_in (word_in order p 1))))) (shown_by s (word_in order p) (Some c.layout) c.laid) one)
+    (vlen_in (word_in order p 1))))) (decoded_by s (word_in order p) (Some c.layout) c.laid) one)
 
 pub all_typed : (s : List ℕ) (order : Order) (place id count : ℕ) (ps : List (List ℕ))
     → ((x : ℕ) → x < length s → text_of s x ≡ Some (name_at s x)) → All (IsChecked order) ps
@@ -293,11 +293,11 @@ all_typed s order place id count (p ∷ ps) texts c h =
     let rest = all_typed s order (place + length p) (id + 1) count ps texts
     (λ (k : ℕ) (d : List ℕ) (lt : k < length ps). c (suc k) d (omega arith)) f.1 in
     record {
-      formed = all_cons IsWellFormed (type_shown s (word_in order p))
+      formed = all_cons IsWellFormed (decoded_type s (word_in order p))
           (types_of s order ps) one.formed rest.formed;
       within = all_cons (λ (t : CType). All (IsBelow count) t.targets)
-          (type_shown s (word_in order p)) (types_of s order ps) one.within rest.within;
-      fields = zip_both (StandsFor s) (fields_of (type_shown s (word_in order p)))
+          (decoded_type s (word_in order p)) (types_of s order ps) one.within rest.within;
+      fields = zip_both (StandsFor s) (fields_of (decoded_type s (word_in order p)))
           (flat_map fields_of (types_of s order ps)) (piece_words order p)
           (pieces_words order ps) one.fields rest.fields;
       narrow = all_both (piece_words order p) (pieces_words order ps)

@@ -16,7 +16,7 @@ pub mod Pasts
 pub mod Putting
 pub mod Rows
 pub mod Shapes
-pub mod Showing
+pub mod Decoded
 pub mod Splitting
 pub mod Strung
 pub mod Wording

@@ -14,7 +14,7 @@ use Rattle.btf_codec.specs.Fields.{Field, Named, Number, fields_of, info_of, lay
 use Rattle.btf_codec.specs.Fields.{parts_fields, rest_by, target_at}
 use Rattle.btf_codec.specs.Spells.{word_bytes, words_bytes}
 use Rattle.btf_codec.specs.Spelling.{types_words, word_of, words_of}
-use Rattle.btf_codec.specs.declared.layout.Layout.{Layout}
+use Rattle.btf_codec.specs.declared.layout.KindLayout.{KindLayout}
 use Rattle.btf_codec.specs.declared.layout.PartLayout.{PartLayout}
 
 -- words and then more words
@@ -26,7 +26,7 @@ put_both order old mid new xs ys e f =
     ∙ ap (λ (zs : List ℕ). old ++ zs) (sym (flat_map-append (word_bytes order) xs ys))
 
 -- the words of a type whose layout is known
-pub words_by : (s : Names) (t : CType) (o : Option Layout) → o ≡ layout_of t.label.kind
+pub words_by : (s : Names) (t : CType) (o : Option KindLayout) → o ≡ layout_of t.label.kind
     → words_of s (fields_of t) ≡ word_of s (Named t.label.name) ∷ word_of s
     (Number (info_of t.label)) ∷ words_of s (rest_by o t.label t.targets)
 unfolding fields_of
@@ -99,7 +99,7 @@ one_type order s ts i t first old new lt is before put =
     (sym (take_more ts i t lt))
 
 -- a type whose layout is known
-pub put_known : (order : Order) (s : Names) (t : CType) (o : Option Layout) (old new : List ℕ)
+pub put_known : (order : Order) (s : Names) (t : CType) (o : Option KindLayout) (old new : List ℕ)
     (name info : ℕ) → o ≡ layout_of t.label.kind
     → name ≡ word_of s (Named t.label.name) → info ≡ info_of t.label
     → new ≡ old ++ words_bytes order (name ∷ info ∷ words_of s (rest_by o t.label t.targets))

@@ -7,9 +7,9 @@ use Rattle.c_model.specs.declared.graph.CType.{CType}
 use Rattle.btf_codec.specs.Fields.{layout_of}
 use Rattle.btf_codec.specs.Reading.{may_flag}
 use Rattle.btf_codec.proofs.Shapes.{Together, refers, together}
-use Rattle.btf_codec.specs.declared.layout.Layout.{Layout}
-use Rattle.btf_codec.specs.declared.layout.Layout.TheVariants.{Int, Link, Array, Forward}
-use Rattle.btf_codec.specs.declared.layout.Layout.TheVariants.{TaggedLink, Float, Sized, Prototype}
+use Rattle.btf_codec.specs.declared.layout.KindLayout.{KindLayout}
+use Rattle.btf_codec.specs.declared.layout.KindLayout.TheVariants.{Int, Link, Array, Forward}
+use Rattle.btf_codec.specs.declared.layout.KindLayout.TheVariants.{TaggedLink, Float, Sized, Prototype}
 use Rattle.btf_codec.specs.declared.layout.PartLayout.{PartLayout}
 use Rattle.btf_codec.specs.declared.layout.PartLayout.TheVariants.{Member, Enumerator}
 use Rattle.btf_codec.specs.declared.layout.PartLayout.TheVariants.{WideEnumerator, Parameter}
@@ -37,7 +37,7 @@ abbrev pub row_with : ℕ → ℕ → ℕ → Option PartRow → ℕ → Row
 row_with size extra targets parts k =
     record { size = size; extra = extra; flag = may_flag k; targets = targets; parts = parts }
 
-abbrev pub row_by : Layout → ℕ → Row
+abbrev pub row_by : KindLayout → ℕ → Row
 row_by Int k = row_with (2 ^ 32) (2 ^ 32) 0 None k
 row_by Link k = row_with 1 (if k == 12 then 3 else 1) 1 None k
 row_by Array k = row_with 1 (2 ^ 32) 2 None k
@@ -48,11 +48,11 @@ row_by (Sized p) k = row_with (2 ^ 32) 1 0 (Some (part_row p)) k
 row_by Prototype k = row_with 1 1 1 (Some (part_row Parameter)) k
 
 -- a row and a layout of one kind
-unfoldable pub Agree : ℕ → Option Row → Option Layout → Type 0
+unfoldable pub Agree : ℕ → Option Row → Option KindLayout → Type 0
 Agree k o None = Unit {0}
 Agree k o (Some layout) = o ≡ Some (row_by layout k)
 
-chosen : (k j : ℕ) (row : Row) (layout : Layout) (o : Option Row) (m : Option Layout) (t : Bool)
+chosen : (k j : ℕ) (row : Row) (layout : KindLayout) (o : Option Row) (m : Option KindLayout) (t : Bool)
     → (k == j) ≡ t → row ≡ row_by layout j → Agree k o m
     → Agree k (if t then Some row else o) (if t then Some layout else m)
 unfolding Agree
@@ -60,7 +60,7 @@ chosen k j row layout o m true e here rest = let s : j ≡ k = sym (eqb-true k j
     λ i. Some ((here ∙ ap (λ (n : ℕ). row_by layout n) s) i)
 chosen k j row layout o m false e here rest = rest
 
-step : (k j : ℕ) (row : Row) (layout : Layout) (o : Option Row) (m : Option Layout)
+step : (k j : ℕ) (row : Row) (layout : KindLayout) (o : Option Row) (m : Option KindLayout)
     → row ≡ row_by layout j → Agree k o m
     → Agree k (if k == j then Some row else o) (if k == j then Some layout else m)
 step k j row layout o m here rest = chosen k j row layout o m (k == j) refl here rest
@@ -92,18 +92,18 @@ agree k =
     step k 19 _ (Sized WideEnumerator) _ _ refl (
     none k)))))))))))))))))))
 
-pub row_known : (k : ℕ) (layout : Layout) → layout_of k ≡ Some layout
+pub row_known : (k : ℕ) (layout : KindLayout) → layout_of k ≡ Some layout
     → row_of k ≡ Some (row_by layout k)
 unfolding Agree
-row_known k layout e = let P : Option Layout → Type 0 = Agree k (row_of k) in subst P e (agree k)
+row_known k layout e = let P : Option KindLayout → Type 0 = Agree k (row_of k) in subst P e (agree k)
 
 -- a well-formed type has a layout, and the row of that layout
 pub record Laid (t : CType) (row : Row) : Type 0 where
-  pub layout : Layout
+  pub layout : KindLayout
   pub laid : layout_of t.label.kind ≡ Some layout
   pub row_is : row ≡ row_by layout t.label.kind
 
-laid_by : (t : CType) (w : IsWellFormed t) (o : Option Layout) → layout_of t.label.kind ≡ o
+laid_by : (t : CType) (w : IsWellFormed t) (o : Option KindLayout) → layout_of t.label.kind ≡ o
     → Together t.label.kind (Some w.row) o → Laid t w.row
 unfolding Together
 laid_by t w None e h = absurd h
@@ -117,37 +117,37 @@ well_laid t w = laid_by t w (layout_of t.label.kind) refl (subst (λ (o : Option
     Together t.label.kind o (layout_of t.label.kind)) w.of_kind (together t.label.kind))
 
 -- no kind has parameters behind a size
-other_by : (layout : Layout) (m : Option Layout) (t : Bool) → (layout ≡ Sized Parameter → ⊥)
+other_by : (layout : KindLayout) (m : Option KindLayout) (t : Bool) → (layout ≡ Sized Parameter → ⊥)
     → (m ≡ Some (Sized Parameter) → ⊥) → (if t then Some layout else m) ≡ Some (Sized Parameter) → ⊥
 other_by layout m true ne rest e = let q : layout ≡ Sized Parameter = cc in ne q
 other_by layout m false ne rest e = rest e
 
-other : (k j : ℕ) (layout : Layout) (m : Option Layout) → (layout ≡ Sized Parameter → ⊥) → (m
+other : (k j : ℕ) (layout : KindLayout) (m : Option KindLayout) → (layout ≡ Sized Parameter → ⊥) → (m
     ≡ Some (Sized Parameter) → ⊥) → (if k == j then Some layout else m) ≡ Some (Sized Parameter) → ⊥
 other k j layout m ne rest e = other_by layout m (k == j) ne rest e
 
 pub never_sized : (k : ℕ) → layout_of k ≡ Some (Sized Parameter) → ⊥
 never_sized k =
-    other k 1 Int _ (λ (e : ◌≡◌ {A = Layout} Int (Sized Parameter)). cc) (
-    other k 2 Link _ (λ (e : ◌≡◌ {A = Layout} Link (Sized Parameter)). cc) (
-    other k 3 Array _ (λ (e : ◌≡◌ {A = Layout} Array (Sized Parameter)). cc) (
-    other k 4 (Sized Member) _ (λ (e : ◌≡◌ {A = Layout} (Sized Member) (Sized Parameter)). cc) (
-    other k 5 (Sized Member) _ (λ (e : ◌≡◌ {A = Layout} (Sized Member) (Sized Parameter)). cc) (
+    other k 1 Int _ (λ (e : ◌≡◌ {A = KindLayout} Int (Sized Parameter)). cc) (
+    other k 2 Link _ (λ (e : ◌≡◌ {A = KindLayout} Link (Sized Parameter)). cc) (
+    other k 3 Array _ (λ (e : ◌≡◌ {A = KindLayout} Array (Sized Parameter)). cc) (
+    other k 4 (Sized Member) _ (λ (e : ◌≡◌ {A = KindLayout} (Sized Member) (Sized Parameter)). cc) (
+    other k 5 (Sized Member) _ (λ (e : ◌≡◌ {A = KindLayout} (Sized Member) (Sized Parameter)). cc) (
     other k 6 (Sized Enumerator) _
-    (λ (e : ◌≡◌ {A = Layout} (Sized Enumerator) (Sized Parameter)). cc) (
-    other k 7 Forward _ (λ (e : ◌≡◌ {A = Layout} Forward (Sized Parameter)). cc) (
-    other k 8 Link _ (λ (e : ◌≡◌ {A = Layout} Link (Sized Parameter)). cc) (
-    other k 9 Link _ (λ (e : ◌≡◌ {A = Layout} Link (Sized Parameter)). cc) (
-    other k 10 Link _ (λ (e : ◌≡◌ {A = Layout} Link (Sized Parameter)). cc) (
-    other k 11 Link _ (λ (e : ◌≡◌ {A = Layout} Link (Sized Parameter)). cc) (
-    other k 12 Link _ (λ (e : ◌≡◌ {A = Layout} Link (Sized Parameter)). cc) (
-    other k 13 Prototype _ (λ (e : ◌≡◌ {A = Layout} Prototype (Sized Parameter)). cc) (
-    other k 14 TaggedLink _ (λ (e : ◌≡◌ {A = Layout} TaggedLink (Sized Parameter)). cc) (
+    (λ (e : ◌≡◌ {A = KindLayout} (Sized Enumerator) (Sized Parameter)). cc) (
+    other k 7 Forward _ (λ (e : ◌≡◌ {A = KindLayout} Forward (Sized Parameter)). cc) (
+    other k 8 Link _ (λ (e : ◌≡◌ {A = KindLayout} Link (Sized Parameter)). cc) (
+    other k 9 Link _ (λ (e : ◌≡◌ {A = KindLayout} Link (Sized Parameter)). cc) (
+    other k 10 Link _ (λ (e : ◌≡◌ {A = KindLayout} Link (Sized Parameter)). cc) (
+    other k 11 Link _ (λ (e : ◌≡◌ {A = KindLayout} Link (Sized Parameter)). cc) (
+    other k 12 Link _ (λ (e : ◌≡◌ {A = KindLayout} Link (Sized Parameter)). cc) (
+    other k 13 Prototype _ (λ (e : ◌≡◌ {A = KindLayout} Prototype (Sized Parameter)). cc) (
+    other k 14 TaggedLink _ (λ (e : ◌≡◌ {A = KindLayout} TaggedLink (Sized Parameter)). cc) (
     other k 15 (Sized Variable) _
-    (λ (e : ◌≡◌ {A = Layout} (Sized Variable) (Sized Parameter)). cc) (
-    other k 16 Float _ (λ (e : ◌≡◌ {A = Layout} Float (Sized Parameter)). cc) (
-    other k 17 TaggedLink _ (λ (e : ◌≡◌ {A = Layout} TaggedLink (Sized Parameter)). cc) (
-    other k 18 Link _ (λ (e : ◌≡◌ {A = Layout} Link (Sized Parameter)). cc) (
+    (λ (e : ◌≡◌ {A = KindLayout} (Sized Variable) (Sized Parameter)). cc) (
+    other k 16 Float _ (λ (e : ◌≡◌ {A = KindLayout} Float (Sized Parameter)). cc) (
+    other k 17 TaggedLink _ (λ (e : ◌≡◌ {A = KindLayout} TaggedLink (Sized Parameter)). cc) (
+    other k 18 Link _ (λ (e : ◌≡◌ {A = KindLayout} Link (Sized Parameter)). cc) (
     other k 19 (Sized WideEnumerator) _
-    (λ (e : ◌≡◌ {A = Layout} (Sized WideEnumerator) (Sized Parameter)). cc) (
-    λ (e : ◌≡◌ {A = Option Layout} None (Some (Sized Parameter))). cc)))))))))))))))))))
+    (λ (e : ◌≡◌ {A = KindLayout} (Sized WideEnumerator) (Sized Parameter)). cc) (
+    λ (e : ◌≡◌ {A = Option KindLayout} None (Some (Sized Parameter))). cc)))))))))))))))))))

@@ -4,9 +4,9 @@ use Rattle.std.proofs.Common.{if◌then◌else◌, refl, arith}
 use Rattle.std.proofs.lemmas.Bool.{eqb-false, eqb-true, ne_eqb}
 use Rattle.c_model.specs.Kinds.{PartRow, Row, row_of}
 use Rattle.btf_codec.specs.Fields.{layout_of}
-use Rattle.btf_codec.specs.declared.layout.Layout.{Layout}
-use Rattle.btf_codec.specs.declared.layout.Layout.TheVariants.{Int, Link, Array, Forward}
-use Rattle.btf_codec.specs.declared.layout.Layout.TheVariants.{TaggedLink, Float, Sized, Prototype}
+use Rattle.btf_codec.specs.declared.layout.KindLayout.{KindLayout}
+use Rattle.btf_codec.specs.declared.layout.KindLayout.TheVariants.{Int, Link, Array, Forward}
+use Rattle.btf_codec.specs.declared.layout.KindLayout.TheVariants.{TaggedLink, Float, Sized, Prototype}
 use Rattle.btf_codec.specs.declared.layout.PartLayout.{PartLayout}
 use Rattle.btf_codec.specs.declared.layout.PartLayout.TheVariants.{Member, Enumerator}
 use Rattle.btf_codec.specs.declared.layout.PartLayout.TheVariants.{WideEnumerator, Parameter}
@@ -48,7 +48,7 @@ pub record Shape (link size extra : Bool) (targets : ℕ) (parts : Option PartLa
   pub targets_is : row.targets ≡ targets
   pub parts_is : PartsAre parts row
 
-abbrev pub ShapeOf : Layout → ℕ → Row → Type 0
+abbrev pub ShapeOf : KindLayout → ℕ → Row → Type 0
 ShapeOf Int k row = Shape false true true 0 None k row
 ShapeOf Link k row = Shape true false false 1 None k row
 ShapeOf Array k row = Shape false false true 2 None k row
@@ -59,19 +59,19 @@ ShapeOf (Sized parts) k row = Shape false true false 0 (Some parts) k row
 ShapeOf Prototype k row = Shape false false false 1 (Some Parameter) k row
 
 -- a row and a layout of one kind
-unfoldable pub Together : ℕ → Option Row → Option Layout → Type 0
+unfoldable pub Together : ℕ → Option Row → Option KindLayout → Type 0
 Together k None o = Unit {0}
 Together k (Some row) None = ⊥
 Together k (Some row) (Some layout) = ShapeOf layout k row
 
-chosen : (k j : ℕ) (row : Row) (layout : Layout) (o : Option Row) (m : Option Layout) (t : Bool)
+chosen : (k j : ℕ) (row : Row) (layout : KindLayout) (o : Option Row) (m : Option KindLayout) (t : Bool)
     → (k == j) ≡ t → (k ≡ j → ShapeOf layout k row) → Together k o m
     → Together k (if t then Some row else o) (if t then Some layout else m)
 unfolding Together
 chosen k j row layout o m true e here rest = here (eqb-true k j e)
 chosen k j row layout o m false e here rest = rest
 
-step : (k j : ℕ) (row : Row) (layout : Layout) (o : Option Row) (m : Option Layout)
+step : (k j : ℕ) (row : Row) (layout : KindLayout) (o : Option Row) (m : Option KindLayout)
     → (k ≡ j → ShapeOf layout k row) → Together k o m
     → Together k (if k == j then Some row else o) (if k == j then Some layout else m)
 step k j row layout o m here rest = chosen k j row layout o m (k == j) refl here rest

@@ -14,9 +14,9 @@ use Rattle.btf_codec.specs.declared.fault.BtfFault.{BtfFault}
 use Rattle.btf_codec.specs.declared.fault.BtfFault.TheVariants.{BtfMagic, BtfHeader, BtfTruncated}
 use Rattle.btf_codec.specs.declared.fault.BtfFault.TheVariants.{BtfKind, BtfInfo, BtfName, BtfRef}
 use Rattle.btf_codec.specs.declared.fault.BtfFault.TheVariants.{BtfStrings, Memory}
-use Rattle.btf_codec.specs.declared.layout.Layout.{Layout}
-use Rattle.btf_codec.specs.declared.layout.Layout.TheVariants.{Int, Link, Array, Forward}
-use Rattle.btf_codec.specs.declared.layout.Layout.TheVariants.{TaggedLink, Float, Sized, Prototype}
+use Rattle.btf_codec.specs.declared.layout.KindLayout.{KindLayout}
+use Rattle.btf_codec.specs.declared.layout.KindLayout.TheVariants.{Int, Link, Array, Forward}
+use Rattle.btf_codec.specs.declared.layout.KindLayout.TheVariants.{TaggedLink, Float, Sized, Prototype}
 
 -- a refusal is what reading gives
 pub fails_with : {Y : Type 0} (e : BtfFault) (read : Result Y BtfFault) → read ≡ Err e
@@ -42,7 +42,7 @@ with_one front p (Ok rest) = ap (λ (xs : List (List ℕ)).
     let r : Result (List (List ℕ)) BtfFault = Ok xs in r) (sym (append_assoc front (p ∷ []) rest))
 with_one front p (Err e) = refl
 
-pub width_some : (layout : Layout) (v : ℕ) → 3 ≤ type_width layout v
+pub width_some : (layout : KindLayout) (v : ℕ) → 3 ≤ type_width layout v
 width_some Int v = omega arith
 width_some Link v = omega arith
 width_some Array v = omega arith
@@ -52,14 +52,14 @@ width_some Float v = omega arith
 width_some (Sized parts) v = omega arith
 width_some Prototype v = omega arith
 
-pub record Fit (layout : Option Layout) (size left v : ℕ) : Type 0 where
-  pub is : Layout
+pub record Fit (layout : Option KindLayout) (size left v : ℕ) : Type 0 where
+  pub is : KindLayout
   pub laid : layout ≡ Some is
   pub size_is : size ≡ type_width is v
   pub some : 3 ≤ size
   pub few : size ≤ left
 
-sized : (place id left size v : ℕ) (layout : Layout) (a b : Bool)
+sized : (place id left size v : ℕ) (layout : KindLayout) (a b : Bool)
     → nat_lt left (type_width layout v) ≡ b
     → ◌≡◌ {A = Result ℕ BtfFault} (if a then (if b then Err (BtfTruncated place)
     else Ok (type_width layout v)) else Err (BtfInfo place id)) (Ok size)
@@ -77,7 +77,7 @@ sized place id left size v layout true false f e =
     }
 sized place id left size v layout false b f e = cc
 
-checked_fits : (place id y third left size : ℕ) (o : Option Layout)
+checked_fits : (place id y third left size : ℕ) (o : Option KindLayout)
     → checked place id y third left o ≡ Ok size → Fit o size left (vlen_in y)
 checked_fits place id y third left size None e = cc
 checked_fits place id y third left size (Some layout) e = sized place id left size

@@ -17,9 +17,9 @@ use Rattle.c_model.specs.declared.label.Part.{Part}
 use Rattle.c_model.specs.declared.graph.CType.{CType}
 use Rattle.c_model.specs.declared.graph.Ref.{Ref}
 use Rattle.c_model.specs.declared.graph.Ref.TheVariants.{Void, Node}
-use Rattle.btf_codec.specs.declared.layout.Layout.{Layout}
-use Rattle.btf_codec.specs.declared.layout.Layout.TheVariants.{Int, Link, Array, Forward}
-use Rattle.btf_codec.specs.declared.layout.Layout.TheVariants.{TaggedLink, Float, Sized, Prototype}
+use Rattle.btf_codec.specs.declared.layout.KindLayout.{KindLayout}
+use Rattle.btf_codec.specs.declared.layout.KindLayout.TheVariants.{Int, Link, Array, Forward}
+use Rattle.btf_codec.specs.declared.layout.KindLayout.TheVariants.{TaggedLink, Float, Sized, Prototype}
 use Rattle.btf_codec.specs.declared.layout.PartLayout.{PartLayout}
 use Rattle.btf_codec.specs.declared.layout.PartLayout.TheVariants.{Member, Enumerator}
 use Rattle.btf_codec.specs.declared.layout.PartLayout.TheVariants.{WideEnumerator, Parameter}
@@ -37,7 +37,7 @@ id_of Void = 0
 id_of (Node x) = x + 1
 
 -- the layout of a kind; None where no kind has that number
-abbrev pub layout_of : ℕ → Option Layout
+abbrev pub layout_of : ℕ → Option KindLayout
 layout_of k =
     if k == BTF_KIND_INT then Some Int
     else if k == BTF_KIND_PTR then Some Link
@@ -98,7 +98,7 @@ parts_fields l [] rs = []
 parts_fields l (p ∷ ps) rs = part_fields l p (target_at rs 0) ++ parts_fields l ps (drop 1 rs)
 
 -- what follows the name and the info word
-abbrev pub rest_fields : Layout → Label → List Ref → List Field
+abbrev pub rest_fields : KindLayout → Label → List Ref → List Field
 rest_fields Int l rs = Number l.size ∷ Number l.extra ∷ []
 rest_fields Link l rs = Refers (target_at rs 0) ∷ []
 rest_fields Array l rs =
@@ -109,7 +109,7 @@ rest_fields Float l rs = Number l.size ∷ []
 rest_fields (Sized parts) l rs = Number l.size ∷ parts_fields parts l.parts rs
 rest_fields Prototype l rs = Refers (target_at rs 0) ∷ parts_fields Parameter l.parts (drop 1 rs)
 
-abbrev pub rest_by : Option Layout → Label → List Ref → List Field
+abbrev pub rest_by : Option KindLayout → Label → List Ref → List Field
 rest_by None l rs = []
 rest_by (Some layout) l rs = rest_fields layout l rs
 

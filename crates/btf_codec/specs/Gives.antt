@@ -1,11 +1,11 @@
 -- What a call of the reader answers, against what reading gives.
 use Rattle.std.specs.Prelude.{◌≡◌, ℕ, ◌*◌, ◌-◌, ◌<◌, ◌^◌, List, length, slice_get, ◌++◌}
 use Rattle.std.specs.Prelude.{slice_index, Option, None, Some, Result, Ok, Err, ⊤}
-use Rattle.btf_codec.specs.Reading.{Before, Shown, types_before, layout_in, type_width, vlen_in}
+use Rattle.btf_codec.specs.Reading.{Before, Decoded, types_before, layout_in, type_width, vlen_in}
 use Rattle.btf_codec.specs.Reading.{word_in}
 use Rattle.btf_codec.specs.declared.fault.BtfFault.{BtfFault}
 use Rattle.btf_codec.specs.declared.fault.BtfFault.TheVariants.{Memory}
-use Rattle.btf_codec.specs.declared.layout.Layout.{Layout}
+use Rattle.btf_codec.specs.declared.layout.KindLayout.{KindLayout}
 use Rattle.c_model.specs.Graph.{RefersWithin}
 use Rattle.c_model.specs.declared.graph.CType.{CType}
 use Rattle.btf_codec.specs.declared.table.Table.{Table}
@@ -33,7 +33,7 @@ unless (Some fault) = Err fault
 
 -- a piece has the words of its layout
 pub record IsPiece (order : Order) (piece : List ℕ) : Type 0 where
-  pub layout : Layout
+  pub layout : KindLayout
   pub laid : layout_in (word_in order piece) ≡ Some layout
   pub long : length piece ≡ 4 * type_width layout (vlen_in (word_in order piece 1))
 
@@ -54,8 +54,8 @@ pub record IsBefore (table : Table) : Type 0 where
 abbrev pub before_of : Table → Before
 before_of t = record { types = t.types; names = t.names.now }
 
-abbrev pub shown_of : Table → Shown
-shown_of t = record { order = t.order; base = t.base; types = t.types; names = t.names.now }
+abbrev pub decoded_of : Table → Decoded
+decoded_of t = record { order = t.order; base = t.base; types = t.types; names = t.names.now }
 
 -- the table that the own types and strings go on from
 abbrev pub base_seen : Option Before → Option Base
@@ -63,7 +63,7 @@ base_seen None = None
 base_seen (Some before) = Some (record { types = length before.types; names = before.names })
 
 -- the table of own types and strings over the one before
-abbrev pub table_over : Option Before → Order → List CType → List ℕ → Shown
+abbrev pub table_over : Option Before → Order → List CType → List ℕ → Decoded
 table_over before order own names = record {
   order = order;
   base = length (types_before before);

@@ -24,9 +24,9 @@ use Rattle.btf_codec.specs.declared.fault.BtfFault.{BtfFault}
 use Rattle.btf_codec.specs.declared.fault.BtfFault.TheVariants.{BtfMagic, BtfHeader, BtfTruncated}
 use Rattle.btf_codec.specs.declared.fault.BtfFault.TheVariants.{BtfKind, BtfInfo, BtfName, BtfRef}
 use Rattle.btf_codec.specs.declared.fault.BtfFault.TheVariants.{BtfStrings}
-use Rattle.btf_codec.specs.declared.layout.Layout.{Layout}
-use Rattle.btf_codec.specs.declared.layout.Layout.TheVariants.{Int, Link, Array, Forward}
-use Rattle.btf_codec.specs.declared.layout.Layout.TheVariants.{TaggedLink, Float, Sized, Prototype}
+use Rattle.btf_codec.specs.declared.layout.KindLayout.{KindLayout}
+use Rattle.btf_codec.specs.declared.layout.KindLayout.TheVariants.{Int, Link, Array, Forward}
+use Rattle.btf_codec.specs.declared.layout.KindLayout.TheVariants.{TaggedLink, Float, Sized, Prototype}
 use Rattle.btf_codec.specs.declared.layout.PartLayout.{PartLayout}
 use Rattle.btf_codec.specs.declared.layout.PartLayout.TheVariants.{Member, Enumerator}
 use Rattle.btf_codec.specs.declared.layout.PartLayout.TheVariants.{WideEnumerator, Parameter}
@@ -67,19 +67,19 @@ may_flag k =
     || k == BTF_KIND_DECL_TAG || k == BTF_KIND_TYPE_TAG || k == BTF_KIND_ENUM64
 
 -- vlen is a FUNC's linkage, the number of parts, or 0
-abbrev pub is_vlen : Layout → ℕ → ℕ → Bool
+abbrev pub is_vlen : KindLayout → ℕ → ℕ → Bool
 is_vlen (Sized parts) k v = true
 is_vlen Prototype k v = true
 is_vlen Link k v = if k == BTF_KIND_FUNC then nat_lt v 3 else v == 0
 is_vlen layout k v = v == 0
 
 -- the third word of an ARRAY and of a FWD is 0
-abbrev pub is_third : Layout → ℕ → Bool
+abbrev pub is_third : KindLayout → ℕ → Bool
 is_third Array third = third == 0
 is_third Forward third = third == 0
 is_third layout third = true
 
-abbrev pub is_info : Layout → ℕ → ℕ → Bool
+abbrev pub is_info : KindLayout → ℕ → ℕ → Bool
 is_info layout y third =
     is_clean y && (not (flag_in y) || may_flag (kind_in y))
     && is_vlen layout (kind_in y) (vlen_in y) && is_third layout third
@@ -92,7 +92,7 @@ part_width WideEnumerator = 3
 part_width Parameter = 2
 part_width Variable = 3
 
-abbrev pub type_width : Layout → ℕ → ℕ
+abbrev pub type_width : KindLayout → ℕ → ℕ
 type_width Int v = 4
 type_width Link v = 3
 type_width Array v = 6
@@ -103,7 +103,7 @@ type_width (Sized parts) v = 3 + part_width parts * v
 type_width Prototype v = 3 + 2 * v
 
 -- the checks of a type at a place, of whose words so many are left: how many of them it has
-abbrev pub checked : ℕ → ℕ → ℕ → ℕ → ℕ → Option Layout → Result ℕ BtfFault
+abbrev pub checked : ℕ → ℕ → ℕ → ℕ → ℕ → Option KindLayout → Result ℕ BtfFault
 checked place id y third left None = Err (BtfKind place id (kind_in y))
 checked place id y third left (Some layout) =
     if is_info layout y third
@@ -139,14 +139,14 @@ abbrev pub first_past : ℕ → List ℕ → Option ℕ
 first_past limit ws = find (λ (x : ℕ). nat_le limit x) ws
 
 -- the words of a type that are offsets of names
-abbrev pub names_by : Option Layout → (ℕ → ℕ) → ℕ → List ℕ
+abbrev pub names_by : Option KindLayout → (ℕ → ℕ) → ℕ → List ℕ
 names_by (Some (Sized Variable)) w v = w 0 ∷ []
 names_by (Some (Sized parts)) w v = w 0 ∷ words_at w 3 (part_width parts) v
 names_by (Some Prototype) w v = w 0 ∷ words_at w 3 2 v
 names_by layout w v = w 0 ∷ []
 
 -- the words of a type that are ids
-abbrev pub ids_by : Option Layout → (ℕ → ℕ) → ℕ → List ℕ
+abbrev pub ids_by : Option KindLayout → (ℕ → ℕ) → ℕ → List ℕ
 ids_by (Some Link) w v = w 2 ∷ []
 ids_by (Some Array) w v = w 3 ∷ w 4 ∷ []
 ids_by (Some TaggedLink) w v = w 2 ∷ []
@@ -155,7 +155,7 @@ ids_by (Some (Sized Variable)) w v = words_at w 3 3 v
 ids_by (Some Prototype) w v = w 2 ∷ words_at w 4 2 v
 ids_by layout w v = []
 
-abbrev pub layout_in : (ℕ → ℕ) → Option Layout
+abbrev pub layout_in : (ℕ → ℕ) → Option KindLayout
 layout_in w = layout_of (kind_in (w 1))
 
 abbrev pub names_in : (ℕ → ℕ) → List ℕ
@@ -188,36 +188,36 @@ ref_of (suc x) = Node x
 abbrev pub whole_value : (ℕ → ℕ) → ℕ → ℕ
 whole_value w at = w (at + 1) + 2 ^ 32 * w (at + 2)
 
-abbrev pub part_shown : PartLayout → List ℕ → (ℕ → ℕ) → ℕ → Part
-part_shown Member strings w at = record { name = name_at strings (w at); value = w (at + 2) }
-part_shown Enumerator strings w at = record { name = name_at strings (w at); value = w (at + 1) }
-part_shown WideEnumerator strings w at =
+abbrev pub decoded_part : PartLayout → List ℕ → (ℕ → ℕ) → ℕ → Part
+decoded_part Member strings w at = record { name = name_at strings (w at); value = w (at + 2) }
+decoded_part Enumerator strings w at = record { name = name_at strings (w at); value = w (at + 1) }
+decoded_part WideEnumerator strings w at =
     record { name = name_at strings (w at); value = whole_value w at }
-part_shown Parameter strings w at = record { name = name_at strings (w at); value = 0 }
-part_shown Variable strings w at = record { name = []; value = whole_value w at }
+decoded_part Parameter strings w at = record { name = name_at strings (w at); value = 0 }
+decoded_part Variable strings w at = record { name = []; value = whole_value w at }
 
-abbrev pub parts_shown : PartLayout → List ℕ → (ℕ → ℕ) → ℕ → List Part
-parts_shown layout strings w n = map (part_shown layout strings w) (places 3 (part_width layout) n)
+abbrev pub decoded_parts : PartLayout → List ℕ → (ℕ → ℕ) → ℕ → List Part
+decoded_parts layout strings w n = map (decoded_part layout strings w) (places 3 (part_width layout) n)
 
-abbrev pub parts_by : Option Layout → List ℕ → (ℕ → ℕ) → ℕ → List Part
-parts_by (Some (Sized layout)) strings w v = parts_shown layout strings w v
-parts_by (Some Prototype) strings w v = parts_shown Parameter strings w v
+abbrev pub parts_by : Option KindLayout → List ℕ → (ℕ → ℕ) → ℕ → List Part
+parts_by (Some (Sized layout)) strings w v = decoded_parts layout strings w v
+parts_by (Some Prototype) strings w v = decoded_parts Parameter strings w v
 parts_by layout strings w v = []
 
-abbrev pub size_by : Option Layout → (ℕ → ℕ) → ℕ
+abbrev pub size_by : Option KindLayout → (ℕ → ℕ) → ℕ
 size_by (Some Int) w = w 2
 size_by (Some Float) w = w 2
 size_by (Some (Sized parts)) w = w 2
 size_by layout w = 0
 
-abbrev pub extra_by : Option Layout → (ℕ → ℕ) → ℕ
+abbrev pub extra_by : Option KindLayout → (ℕ → ℕ) → ℕ
 extra_by (Some Int) w = w 3
 extra_by (Some Link) w = if kind_in (w 1) == BTF_KIND_FUNC then vlen_in (w 1) else 0
 extra_by (Some Array) w = w 5
 extra_by (Some TaggedLink) w = w 3
 extra_by layout w = 0
 
-abbrev pub type_by : Option Layout → List ℕ → (ℕ → ℕ) → CType
+abbrev pub type_by : Option KindLayout → List ℕ → (ℕ → ℕ) → CType
 type_by layout strings w =
     record {
       label = record {
@@ -231,8 +231,8 @@ type_by layout strings w =
       targets = map ref_of (ids_by layout w (vlen_in (w 1)));
     }
 
-unfoldable pub type_shown : List ℕ → (ℕ → ℕ) → CType
-type_shown strings w = type_by (layout_in w) strings w
+unfoldable pub decoded_type : List ℕ → (ℕ → ℕ) → CType
+decoded_type strings w = type_by (layout_in w) strings w
 
 -- the byte order that the magic number shows
 abbrev pub magic_order : ℕ → ℕ → Option Order
@@ -318,16 +318,16 @@ names_before (Some b) = b.names
 
 -- the table of a file: its byte order, how many types come before the own ones, all types, and the
 -- own strings
-pub record Shown : Type 0 where
+pub record Decoded : Type 0 where
   pub order : Order
   pub base : ℕ
   pub types : List CType
   pub names : List ℕ
 
 abbrev pub types_of : List ℕ → Order → List (List ℕ) → List CType
-types_of strings order pieces = map (λ (p : List ℕ). type_shown strings (word_in order p)) pieces
+types_of strings order pieces = map (λ (p : List ℕ). decoded_type strings (word_in order p)) pieces
 
-unfoldable pub table_of : Option Before → Option Order → List ℕ → Result Shown BtfFault
+unfoldable pub table_of : Option Before → Option Order → List ℕ → Result Decoded BtfFault
 table_of before want bytes =
     file_of (is_some before) (length (types_before before))
     (length (names_before before)) want bytes >>= λ (f : File).

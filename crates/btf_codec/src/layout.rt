@@ -11,7 +11,7 @@ use c_model::kinds::{
 
 /// What follows the name and the info word of a type.
 #[derive(Clone, Copy, Debug, PartialEq, Eq)]
-pub enum Layout {
+pub enum KindLayout {
     /// The size and the encoding word.
     Int,
     /// One type.
@@ -46,22 +46,24 @@ pub enum PartLayout {
 }
 
 /// The layout of a kind. `None` exactly where no kind has that number.
-pub fn layout_of(kind: u8) -> Option<Layout>
+pub fn layout_of(kind: u8) -> Option<KindLayout>
     ensures { result ≡ layout_of kind }
 {
     match kind {
-        BTF_KIND_INT => Some(Layout::Int),
-        BTF_KIND_PTR | BTF_KIND_TYPEDEF | BTF_KIND_FUNC | BTF_KIND_TYPE_TAG => Some(Layout::Link),
-        BTF_KIND_VOLATILE | BTF_KIND_CONST | BTF_KIND_RESTRICT => Some(Layout::Link),
-        BTF_KIND_ARRAY => Some(Layout::Array),
-        BTF_KIND_STRUCT | BTF_KIND_UNION => Some(Layout::Sized(PartLayout::Member)),
-        BTF_KIND_ENUM => Some(Layout::Sized(PartLayout::Enumerator)),
-        BTF_KIND_FWD => Some(Layout::Forward),
-        BTF_KIND_FUNC_PROTO => Some(Layout::Prototype),
-        BTF_KIND_VAR | BTF_KIND_DECL_TAG => Some(Layout::TaggedLink),
-        BTF_KIND_DATASEC => Some(Layout::Sized(PartLayout::Variable)),
-        BTF_KIND_FLOAT => Some(Layout::Float),
-        BTF_KIND_ENUM64 => Some(Layout::Sized(PartLayout::WideEnumerator)),
+        BTF_KIND_INT => Some(KindLayout::Int),
+        BTF_KIND_PTR | BTF_KIND_TYPEDEF | BTF_KIND_FUNC | BTF_KIND_TYPE_TAG => Some(
+            KindLayout::Link,
+        ),
+        BTF_KIND_VOLATILE | BTF_KIND_CONST | BTF_KIND_RESTRICT => Some(KindLayout::Link),
+        BTF_KIND_ARRAY => Some(KindLayout::Array),
+        BTF_KIND_STRUCT | BTF_KIND_UNION => Some(KindLayout::Sized(PartLayout::Member)),
+        BTF_KIND_ENUM => Some(KindLayout::Sized(PartLayout::Enumerator)),
+        BTF_KIND_FWD => Some(KindLayout::Forward),
+        BTF_KIND_FUNC_PROTO => Some(KindLayout::Prototype),
+        BTF_KIND_VAR | BTF_KIND_DECL_TAG => Some(KindLayout::TaggedLink),
+        BTF_KIND_DATASEC => Some(KindLayout::Sized(PartLayout::Variable)),
+        BTF_KIND_FLOAT => Some(KindLayout::Float),
+        BTF_KIND_ENUM64 => Some(KindLayout::Sized(PartLayout::WideEnumerator)),
         _ => None,
     }
 }

@@ -2,15 +2,15 @@
 //! documentation).
 #![tactic(auto)]
 
+mod decoded;
 pub mod fault;
-mod faults;
 mod file;
 pub mod laws;
 mod layout;
+mod offsets;
 mod pieces;
 pub mod reader;
 mod shared;
-mod shown;
 pub mod table;
 mod words;
 pub mod writer;

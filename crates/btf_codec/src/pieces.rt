@@ -10,7 +10,7 @@ ghost use Rattle.btf_codec.specs.Reading.{names_by, names_in, part_width, places
 ghost use Rattle.btf_codec.specs.Reading.{vlen_in, word_in, words_at, words_fault};
 
 use crate::fault::BtfFault;
-use crate::layout::{Layout, PartLayout, layout_of};
+use crate::layout::{KindLayout, PartLayout, layout_of};
 use c_model::kinds::{
     BTF_KIND_DECL_TAG, BTF_KIND_ENUM, BTF_KIND_ENUM64, BTF_KIND_FUNC, BTF_KIND_FWD,
     BTF_KIND_STRUCT, BTF_KIND_TYPE_TAG, BTF_KIND_UNION,
@@ -67,19 +67,19 @@ pub fn part_width(layout: PartLayout) -> u32
 }
 
 /// How many words a type has.
-pub fn type_width(layout: Layout, vlen: u32) -> usize
+pub fn type_width(layout: KindLayout, vlen: u32) -> usize
     requires { vlen < 65536 }
     ensures { result ≡ type_width layout vlen }
 {
     match layout {
-        Layout::Int => 4,
-        Layout::Link => 3,
-        Layout::Array => 6,
-        Layout::Forward => 3,
-        Layout::TaggedLink => 4,
-        Layout::Float => 3,
-        Layout::Sized(parts) => 3 + (part_width(parts) * vlen) as usize,
-        Layout::Prototype => 3 + (2 * vlen) as usize,
+        KindLayout::Int => 4,
+        KindLayout::Link => 3,
+        KindLayout::Array => 6,
+        KindLayout::Forward => 3,
+        KindLayout::TaggedLink => 4,
+        KindLayout::Float => 3,
+        KindLayout::Sized(parts) => 3 + (part_width(parts) * vlen) as usize,
+        KindLayout::Prototype => 3 + (2 * vlen) as usize,
     }
 }
 
@@ -106,43 +106,43 @@ fn may_flag(kind: u8) -> bool
     )
 }
 
-fn is_vlen(layout: Layout, kind: u8, vlen: u32) -> bool
+fn is_vlen(layout: KindLayout, kind: u8, vlen: u32) -> bool
     ensures { result ≡ is_vlen layout kind vlen }
 {
     match layout {
-        Layout::Sized(_) => true,
-        Layout::Prototype => true,
-        Layout::Link => {
+        KindLayout::Sized(_) => true,
+        KindLayout::Prototype => true,
+        KindLayout::Link => {
             if kind == BTF_KIND_FUNC {
                 vlen < 3
             } else {
                 vlen == 0
             }
         }
-        Layout::Int => vlen == 0,
-        Layout::Array => vlen == 0,
-        Layout::Forward => vlen == 0,
-        Layout::TaggedLink => vlen == 0,
-        Layout::Float => vlen == 0,
+        KindLayout::Int => vlen == 0,
+        KindLayout::Array => vlen == 0,
+        KindLayout::Forward => vlen == 0,
+        KindLayout::TaggedLink => vlen == 0,
+        KindLayout::Float => vlen == 0,
     }
 }
 
-fn is_third(layout: Layout, third: u32) -> bool
+fn is_third(layout: KindLayout, third: u32) -> bool
     ensures { result ≡ is_third layout third }
 {
     match layout {
-        Layout::Array => third == 0,
-        Layout::Forward => third == 0,
-        Layout::Int => true,
-        Layout::Link => true,
-        Layout::TaggedLink => true,
-        Layout::Float => true,
-        Layout::Sized(_) => true,
-        Layout::Prototype => true,
+        KindLayout::Array => third == 0,
+        KindLayout::Forward => third == 0,
+        KindLayout::Int => true,
+        KindLayout::Link => true,
+        KindLayout::TaggedLink => true,
+        KindLayout::Float => true,
+        KindLayout::Sized(_) => true,
+        KindLayout::Prototype => true,
     }
 }
 
-fn is_info(layout: Layout, info: u32, third: u32) -> bool
+fn is_info(layout: KindLayout, info: u32, third: u32) -> bool
     ensures { result ≡ is_info layout info third }
 {
     is_clean(info)
@@ -168,7 +168,7 @@ pub fn head_of(order: Order, place: u64, id: u32, rest: &[u8]) -> Result<usize, 
 }
 
 fn checked(
-    layout: Layout,
+    layout: KindLayout,
     place: u64,
     id: u32,
     info: u32,

@@ -4,9 +4,9 @@ ghost use Rattle.std.specs.Prelude.{length, map, take, drop, slice_index_or, is_
 ghost use Rattle.std.specs.Prelude.{IsTrue, MatchResult, OnOk, IfSome};
 ghost use Rattle.std.specs.Option.{option_map};
 ghost use Rattle.btf_codec.specs.Gives.{EndsWithNul, Gives, IsBefore, IsPiece, base_seen};
-ghost use Rattle.btf_codec.specs.Gives.{before_of, shown_of, table_over, unless};
+ghost use Rattle.btf_codec.specs.Gives.{before_of, decoded_of, table_over, unless};
 ghost use Rattle.btf_codec.specs.Reading.{file_of, is_wanted, names_before, pieces_fault, table_of};
-ghost use Rattle.btf_codec.specs.Reading.{type_shown, types_before, types_of, word_in};
+ghost use Rattle.btf_codec.specs.Reading.{decoded_type, types_before, types_of, word_in};
 ghost use Rattle.btf_codec.specs.Spells.{Spells};
 ghost use Rattle.btf_codec.specs.declared.fault.BtfFault.TheVariants.{Memory};
 ghost use Rattle.btf_codec.specs.declared.table.Table.{Table};
@@ -14,10 +14,10 @@ ghost use Rattle.c_model.specs.declared.graph.CType.{CType};
 ghost use Rattle.dw_base.specs.declared.numbers.Order.{Order};
 ghost use denote.Bor.{Bor};
 
+use crate::decoded::{TableStrings, decoded_type};
 use crate::fault::BtfFault;
-use crate::faults::words_fault;
 use crate::file::{are_strings, order_in, pieces_of, sections_of};
-use crate::shown::{Texts, type_shown};
+use crate::offsets::words_fault;
 use crate::table::Table;
 use c_model::{CType, Nodes, copy_of_types};
 use dw_base::Order;
@@ -55,7 +55,7 @@ fn check_words(
 fn push_types<'a>(
     alloc: Global,
     all: &mut Vec<CType<'a>>,
-    texts: Texts<'a>,
+    texts: TableStrings<'a>,
     order: Order,
     pieces: &[&[u8]],
 ) -> Result<(), AllocError>
@@ -66,7 +66,7 @@ fn push_types<'a>(
         (texts.entry.base.now ++ texts.entry.own.now) order (map (λ p. p.now) pieces.now)) }
 {
     for piece in pieces {
-        all.push(type_shown(alloc, texts, order, piece)?)?;
+        all.push(decoded_type(alloc, texts, order, piece)?)?;
     }
     Ok(())
 }
@@ -160,7 +160,7 @@ pub fn read<'a>(
 ) -> Result<Table<'a>, BtfFault>
     requires { IfSome base (λ b. IsBefore b.now) }
     // The table, or the first fault by the order of the checks.
-    ensures gives { Gives shown_of result
+    ensures gives { Gives decoded_of result
         (table_of (option_map (λ b. before_of b.now) base.entry) want bytes.now) }
     // The bytes spell the own types and strings over the base.
     ensures spelled { IfOk result (λ t. Spells (base_seen (option_map
@@ -175,7 +175,7 @@ pub fn read<'a>(
     ensures complete { (order : Order) (own : List CType) (names : List ℕ) →
         Spells (base_seen (option_map (λ b. before_of b.now) base.entry)) order own names bytes.now
         → IsTrue (is_wanted want order) →
-        MatchResult result (λ t. shown_of t ≡ table_over
+        MatchResult result (λ t. decoded_of t ≡ table_over
         (option_map (λ b. before_of b.now) base.entry) order own names) (λ e. e ≡ Memory) }
 {
     let mut all = types_of(alloc, base)?;
@@ -192,7 +192,7 @@ pub fn read<'a>(
         Ok(file) => file,
         Err(fault) => return Err(fault),
     };
-    let texts = Texts {
+    let texts = TableStrings {
         base: strings,
         own: file.names,
     };

@@ -13,7 +13,7 @@ ghost use Rattle.c_model.specs.declared.graph.CType.{CType};
 ghost use Rattle.c_model.specs.declared.label.Part.{Part};
 ghost use Rattle.c_model.specs.declared.graph.Ref.{Ref};
 
-use crate::layout::{Layout, PartLayout, layout_of};
+use crate::layout::{KindLayout, PartLayout, layout_of};
 use crate::table::TableOut;
 use crate::words::{
     after_first, half_bytes, high_half, id_at, info, low_half, offset_in, put_words,
@@ -95,20 +95,20 @@ fn words_of(t: &CType<'_>) -> u32
 }
 
 /// How many words follow the name and the info word.
-fn words_by(layout: Layout, t: &CType<'_>) -> u32
+fn words_by(layout: KindLayout, t: &CType<'_>) -> u32
     requires { length (rest_fields layout t.now.label t.now.targets) < 2 ^ 32 }
     ensures { result ≡ length (rest_fields layout t.now.label t.now.targets) }
 {
     let parts = t.label.parts.items();
     match layout {
-        Layout::Link => 1,
-        Layout::Forward => 1,
-        Layout::Float => 1,
-        Layout::Int => 2,
-        Layout::TaggedLink => 2,
-        Layout::Array => 4,
-        Layout::Sized(part) => 1 + words_of_parts(part, parts),
-        Layout::Prototype => 1 + words_of_parts(PartLayout::Parameter, parts),
+        KindLayout::Link => 1,
+        KindLayout::Forward => 1,
+        KindLayout::Float => 1,
+        KindLayout::Int => 2,
+        KindLayout::TaggedLink => 2,
+        KindLayout::Array => 4,
+        KindLayout::Sized(part) => 1 + words_of_parts(part, parts),
+        KindLayout::Prototype => 1 + words_of_parts(PartLayout::Parameter, parts),
     }
 }
 
@@ -169,7 +169,7 @@ fn put_type(
 
 /// Appends the name and the info word of a type and what follows them.
 fn put_by(
-    layout: Layout,
+    layout: KindLayout,
     out: &mut Vec<u8>,
     order: Order,
     strings: &Strings<'_>,
@@ -186,20 +186,20 @@ fn put_by(
     let targets = t.targets.items();
     let first = id_at(targets, 0);
     match layout {
-        Layout::Int => put_words(out, order, &[name, info, label.size, label.extra]),
-        Layout::Link => put_words(out, order, &[name, info, first]),
-        Layout::Array => {
+        KindLayout::Int => put_words(out, order, &[name, info, label.size, label.extra]),
+        KindLayout::Link => put_words(out, order, &[name, info, first]),
+        KindLayout::Array => {
             let index = id_at(targets, 1);
             put_words(out, order, &[name, info, 0, first, index, label.extra])
         }
-        Layout::Forward => put_words(out, order, &[name, info, 0]),
-        Layout::TaggedLink => put_words(out, order, &[name, info, first, label.extra]),
-        Layout::Float => put_words(out, order, &[name, info, label.size]),
-        Layout::Sized(part) => {
+        KindLayout::Forward => put_words(out, order, &[name, info, 0]),
+        KindLayout::TaggedLink => put_words(out, order, &[name, info, first, label.extra]),
+        KindLayout::Float => put_words(out, order, &[name, info, label.size]),
+        KindLayout::Sized(part) => {
             put_words(out, order, &[name, info, label.size])?;
             put_parts(out, order, strings, part, parts, targets)
         }
-        Layout::Prototype => {
+        KindLayout::Prototype => {
             put_words(out, order, &[name, info, first])?;
             put_parts(
                 out,

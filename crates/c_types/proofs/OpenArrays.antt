@@ -3,7 +3,7 @@ use Rattle.std.proofs.Common.{◌≡◌, not, List, ◌∷◌, ◌++◌, None, r
 use Rattle.dwarf_forms.specs.Meanings.{Sections}
 use Rattle.entry_tree.specs.Items.{Given}
 use Rattle.c_types.specs.declared.open.OpenArray.{OpenArray}
-use Rattle.c_types.specs.declared.open.Kept.TheVariants.{Array}
+use Rattle.c_types.specs.declared.open.OpenType.TheVariants.{Array}
 use Rattle.type_attributes.specs.declared.fault.TypeFault.TheVariants.{MissingType, ArrayLength}
 use Rattle.type_attributes.specs.Scopes.{Scope}
 use Rattle.type_attributes.specs.Faults.{noted, refuse_if}

@@ -6,7 +6,7 @@ use Rattle.std.proofs.Math.Bool.{or-false}
 use Rattle.dwarf_forms.specs.Meanings.{Sections}
 use Rattle.entry_tree.specs.Items.{Given}
 use Rattle.c_types.specs.declared.open.OpenFunction.{OpenFunction}
-use Rattle.c_types.specs.declared.open.Kept.TheVariants.{Function}
+use Rattle.c_types.specs.declared.open.OpenType.TheVariants.{Function}
 use Rattle.type_attributes.specs.declared.fault.TypeFault.{TypeFault}
 use Rattle.type_attributes.specs.Scopes.{Scope}
 use Rattle.type_attributes.specs.Faults.{noted}

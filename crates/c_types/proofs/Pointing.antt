@@ -11,9 +11,9 @@ use Rattle.std.proofs.Math.Seq.{set-append_seam}
 use Rattle.dwarf_forms.specs.Meanings.{Sections}
 use Rattle.entry_tree.specs.Items.{Given}
 use Rattle.c_types.specs.declared.open.Open.{Open}
-use Rattle.c_types.specs.declared.open.Kept.{Kept}
-use Rattle.c_types.specs.declared.open.Kept.TheVariants.{Structure, Function, Enumeration, Array}
-use Rattle.c_types.specs.declared.open.Kept.TheVariants.{Pointer}
+use Rattle.c_types.specs.declared.open.OpenType.{OpenType}
+use Rattle.c_types.specs.declared.open.OpenType.TheVariants.{Structure, Function, Enumeration, Array}
+use Rattle.c_types.specs.declared.open.OpenType.TheVariants.{Pointer}
 use Rattle.c_types.specs.declared.open.OpenPointer.{OpenPointer}
 use Rattle.c_types.specs.declared.open.LastPointer.{LastPointer}
 use Rattle.type_attributes.specs.declared.source.SourceType.{SourceType}
@@ -121,21 +121,21 @@ pub stands_out : (os : List Open) (o : Open) (k : ℕ) → AreNested (os ++ o �
 stands_out os o k nested lt is = pointed_last os o k nested lt ∙ ap
     (λ (x : Option Target). if o.depth + 1 == k then x else None) is ∙ none_if (o.depth + 1 == k)
 
-pub no_pointer : (k : Kept) → ((p : OpenPointer) → k ≡ Pointer p → ⊥) → own_of k ≡ None
+pub no_pointer : (k : OpenType) → ((p : OpenPointer) → k ≡ Pointer p → ⊥) → own_of k ≡ None
 no_pointer (Structure o) h = refl
 no_pointer (Function o) h = refl
 no_pointer (Enumeration o) h = refl
 no_pointer (Array o) h = refl
 no_pointer (Pointer p) h = absurd (h p refl)
 
-pub is_pointer : (k : Kept) (p : OpenPointer) → pointer_in k ≡ Some p → k ≡ Pointer p
+pub is_pointer : (k : OpenType) (p : OpenPointer) → pointer_in k ≡ Some p → k ≡ Pointer p
 is_pointer (Structure o) p is = absurd (none-some p is)
 is_pointer (Function o) p is = absurd (none-some p is)
 is_pointer (Enumeration o) p is = absurd (none-some p is)
 is_pointer (Array o) p is = absurd (none-some p is)
 is_pointer (Pointer q) p is = ap (λ (x : OpenPointer). Pointer x) (same_Some q p is)
 
-pub unkept : (k : Kept) (r : Option OpenPointer) → r ≡ pointer_in k
+pub unkept : (k : OpenType) (r : Option OpenPointer) → r ≡ pointer_in k
     → ((p : OpenPointer) → r ≡ Some p → ⊥) → own_of k ≡ None
 unkept (Structure o) r is h = refl
 unkept (Function o) r is h = refl
@@ -289,7 +289,7 @@ module _ (c : Scope) (left : List Open) (o : Open) (q : OpenPointer) (e : Given)
   done es =
       ap (λ (ks : List Given). made_at c o ks) (kids_child o.depth e es (omega (arith, one)))
       ∙ stack.made_is c o (e ∷ children_of o.depth es)
-      ∙ ap (λ (k : Kept). kept_made c k (e ∷ children_of o.depth es)) kept
+      ∙ ap (λ (k : OpenType). kept_made c k (e ∷ children_of o.depth es)) kept
       ∙ pointer_linked c.sections e q (children_of o.depth es) told.1
 
   -- and the new one
@@ -333,7 +333,7 @@ module _ (c : Scope) (left : List Open) (o : Open) (q : OpenPointer) (e : Given)
       let kids = children_of o.depth (e ∷ es) in
       let none : refused_at c o (children_of o.depth (e ∷ es)) ≡ None =
       refused_is c o (children_of o.depth (e ∷ es))
-      ∙ ap (λ (k : Kept). kept_refused c k (children_of o.depth (e ∷ es))) kept in
+      ∙ ap (λ (k : OpenType). kept_refused c k (children_of o.depth (e ∷ es))) kept in
       let all : joined o.before current
       ≡ joined o.before (joined (refused_at c o (children_of o.depth (e ∷ es))) current) =
       ap (λ (x : Option TypeFault). joined o.before x)

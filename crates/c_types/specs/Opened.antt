@@ -11,9 +11,9 @@ use Rattle.c_types.specs.declared.open.OpenFunction.{OpenFunction}
 use Rattle.c_types.specs.declared.open.OpenEnumeration.{OpenEnumeration}
 use Rattle.c_types.specs.declared.open.OpenArray.{OpenArray}
 use Rattle.c_types.specs.declared.open.OpenPointer.{OpenPointer}
-use Rattle.c_types.specs.declared.open.Kept.{Kept}
-use Rattle.c_types.specs.declared.open.Kept.TheVariants.{Structure, Function, Enumeration, Array}
-use Rattle.c_types.specs.declared.open.Kept.TheVariants.{Pointer}
+use Rattle.c_types.specs.declared.open.OpenType.{OpenType}
+use Rattle.c_types.specs.declared.open.OpenType.TheVariants.{Structure, Function, Enumeration, Array}
+use Rattle.c_types.specs.declared.open.OpenType.TheVariants.{Pointer}
 use Rattle.type_attributes.specs.declared.source.SourceType.{SourceType}
 use Rattle.type_attributes.specs.declared.source.Target.{Target}
 use Rattle.type_attributes.specs.declared.source.Target.TheVariants.{Index}
@@ -186,14 +186,14 @@ unfoldable pub pointer_made : Sections → OpenPointer → List Given → Source
 pointer_made c o kids = pointer_by o (link_to c o.at o.own kids)
 
 -- of what is kept of any open type
-abbrev pub kept_made : Scope → Kept → List Given → SourceType
+abbrev pub kept_made : Scope → OpenType → List Given → SourceType
 kept_made s (Structure o) kids = structure_made s o kids
 kept_made s (Function o) kids = function_made s.sections o kids
 kept_made s (Enumeration o) kids = enumeration_made s.sections o kids
 kept_made s (Array o) kids = array_made o kids
 kept_made s (Pointer o) kids = pointer_made s.sections o kids
 
-abbrev pub kept_refused : Scope → Kept → List Given → Option TypeFault
+abbrev pub kept_refused : Scope → OpenType → List Given → Option TypeFault
 kept_refused s (Structure o) kids = structure_refused s o kids
 kept_refused s (Function o) kids = function_refused s.sections o kids
 kept_refused s (Enumeration o) kids = enumeration_refused s.sections o kids
@@ -201,7 +201,7 @@ kept_refused s (Array o) kids = array_refused o kids
 kept_refused s (Pointer o) kids = None
 
 -- it comes to a row, whichever children come
-pub record ComesTo (s : Scope) (k : Kept) (row : List Given → Row) : Type 0 where
+pub record ComesTo (s : Scope) (k : OpenType) (row : List Given → Row) : Type 0 where
   pub made : (kids : List Given) → kept_made s k kids ≡ (row kids).made
   pub refused : (kids : List Given) → kept_refused s k kids ≡ noted None (row kids).refused
 

@@ -8,7 +8,7 @@ ghost use Rattle.c_types.specs.Arrays.{bound_in, length_of_count, length_of_boun
 ghost use Rattle.c_types.specs.Arrays.{array_row};
 ghost use Rattle.c_types.specs.Lengths.{extended, is_too_long, elements_from};
 ghost use Rattle.c_types.specs.Opened.{array_made, array_refused, ComesTo};
-ghost use Rattle.c_types.specs.declared.open.Kept.TheVariants.{Array};
+ghost use Rattle.c_types.specs.declared.open.OpenType.TheVariants.{Array};
 
 use crate::open::{Complete, OpenArray};
 use c_model::kinds::BTF_KIND_ARRAY;

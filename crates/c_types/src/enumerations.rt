@@ -15,7 +15,7 @@ ghost use Rattle.c_types.specs.Enumerations.{fits_size, enum_size_refused, enume
 ghost use Rattle.c_types.specs.Enumerations.{bare_row, enumeration_row};
 ghost use Rattle.c_types.specs.Opened.{enumeration_made, enumeration_refused, ComesTo};
 ghost use Rattle.c_types.specs.Opened.{GathersEnumerator};
-ghost use Rattle.c_types.specs.declared.open.Kept.TheVariants.{Enumeration};
+ghost use Rattle.c_types.specs.declared.open.OpenType.TheVariants.{Enumeration};
 
 use crate::open::{Complete, OpenEnumeration};
 use c_model::kinds::{BTF_KIND_ENUM, BTF_KIND_ENUM64};

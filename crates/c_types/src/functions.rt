@@ -7,7 +7,7 @@ ghost use Rattle.type_attributes.specs.Faults.{noted};
 ghost use Rattle.c_types.specs.Functions.{parameter_part, parameter_target, parameter_refused};
 ghost use Rattle.c_types.specs.Functions.{rest_part, rest_target, function_row};
 ghost use Rattle.c_types.specs.Opened.{function_made, function_refused, ComesTo, GathersParameter};
-ghost use Rattle.c_types.specs.declared.open.Kept.TheVariants.{Function};
+ghost use Rattle.c_types.specs.declared.open.OpenType.TheVariants.{Function};
 
 use crate::open::{Complete, OpenFunction};
 use c_model::kinds::BTF_KIND_FUNC_PROTO;

@@ -11,7 +11,7 @@ ghost use Rattle.c_types.specs.Places.{reserved};
 ghost use Rattle.c_types.specs.Walking.{filled, least_of, AreNested, ArePlaced, AreAbove};
 ghost use Rattle.c_types.specs.Walking.{IsShallow, own_of, pointed_at};
 
-use crate::open::{Kept, Reading};
+use crate::open::{OpenType, Reading};
 use crate::walking::{begin_to, close_to};
 use std::alloc::{AllocError, Global};
 
@@ -48,7 +48,7 @@ pub fn begin<'a>(
     alloc: Global,
     at: u64,
     depth: u32,
-    kept: Kept<'a>,
+    kept: OpenType<'a>,
     reading: &mut Reading<'a>,
 ) -> Result<(), AllocError>
     requires nested { AreNested reading.old.opens.items }

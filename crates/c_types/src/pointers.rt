@@ -11,7 +11,7 @@ ghost use Rattle.c_types.specs.Pointers.{tag_in};
 ghost use Rattle.c_types.specs.Opened.{pointer_by, pointer_made};
 ghost use Rattle.c_types.specs.Walking.{AreNested, AreAbove, pointer_in, pointed_at};
 
-use crate::open::{Complete, Kept, Open, OpenPointer};
+use crate::open::{Complete, Open, OpenPointer, OpenType};
 use dw_base::Name;
 use dwarf_abbrev::constants::DW_AT_const_value;
 use dwarf_forms::FormCtx;
@@ -53,11 +53,11 @@ pub(crate) fn complete_pointer<'a>(alloc: Global, whole: OpenPointer<'a>) -> Com
 }
 
 /// The pointer that is kept of an open type, if it is one.
-pub(crate) fn kept_pointer(kept: Kept<'_>) -> Option<OpenPointer<'_>>
+pub(crate) fn kept_pointer(kept: OpenType<'_>) -> Option<OpenPointer<'_>>
     ensures { result ≡ pointer_in kept.entry }
 {
     match kept {
-        Kept::Pointer(pointer) => Some(pointer),
+        OpenType::Pointer(pointer) => Some(pointer),
         _other => None,
     }
 }
@@ -78,7 +78,7 @@ fn stands_in_pointer(opens: &[Open<'_>], depth: u32) -> bool
     match opens.last() {
         None => false,
         Some(last) => match last.kept {
-            Kept::Pointer(_) => u64::from(last.depth) + 1 == u64::from(depth),
+            OpenType::Pointer(_) => u64::from(last.depth) + 1 == u64::from(depth),
             _ => false,
         },
     }

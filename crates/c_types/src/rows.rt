@@ -19,7 +19,7 @@ ghost use Rattle.c_types.specs.Walking.{with_last, IsComplete, pointed_at};
 use crate::arrays::open_array;
 use crate::enumerations::{declared_enumeration, open_enumeration};
 use crate::functions::open_function;
-use crate::open::{Kept, LastPointer, Open, OpenPointer};
+use crate::open::{LastPointer, Open, OpenPointer, OpenType};
 use crate::pointers::pointing;
 use crate::structures::{forward, open_structure};
 use crate::taker::Taker;
@@ -63,7 +63,7 @@ pub(crate) fn take_structure<'a, T: Taker<'a>>(
 {
     let mut declared = None;
     if !flag(entry, DW_AT_declaration, &mut declared) {
-        let kept = Kept::Structure(open_structure(alloc, ctx, entry, is_union, declared));
+        let kept = OpenType::Structure(open_structure(alloc, ctx, entry, is_union, declared));
         begin_to(
             alloc,
             entry.at(),
@@ -110,7 +110,7 @@ pub(crate) fn take_enumeration<'a, T: Taker<'a>>(
     let mut declared = None;
     let is_declared = flag(entry, DW_AT_declaration, &mut declared);
     if !is_declared {
-        let kept = Kept::Enumeration(open_enumeration(alloc, ctx, entry, declared));
+        let kept = OpenType::Enumeration(open_enumeration(alloc, ctx, entry, declared));
         begin_to(
             alloc,
             entry.at(),
@@ -154,7 +154,7 @@ pub(crate) fn take_function<'a, T: Taker<'a>>(
     ensures pointed { OnOk result ((d : ℕ) → pointed_at opens.new.items d ≡ (if
         entry.now.depth + 1 == d then None else pointed_at opens.old.items d)) }
 {
-    let kept = Kept::Function(open_function(alloc, ctx, entry)?);
+    let kept = OpenType::Function(open_function(alloc, ctx, entry)?);
     begin_to(
         alloc,
         entry.at(),
@@ -193,7 +193,7 @@ pub(crate) fn take_array<'a, T: Taker<'a>>(
     ensures pointed { OnOk result ((d : ℕ) → pointed_at opens.new.items d ≡ (if
         entry.now.depth + 1 == d then None else pointed_at opens.old.items d)) }
 {
-    let kept = Kept::Array(open_array(ctx, entry));
+    let kept = OpenType::Array(open_array(ctx, entry));
     begin_to(
         alloc,
         entry.at(),

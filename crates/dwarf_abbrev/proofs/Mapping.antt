@@ -16,7 +16,7 @@ use Rattle.dwarf_abbrev.specs.ValueMaps.{has_spec, IsFirst, slot_in, slots, slot
 use Rattle.dwarf_abbrev.specs.ValueMaps.{ArePlaces, IsRun, AreRuns}
 use Rattle.dwarf_abbrev.specs.declared.size.Size.{Size}
 use Rattle.dwarf_abbrev.specs.declared.spec.Spec.{Spec}
-use Rattle.dwarf_abbrev.specs.declared.value_map.Run.{Run}
+use Rattle.dwarf_abbrev.specs.declared.value_map.FixedRun.{FixedRun}
 use Rattle.dwarf_abbrev.proofs.Sizing.{sizes_push}
 
 one_without : (b : Bool) → b ≡ false → (b || false) ≡ false
@@ -206,12 +206,12 @@ pushed (x ∷ xs) y (suc i) z e = moved (pushed xs y i z e) where
   moved (inl h) = inl h
   moved (inr h) = inr (ap suc h.0, h.1)
 
-added : (specs : List Spec) (runs : List Run) (run z : Run) (i : ℕ) → AreRuns specs runs
+added : (specs : List Spec) (runs : List FixedRun) (run z : FixedRun) (i : ℕ) → AreRuns specs runs
     → IsRun specs (length runs) run
     → (slice_get runs i ≡ Some z) ⊎ ((i ≡ length runs) × (run ≡ z)) → IsRun specs i z
 added specs runs run z i all here (inl h) = all i z h
 added specs runs run z i all here (inr h) = rw (h.0, sym h.1) here
 
-pub are_more : (specs : List Spec) (runs : List Run) (run : Run) → AreRuns specs runs
+pub are_more : (specs : List Spec) (runs : List FixedRun) (run : FixedRun) → AreRuns specs runs
     → IsRun specs (length runs) run → AreRuns specs (runs ++ run ∷ [])
 are_more specs runs run all here i z e = added specs runs run z i all here (pushed runs run i z e)

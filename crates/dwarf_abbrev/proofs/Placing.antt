@@ -10,7 +10,7 @@ use Rattle.std.proofs.lemmas.List.{get_or-map, map_push, get_or_append_left, get
 use Rattle.std.proofs.lemmas.List.{length-map, length_push}
 use Rattle.dwarf_abbrev.specs.Declarations.{Declaration, place_of, declaration_with}
 use Rattle.dwarf_abbrev.specs.Rows.{IsPlaced, code_at, declarations_of, declaration_of}
-use Rattle.dwarf_abbrev.specs.declared.row.Row.{Row}
+use Rattle.dwarf_abbrev.specs.declared.row.OwnedAbbrev.{OwnedAbbrev}
 
 pub place_found : (declarations : List Declaration) (i q : ℕ) → i < length declarations
     → code_at declarations i ≡ q → ((j : ℕ) → j < i → code_at declarations j ≡ q → ⊥)
@@ -193,7 +193,7 @@ places_push declarations r old new p none others here =
     distinct i j a b e (inr k) (inr l) = last i a k ∙ sym (last j b l)
 
 -- of the rows
-pub code_of_row : (rows : List Row) (i : ℕ) (x : Row) → i < length rows → x ≡ get_or rows i x
+pub code_of_row : (rows : List OwnedAbbrev) (i : ℕ) (x : OwnedAbbrev) → i < length rows → x ≡ get_or rows i x
     → code_at (declarations_of rows) i ≡ x.code
 code_of_row rows i x lt is =
     let l : i < length (declarations_of rows) = rw (length-map rows declaration_of) lt in
@@ -201,10 +201,10 @@ code_of_row rows i x lt is =
     ∙ ap (λ (r : Declaration). r.code)
     (get_or-map declaration_of rows i x (declaration_of x) lt ∙ ap declaration_of (sym is))
 
-pub declaration_of_row : (rows : List Row) (i : ℕ) (x : Row) → i < length rows → x ≡ get_or rows i x
+pub declaration_of_row : (rows : List OwnedAbbrev) (i : ℕ) (x : OwnedAbbrev) → i < length rows → x ≡ get_or rows i x
     → get_or (declarations_of rows) i (declaration_of x) ≡ declaration_of x
 declaration_of_row rows i x lt is =
     get_or-map declaration_of rows i x (declaration_of x) lt ∙ ap declaration_of (sym is)
 
-pub declarations_length : (rows : List Row) → length (declarations_of rows) ≡ length rows
+pub declarations_length : (rows : List OwnedAbbrev) → length (declarations_of rows) ≡ length rows
 declarations_length rows = length-map rows declaration_of

@@ -3,14 +3,14 @@ use Rattle.std.specs.Prelude.{ℕ, ◌≡◌, ◌+◌, ◌<◌, ◌⊎◌, List,
 use Rattle.std.specs.Ordering.{nat_cmp}
 use Rattle.std.specs.BTreeMap.{BTreeMap, get}
 use Rattle.dwarf_abbrev.specs.Declarations.{Declaration}
-use Rattle.dwarf_abbrev.specs.declared.row.Row.{Row}
+use Rattle.dwarf_abbrev.specs.declared.row.OwnedAbbrev.{OwnedAbbrev}
 use Rattle.dwarf_abbrev.specs.declared.row.Abbrev.{Abbrev}
 
-abbrev pub declaration_of : Row → Declaration
+abbrev pub declaration_of : OwnedAbbrev → Declaration
 declaration_of r =
     record { code = r.code; tag = r.tag; children = r.children; specs = r.specs.items }
 
-abbrev pub declarations_of : List Row → List Declaration
+abbrev pub declarations_of : List OwnedAbbrev → List Declaration
 declarations_of rows = map declaration_of rows
 
 abbrev pub shown : Abbrev → Declaration

@@ -13,7 +13,7 @@ use Rattle.dwarf_abbrev.specs.declared.constants.TheConstants.{DW_AT_count, DW_A
 use Rattle.dwarf_abbrev.specs.declared.constants.TheConstants.{DW_AT_external, DW_AT_language}
 use Rattle.dwarf_abbrev.specs.declared.constants.TheConstants.{DW_AT_str_offsets_base}
 use Rattle.dwarf_abbrev.specs.declared.spec.Spec.{Spec}
-use Rattle.dwarf_abbrev.specs.declared.value_map.Run.{Run}
+use Rattle.dwarf_abbrev.specs.declared.value_map.FixedRun.{FixedRun}
 use Rattle.dwarf_abbrev.specs.declared.value_map.ValueMap.{ValueMap}
 use Rattle.dwarf_abbrev.specs.Sizes.{IsSize}
 
@@ -55,11 +55,11 @@ ArePlaces specs n places =
     → SaysFirst name specs n o
 
 -- the values between an earlier attribute and this one have fixed widths, and so many bytes
-abbrev pub IsRun : List Spec → ℕ → Run → Type 0
+abbrev pub IsRun : List Spec → ℕ → FixedRun → Type 0
 IsRun specs i r = (r.from ≤ i) × IsSize (drop r.from (take i specs)) r.size
 
-abbrev pub AreRuns : List Spec → List Run → Type 0
-AreRuns specs runs = (i : ℕ) (r : Run) → slice_get runs i ≡ Some r → IsRun specs i r
+abbrev pub AreRuns : List Spec → List FixedRun → Type 0
+AreRuns specs runs = (i : ℕ) (r : FixedRun) → slice_get runs i ≡ Some r → IsRun specs i r
 
 pub record IsMapOf (specs : List Spec) (m : ValueMap) : Type 0 where
   pub runs : AreRuns specs m.runs.items

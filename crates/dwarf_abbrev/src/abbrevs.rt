@@ -9,7 +9,7 @@ ghost use Rattle.dwarf_abbrev.specs.Table.{Gives, declaration_at, table_at};
 
 use crate::fault::AbbrevFault;
 use crate::pieces::{read_flag, read_number, read_specs};
-use crate::row::{Abbrev, Row};
+use crate::row::{Abbrev, OwnedAbbrev};
 use crate::value_map::value_map;
 use std::alloc::{AllocError, Global};
 use std::collections::BTreeMap;
@@ -22,7 +22,7 @@ use std::marker::Model;
 /// counted from 1, is put into a map besides.
 #[derive(Drop)]
 pub struct Abbrevs {
-    rows: Vec<Row>,
+    rows: Vec<OwnedAbbrev>,
     others: BTreeMap<u64, usize>,
 }
 
@@ -41,7 +41,7 @@ impl Model for Abbrevs {
 
 /// The index of a code.
 #[inline(always)]
-fn place(rows: &[Row], others: &BTreeMap<u64, usize>, code: u64) -> Option<usize>
+fn place(rows: &[OwnedAbbrev], others: &BTreeMap<u64, usize>, code: u64) -> Option<usize>
     requires { IsPlaced (declarations_of rows.now) others.now }
     ensures { result ≡ place_of code (declarations_of rows.now) }
 {
@@ -53,7 +53,7 @@ fn place(rows: &[Row], others: &BTreeMap<u64, usize>, code: u64) -> Option<usize
 
 /// The index that a code has where the codes are 1, 2, 3 and so on.
 #[inline(always)]
-fn guess(rows: &[Row], code: u64) -> Option<usize>
+fn guess(rows: &[OwnedAbbrev], code: u64) -> Option<usize>
     ensures some { IfSome result
         (λ i. (i < length rows.now) × (code_at (declarations_of rows.now) i ≡ code)) }
     ensures none { IsNone result → 0 < code → code - 1 < length rows.now
@@ -76,9 +76,9 @@ fn read_row(
     alloc: Global,
     bytes: &[u8],
     at: u64,
-    rows: &[Row],
+    rows: &[OwnedAbbrev],
     others: &BTreeMap<u64, usize>,
-) -> Result<(Option<Row>, u64), AbbrevFault>
+) -> Result<(Option<OwnedAbbrev>, u64), AbbrevFault>
     requires { IsPlaced (declarations_of rows.now) others.now }
     ensures gives { Gives (λ x. (option_map declaration_of x.0, x.1)) result
         (declaration_at bytes.now at (declarations_of rows.now)) }
@@ -96,7 +96,7 @@ fn read_row(
     let (specs, after) = read_specs(alloc, bytes, at, after)?;
     let map = value_map(alloc, specs.as_slice())?;
     Ok((
-        Some(Row {
+        Some(OwnedAbbrev {
             code,
             tag,
             specs,

@@ -19,4 +19,4 @@ pub use fault::AbbrevFault;
 pub use row::Abbrev;
 pub use size::{Size, Width};
 pub use spec::Spec;
-pub use value_map::{Run, ValueMap};
+pub use value_map::{FixedRun, ValueMap};

@@ -6,7 +6,7 @@ use crate::value_map::ValueMap;
 
 /// An abbreviation as the table owns it.
 #[derive(Debug, Drop)]
-pub(crate) struct Row {
+pub(crate) struct OwnedAbbrev {
     pub(crate) code: u64,
     pub(crate) tag: u64,
     pub(crate) specs: Vec<Spec>,

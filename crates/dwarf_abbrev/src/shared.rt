@@ -4,7 +4,7 @@ use crate::fault::AbbrevFault;
 use crate::row::Abbrev;
 use crate::size::{Size, Width};
 use crate::spec::Spec;
-use crate::value_map::{Run, ValueMap};
+use crate::value_map::{FixedRun, ValueMap};
 
 fn crosses<T: Send + Sync>() {}
 
@@ -14,7 +14,7 @@ fn all_cross<'t>() {
     crosses::<Spec>();
     crosses::<Size>();
     crosses::<Width>();
-    crosses::<Run>();
+    crosses::<FixedRun>();
     crosses::<ValueMap>();
     crosses::<AbbrevFault>();
 }

@@ -18,7 +18,7 @@ pub const SLOTS: usize = 16;
 
 /// Values of fixed widths that follow one another.
 #[derive(Clone, Copy, Debug, PartialEq, Eq)]
-pub struct Run {
+pub struct FixedRun {
     /// The index of the first one's attribute.
     pub from: usize,
     /// How many bytes they have.
@@ -30,7 +30,7 @@ pub struct Run {
 pub struct ValueMap {
     /// For each attribute, and for the end of all values, the run of values before it: those of
     /// fixed widths, back to the last one without.
-    pub runs: Vec<Run>,
+    pub runs: Vec<FixedRun>,
     /// The indices of the attributes behind whose values a run begins, in order: those without a
     /// fixed width.
     pub loose: Vec<usize>,
@@ -80,17 +80,17 @@ fn note_place(places: &mut [Option<usize>; SLOTS], specs: &[Spec], index: usize)
 
 /// The run before the next attribute. It begins there where the form has no fixed width, and where
 /// a sum passes 32 bits.
-fn next_run(specs: &[Spec], index: usize, run: Run) -> Run
+fn next_run(specs: &[Spec], index: usize, run: FixedRun) -> FixedRun
     requires inside { index < length specs.now }
     requires run { IsRun specs.now index run }
     ensures { IsRun specs.now (index + 1) result }
 {
     match with_form(run.size, specs[index].form) {
-        Some(size) => Run {
+        Some(size) => FixedRun {
             from: run.from,
             size,
         },
-        None => Run {
+        None => FixedRun {
             from: index + 1,
             size: NO_BYTES,
         },
@@ -104,7 +104,7 @@ pub(crate) fn value_map(alloc: Global, specs: &[Spec]) -> Result<ValueMap, Alloc
     let mut runs = Vec::new(alloc);
     let mut loose = Vec::new(alloc);
     let mut places = [None; SLOTS];
-    let mut run = Run {
+    let mut run = FixedRun {
         from: 0,
         size: NO_BYTES,
     };

@@ -14,10 +14,10 @@ use Rattle.dwarf_abbrev.specs.declared.spec.Spec.{Spec}
 use Rattle.dwarf_abbrev.specs.Sizes.{widths, of_row, width_in, bytes_of}
 use Rattle.dwarf_forms.specs.declared.fault.FormFault.{FormFault}
 use Rattle.dwarf_forms.specs.declared.fault.FormFault.TheVariants.{ValueTruncated}
-use Rattle.dwarf_forms.specs.declared.layout.Layout.{Layout}
-use Rattle.dwarf_forms.specs.declared.layout.Layout.TheVariants.{Fixed, Leb, Signed, Implicit, Flag}
-use Rattle.dwarf_forms.specs.declared.layout.Layout.TheVariants.{Present, Text, Sixteen, Counted}
-use Rattle.dwarf_forms.specs.declared.layout.Layout.TheVariants.{LebCounted, Elsewhere}
+use Rattle.dwarf_forms.specs.declared.layout.FormLayout.{FormLayout}
+use Rattle.dwarf_forms.specs.declared.layout.FormLayout.TheVariants.{Fixed, Leb, Signed, Implicit, Flag}
+use Rattle.dwarf_forms.specs.declared.layout.FormLayout.TheVariants.{Present, Text, Sixteen, Counted}
+use Rattle.dwarf_forms.specs.declared.layout.FormLayout.TheVariants.{LebCounted, Elsewhere}
 use Rattle.dwarf_forms.specs.Forms.{rows, layout_of}
 use Rattle.dwarf_forms.specs.Values.{Plain, number, signed, sixteen, flag, elsewhere, Shown, Within}
 use Rattle.dwarf_forms.specs.Values.{fixed_at, held_at, read_at, form_at, value_of}
@@ -31,7 +31,7 @@ of_bytes (Some n) = n
 abbrev by_width : ℕ → ℕ → ℕ × Option Width → ℕ × Option ℕ
 by_width o a r = (r.0, option_map (width_in o a) r.1)
 
-abbrev by_row : ℕ × Layout → ℕ × Option ℕ
+abbrev by_row : ℕ × FormLayout → ℕ × Option ℕ
 by_row r = (r.0, size_of_layout r.1)
 
 one_width : (o a : ℕ) (t : Bool) (w : Option Width) (x : Option (Option Width))
@@ -47,13 +47,13 @@ found_width o a test [] = refl
 found_width o a test (w ∷ ws) = one_width o a (test w.0) w.1 (lookup test ws)
     (lookup test (map (by_width o a) ws)) (found_width o a test ws)
 
-one_layout : (t : Bool) (l : Layout) (x : Option Layout) (y : Option (Option ℕ))
+one_layout : (t : Bool) (l : FormLayout) (x : Option FormLayout) (y : Option (Option ℕ))
     → size_in x ≡ of_bytes y
     → size_in (if t then Some l else x) ≡ of_bytes (if t then Some (size_of_layout l) else y)
 one_layout true l x y ih = refl
 one_layout false l x y ih = ih
 
-found_layout : (test : ℕ → Bool) (ls : List (ℕ × Layout))
+found_layout : (test : ℕ → Bool) (ls : List (ℕ × FormLayout))
     → size_in (lookup test ls) ≡ of_bytes (lookup test (map by_row ls))
 found_layout test [] = refl
 found_layout test (l ∷ ls) =
@@ -84,7 +84,7 @@ ends_as : (v : Plain) (a b : ℕ) → a ≡ b
     → ◌≡◌ {A = Result (Plain × ℕ) FormFault} (Ok (v, a)) (Ok (v, b))
 ends_as v a b e = ap (λ (n : ℕ). Ok (v, n)) e
 
-read_ends : (l : Layout) (form : ℕ) (unit : List ℕ) (at w : ℕ) (order : Order) (s : Spec)
+read_ends : (l : FormLayout) (form : ℕ) (unit : List ℕ) (at w : ℕ) (order : Order) (s : Spec)
     → size_of_layout l ≡ Some w → at + w ≤ length unit
     → (v : Plain) × (read_at l form unit at order s ≡ Ok (v, at + w))
 unfolding read_at
@@ -134,7 +134,7 @@ pub form_used : (unit : List ℕ) (at : ℕ) (s : Spec) → (s.form == DW_FORM_i
 unfolding form_at
 form_used unit at s h = rw h refl
 
-by_layout : (c : Within) (s : Spec) (at w : ℕ) (o : Option Layout) → layout_of c.offset_bytes
+by_layout : (c : Within) (s : Spec) (at w : ℕ) (o : Option FormLayout) → layout_of c.offset_bytes
     c.address_bytes s.form ≡ o → size_in o ≡ Some w → (s.form == DW_FORM_indirect) ≡ false
     → at + w ≤ length c.unit → (v : Shown) × (value_of c s at ≡ Ok (v, at + w))
 unfolding value_of
@@ -160,7 +160,7 @@ pub held_cut : (unit : List ℕ) (at w attribute : ℕ) → length unit < at + w
 unfolding held_at
 held_cut unit at w attribute lt = rw (lt-leb (at + w) (length unit) lt) refl
 
-read_cut : (l : Layout) (form : ℕ) (unit : List ℕ) (at w : ℕ) (order : Order) (s : Spec)
+read_cut : (l : FormLayout) (form : ℕ) (unit : List ℕ) (at w : ℕ) (order : Order) (s : Spec)
     → size_of_layout l ≡ Some w → 0 < w → length unit < at + w
     → read_at l form unit at order s ≡ Err (ValueTruncated s.attribute)
 unfolding read_at
@@ -182,7 +182,7 @@ read_cut (LebCounted kind) form unit at w order s size some lt = cc
 read_cut (Elsewhere v) form unit at w order s size some lt =
     rw (cut_at unit at v order s.attribute (omega (arith, same_Some v w size, lt))) refl
 
-cut_by_layout : (c : Within) (s : Spec) (at w : ℕ) (o : Option Layout) → layout_of c.offset_bytes
+cut_by_layout : (c : Within) (s : Spec) (at w : ℕ) (o : Option FormLayout) → layout_of c.offset_bytes
     c.address_bytes s.form ≡ o → size_in o ≡ Some w → (s.form == DW_FORM_indirect) ≡ false → 0 < w
     → length c.unit < at + w → value_of c s at ≡ Err (ValueTruncated s.attribute)
 unfolding value_of

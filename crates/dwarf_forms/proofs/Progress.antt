@@ -14,8 +14,8 @@ use Rattle.dwarf_abbrev.specs.declared.constants.TheConstants.{DW_FORM_indirect}
 use Rattle.dwarf_abbrev.specs.declared.spec.Spec.{Spec}
 use Rattle.dwarf_forms.specs.declared.fault.FormFault.{FormFault}
 use Rattle.dwarf_forms.specs.declared.fault.FormFault.TheVariants.{FormUnknown, ValueTruncated}
-use Rattle.dwarf_forms.specs.declared.layout.Layout.{Layout}
-use Rattle.dwarf_forms.specs.declared.layout.Layout.TheVariants as layouts
+use Rattle.dwarf_forms.specs.declared.layout.FormLayout.{FormLayout}
+use Rattle.dwarf_forms.specs.declared.layout.FormLayout.TheVariants as layouts
 use Rattle.dwarf_forms.specs.Forms.{layout_of}
 use Rattle.dwarf_forms.specs.Values.{◌>>=◌, Plain, Shown, Within, or_cut, of_leb, or_unknown}
 use Rattle.dwarf_forms.specs.Values.{fixed_at, uleb_at, sleb_at, held_at, text_at, read_at, form_at}
@@ -88,7 +88,7 @@ unfolding held_at
 held_grows unit at count attribute =
     held_test unit at count attribute (nat_le (at + count) (length unit))
 
-pub read_grows : (l : Layout) (form : ℕ) (unit : List ℕ) (at : ℕ) (order : Order) (spec : Spec)
+pub read_grows : (l : FormLayout) (form : ℕ) (unit : List ℕ) (at : ℕ) (order : Order) (spec : Spec)
     → Grows at (read_at l form unit at order spec)
 unfolding read_at
 read_grows (layouts.Fixed w kind) form unit at order spec =
@@ -149,8 +149,8 @@ form_grows : (unit : List ℕ) (at : ℕ) (spec : Spec) → Grows at (form_at un
 unfolding form_at
 form_grows unit at spec = form_test unit at spec (spec.form == DW_FORM_indirect)
 
-unknown_grows : {B : Type 0} (at form : ℕ) (o : Option Layout) (f : Layout → Result
-    (B × ℕ) FormFault) → ((l : Layout) → Grows at (f l)) → Grows at (or_unknown form o >>= f)
+unknown_grows : {B : Type 0} (at form : ℕ) (o : Option FormLayout) (f : FormLayout → Result
+    (B × ℕ) FormFault) → ((l : FormLayout) → Grows at (f l)) → Grows at (or_unknown form o >>= f)
 unknown_grows at form None f g v end e = cc
 unknown_grows at form (Some l) f g v end e = g l v end e
 
@@ -161,12 +161,12 @@ pub value_grows : (c : Within) (spec : Spec) (at : ℕ) → Grows at (value_of c
 unfolding value_of
 value_grows c spec at =
     grows_on at (form_at c.unit at spec) (λ (f : ℕ × ℕ). or_unknown f.0
-    (layout_of c.offset_bytes c.address_bytes f.0) >>= λ (l : Layout). read_at l f.0 c.unit f.1
+    (layout_of c.offset_bytes c.address_bytes f.0) >>= λ (l : FormLayout). read_at l f.0 c.unit f.1
     c.order spec >>= λ (v : Plain × ℕ). Ok (record { form = f.0; value = v.0 }, v.1))
     (form_grows c.unit at spec)
     (λ (f : ℕ × ℕ). unknown_grows f.1 f.0 (layout_of c.offset_bytes c.address_bytes f.0)
-    (λ (l : Layout). read_at l f.0 c.unit f.1 c.order spec >>= λ (v : Plain × ℕ).
+    (λ (l : FormLayout). read_at l f.0 c.unit f.1 c.order spec >>= λ (v : Plain × ℕ).
     Ok (record { form = f.0; value = v.0 }, v.1))
-    (λ (l : Layout). grows_on f.1 (read_at l f.0 c.unit f.1 c.order spec) (λ (v : Plain × ℕ).
+    (λ (l : FormLayout). grows_on f.1 (read_at l f.0 c.unit f.1 c.order spec) (λ (v : Plain × ℕ).
     Ok (record { form = f.0; value = v.0 }, v.1)) (read_grows l f.0 c.unit f.1 c.order spec)
     (λ (v : Plain × ℕ). ends v.1 (shown_as f.0 v.0) v.1 (omega arith))))

@@ -19,9 +19,9 @@ use Rattle.dwarf_abbrev.specs.declared.spec.Spec.{Spec}
 use Rattle.dwarf_forms.specs.declared.fault.FormFault.{FormFault}
 use Rattle.dwarf_forms.specs.declared.fault.FormFault.TheVariants.{FormUnknown, LebWide}
 use Rattle.dwarf_forms.specs.declared.fault.FormFault.TheVariants.{ValueTruncated}
-use Rattle.dwarf_forms.specs.declared.layout.Layout.{Layout}
-use Rattle.dwarf_forms.specs.declared.layout.Layout.TheVariants as layouts
-use Rattle.dwarf_forms.specs.declared.layout.Held.{Held}
+use Rattle.dwarf_forms.specs.declared.layout.FormLayout.{FormLayout}
+use Rattle.dwarf_forms.specs.declared.layout.FormLayout.TheVariants as layouts
+use Rattle.dwarf_forms.specs.declared.layout.BlockClass.{BlockClass}
 use Rattle.dwarf_forms.specs.Forms.{layout_of, HasWidth, HasWidths}
 use Rattle.dwarf_forms.specs.Values.{◌>>=◌, Plain, Shown, Within, or_cut, of_leb, or_unknown}
 use Rattle.dwarf_forms.specs.Values.{fixed_at, uleb_at, sleb_at, held_at, text_at, read_at, form_at}
@@ -246,21 +246,21 @@ sleb_out unit at attribute f (inr n) =
     rw (digits_at unit at n.1 n.0 n.2.0 n.2.1, n.3) (ap (λ (f : FormFault). Err f) (sym n.4))
 
 -- the value of a layout
-abbrev body : List ℕ → ℕ → Held → ℕ × ℕ → Result (Plain × ℕ) FormFault
+abbrev body : List ℕ → ℕ → BlockClass → ℕ × ℕ → Result (Plain × ℕ) FormFault
 body unit attribute kind n =
     held_at unit n.1 n.0 attribute >>= λ (b : List ℕ × ℕ). Ok (bytes kind b.0, b.1)
 
-body_err : (unit : List ℕ) (attribute : ℕ) (kind : Held) (n : ℕ × ℕ) (f : FormFault)
+body_err : (unit : List ℕ) (attribute : ℕ) (kind : BlockClass) (n : ℕ × ℕ) (f : FormFault)
     → body unit attribute kind n ≡ Err f → NoBytes unit attribute n.1 n.0 f
 body_err unit attribute kind n f e = held_err unit n.1 n.0 attribute f
     (carried (held_at unit n.1 n.0 attribute) (λ (b : List ℕ). bytes kind b) f e)
 
-body_out : (unit : List ℕ) (attribute : ℕ) (kind : Held) (n : ℕ × ℕ) (f : FormFault)
+body_out : (unit : List ℕ) (attribute : ℕ) (kind : BlockClass) (n : ℕ × ℕ) (f : FormFault)
     → NoBytes unit attribute n.1 n.0 f → body unit attribute kind n ≡ Err f
 body_out unit attribute kind n f h = bind_fails (held_at unit n.1 n.0 attribute)
     (λ (b : List ℕ × ℕ). Ok (bytes kind b.0, b.1)) f (held_out unit n.1 n.0 attribute f h)
 
-counted_err : (unit : List ℕ) (at w : ℕ) (kind : Held) (order : Order) (attribute : ℕ)
+counted_err : (unit : List ℕ) (at w : ℕ) (kind : BlockClass) (order : Order) (attribute : ℕ)
     (f : FormFault)
     → (fixed_at unit at w order attribute ≡ Err f) ⊎ ((n : ℕ × ℕ)
     × (fixed_at unit at w order attribute ≡ Ok n) × (body unit attribute kind n ≡ Err f))
@@ -289,7 +289,7 @@ number_gives : (unit : List ℕ) (at attribute n end : ℕ) → IsNumber unit at
 number_gives unit at attribute n end i =
     uleb_at_gives unit at attribute end i.0 i.1.0 i.1.1 i.2 ∙ ap (λ (k : ℕ). Ok (k, end)) (sym i.3)
 
-leb_counted_err : (unit : List ℕ) (at : ℕ) (kind : Held) (order : Order) (attribute : ℕ)
+leb_counted_err : (unit : List ℕ) (at : ℕ) (kind : BlockClass) (order : Order) (attribute : ℕ)
     (f : FormFault)
     → (uleb_at unit at attribute ≡ Err f)
     ⊎ ((n : ℕ × ℕ) × (uleb_at unit at attribute ≡ Ok n) × (body unit attribute kind n ≡ Err f))
@@ -302,7 +302,7 @@ leb_counted_err unit at kind order attribute f (inr h) = inr (
   body_err unit attribute kind h.0 f h.2,
 )
 
-read_err : (l : Layout) (form : ℕ) (unit : List ℕ) (at : ℕ) (order : Order) (spec : Spec)
+read_err : (l : FormLayout) (form : ℕ) (unit : List ℕ) (at : ℕ) (order : Order) (spec : Spec)
     (f : FormFault) → read_at l form unit at order spec ≡ Err f
     → Lacks l order unit spec.attribute at f
 unfolding read_at
@@ -331,7 +331,7 @@ read_err (layouts.Elsewhere w) form unit at order spec f e =
     fixed_err unit at w order spec.attribute f
     (carried (fixed_at unit at w order spec.attribute) (λ (n : ℕ). elsewhere form) f e)
 
-read_out : (l : Layout) (form : ℕ) (unit : List ℕ) (at : ℕ) (order : Order) (spec : Spec)
+read_out : (l : FormLayout) (form : ℕ) (unit : List ℕ) (at : ℕ) (order : Order) (spec : Spec)
     (f : FormFault) → HasWidths l → Lacks l order unit spec.attribute at f
     → read_at l form unit at order spec ≡ Err f
 unfolding read_at
@@ -439,12 +439,12 @@ form_out c spec at f is h = ap (λ (t : Bool). if t then named_form c.unit at sp
 abbrev shown_after : ℕ → Plain × ℕ → Result (Shown × ℕ) FormFault
 shown_after form v = Ok (shown_as form v.0, v.1)
 
-abbrev read_form : Within → Spec → ℕ × ℕ → Layout → Result (Shown × ℕ) FormFault
+abbrev read_form : Within → Spec → ℕ × ℕ → FormLayout → Result (Shown × ℕ) FormFault
 read_form c spec n l = read_at l n.0 c.unit n.1 c.order spec >>= shown_after n.0
 
-row_err : (form : ℕ) (o : Option Layout) (f : FormFault) → or_unknown form o ≡ Err f
+row_err : (form : ℕ) (o : Option FormLayout) (f : FormFault) → or_unknown form o ≡ Err f
     → (o ≡ None) × (f ≡ FormUnknown form)
-row_err form None f e = (refl, sym (same_fault {A = Layout} (FormUnknown form) f e))
+row_err form None f e = (refl, sym (same_fault {A = FormLayout} (FormUnknown form) f e))
 row_err form (Some l) f e = never l f e
 
 shown_err : (form : ℕ) (r : Result (Plain × ℕ) FormFault) (f : FormFault)
@@ -455,7 +455,7 @@ shown_err form (Ok v) f e = never {A = Shown × ℕ} (shown_as form v.0, v.1) f 
 
 none_of : (c : Within) (spec : Spec) (n : ℕ × ℕ) (f : FormFault)
     → (or_unknown n.0 (layout_of c.offset_bytes c.address_bytes n.0) ≡ Err f)
-    ⊎ ((l : Layout) × (or_unknown n.0 (layout_of c.offset_bytes c.address_bytes n.0) ≡ Ok l)
+    ⊎ ((l : FormLayout) × (or_unknown n.0 (layout_of c.offset_bytes c.address_bytes n.0) ≡ Ok l)
     × (read_form c spec n l ≡ Err f)) → NoneOfForm c spec n.0 n.1 f
 none_of c spec n f (inl h) = inl (row_err n.0 (layout_of c.offset_bytes c.address_bytes n.0) f h)
 none_of c spec n f (inr h) =

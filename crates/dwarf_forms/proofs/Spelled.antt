@@ -20,9 +20,9 @@ use Rattle.dwarf_abbrev.specs.declared.spec.Spec.{Spec}
 use Rattle.dw_base.proofs.Numbering.{byte_ordered}
 use Rattle.dwarf_forms.specs.declared.fault.FormFault.{FormFault}
 use Rattle.dwarf_forms.specs.declared.fault.FormFault.TheVariants.{FormUnknown, ValueTruncated}
-use Rattle.dwarf_forms.specs.declared.layout.Layout.{Layout}
-use Rattle.dwarf_forms.specs.declared.layout.Layout.TheVariants as layouts
-use Rattle.dwarf_forms.specs.declared.layout.Held.{Held}
+use Rattle.dwarf_forms.specs.declared.layout.FormLayout.{FormLayout}
+use Rattle.dwarf_forms.specs.declared.layout.FormLayout.TheVariants as layouts
+use Rattle.dwarf_forms.specs.declared.layout.BlockClass.{BlockClass}
 use Rattle.dwarf_forms.specs.Forms.{layout_of, HasWidth, HasWidths}
 use Rattle.dwarf_forms.specs.Values.{◌>>=◌, Plain, Shown, Within, or_cut, of_leb, or_unknown}
 use Rattle.dwarf_forms.specs.Values.{fixed_at, uleb_at, sleb_at, held_at, text_at, read_at, form_at}
@@ -157,7 +157,7 @@ one_byte (b ∷ []) e = (b, refl)
 one_byte (b ∷ c ∷ bs) e = absurd (omega arith)
 
 -- the value of a layout
-abbrev Read : Layout → ℕ → List ℕ → ℕ → Order → Spec → Plain → ℕ → Type 0
+abbrev Read : FormLayout → ℕ → List ℕ → ℕ → Order → Spec → Plain → ℕ → Type 0
 Read l form unit at order spec v end =
     (piece : List ℕ) × Stands unit at piece end × Means l form order spec.implicit piece v
 
@@ -176,7 +176,7 @@ empty : (form : ℕ) (unit : List ℕ) (at : ℕ) (w v : Plain) (end : ℕ) → 
 empty form unit at w v end e = let p = ok_parts {F = FormFault} w v at end e in
     (nothing unit at end p.1, sym p.0)
 
-pub read_is : (l : Layout) (form : ℕ) (unit : List ℕ) (at : ℕ) (order : Order) (spec : Spec)
+pub read_is : (l : FormLayout) (form : ℕ) (unit : List ℕ) (at : ℕ) (order : Order) (spec : Spec)
     (v : Plain) (end : ℕ) → read_at l form unit at order spec ≡ Ok (v, end)
     → Read l form unit at order spec v end
 unfolding read_at
@@ -254,7 +254,7 @@ leb_some : (ds : List ℕ) → IsLeb ds → 1 ≤ length ds
 leb_some [] h = elim h [ ]
 leb_some (b ∷ bs) h = omega arith
 
-body_gives : (unit : List ℕ) (at end n attribute : ℕ) (kind : Held) (count body : List ℕ)
+body_gives : (unit : List ℕ) (at end n attribute : ℕ) (kind : BlockClass) (count body : List ℕ)
     → 1 ≤ length count → Stands unit at (count ++ body) end → length body ≡ n
     → (held_at unit (at + length count) n attribute >>= made_from (λ (b : List ℕ). bytes kind b))
     ≡ Ok (bytes kind body, end)
@@ -265,7 +265,7 @@ body_gives unit at end n attribute kind count body some s l =
     bind_gives (held_at unit (at + length count) n attribute) (made_from (λ (b : List ℕ). bytes kind
     b)) (body, end) (held_gives unit (at + length count) n attribute body end le p.1 l)
 
-pub read_gives : (l : Layout) (form : ℕ) (unit : List ℕ) (at : ℕ) (order : Order) (spec : Spec)
+pub read_gives : (l : FormLayout) (form : ℕ) (unit : List ℕ) (at : ℕ) (order : Order) (spec : Spec)
     (v : Plain) (end : ℕ) → HasWidths l → Read l form unit at order spec v end
     → read_at l form unit at order spec ≡ Ok (v, end)
 unfolding read_at
@@ -397,7 +397,7 @@ form_gives c spec at form mid (inr h) =
     else Ok (unsigned_of n.digits, mid)) k ∙ ap (λ (f : ℕ). Ok (f, mid)) (sym n.is))
 
 -- the value
-pub unknown_found : (form : ℕ) (o : Option Layout) (l : Layout) → or_unknown form o ≡ Ok l
+pub unknown_found : (form : ℕ) (o : Option FormLayout) (l : FormLayout) → or_unknown form o ≡ Ok l
     → o ≡ Some l
 unknown_found form None l e = cc
 unknown_found form (Some k) l e = let q : k ≡ l = cc in ap (λ z. Some z) q
@@ -407,14 +407,14 @@ shown_as form value = record { form = form; value = value }
 
 abbrev pub after_form : Within → Spec → ℕ × ℕ → Result (Shown × ℕ) FormFault
 after_form c spec f =
-    or_unknown f.0 (layout_of c.offset_bytes c.address_bytes f.0) >>= λ (l : Layout).
+    or_unknown f.0 (layout_of c.offset_bytes c.address_bytes f.0) >>= λ (l : FormLayout).
     read_at l f.0 c.unit f.1 c.order spec >>= λ (v : Plain × ℕ). Ok (shown_as f.0 v.0, v.1)
 
 of_form : (c : Within) (spec : Spec) (form at : ℕ) (v : Shown) (end : ℕ)
     → after_form c spec (form, at) ≡ Ok (v, end) → IsOfForm c spec form at v end
 of_form c spec form at v end e =
     let a = bind_ok (or_unknown form (layout_of c.offset_bytes c.address_bytes form))
-    (λ (l : Layout). read_at l form c.unit at c.order spec >>= λ (v : Plain × ℕ).
+    (λ (l : FormLayout). read_at l form c.unit at c.order spec >>= λ (v : Plain × ℕ).
     Ok (shown_as form v.0, v.1)) (v, end) e in
     let b = bind_ok (read_at a.0 form c.unit at c.order spec)
     (λ (v : Plain × ℕ). Ok (shown_as form v.0, v.1)) (v, end) a.2 in
@@ -430,12 +430,12 @@ of_form c spec form at v end e =
     }
 
 gives_form : (c : Within) (spec : Spec) (form at : ℕ) (v : Shown) (end : ℕ)
-    → ((l : Layout) → layout_of c.offset_bytes c.address_bytes form ≡ Some l → HasWidths l)
+    → ((l : FormLayout) → layout_of c.offset_bytes c.address_bytes form ≡ Some l → HasWidths l)
     → IsOfForm c spec form at v end → after_form c spec (form, at) ≡ Ok (v, end)
 gives_form c spec form at v end wide i =
     let shown : shown_as form v.value ≡ v = ap (λ (f : ℕ). shown_as f v.value) (sym i.named) in
     bind_gives (or_unknown form (layout_of c.offset_bytes c.address_bytes form))
-    (λ (l : Layout). read_at l form c.unit at c.order spec >>= λ (v : Plain × ℕ).
+    (λ (l : FormLayout). read_at l form c.unit at c.order spec >>= λ (v : Plain × ℕ).
     Ok (shown_as form v.0, v.1)) i.layout (ap (or_unknown form) i.row)
     ∙ bind_gives (read_at i.layout form c.unit at c.order spec)
     (λ (v : Plain × ℕ). Ok (shown_as form v.0, v.1)) (v.value, end) (read_gives i.layout form

@@ -3,21 +3,21 @@ use Rattle.std.proofs.Common.{◌≡◌, ℕ, ◌==◌, Bool, true, false, List,
 use Rattle.std.proofs.Common.{subst, arith}
 use Rattle.std.specs.Prelude.{⊤}
 use Rattle.std.specs.Map.{lookup}
-use Rattle.dwarf_forms.specs.declared.layout.Layout.{Layout}
+use Rattle.dwarf_forms.specs.declared.layout.FormLayout.{FormLayout}
 use Rattle.dwarf_forms.specs.Forms.{rows, layout_of, HasWidth, HasWidths}
 
 -- each row of a list has widths of numbers
-abbrev pub AllWide : List (ℕ × Layout) → Type 0
+abbrev pub AllWide : List (ℕ × FormLayout) → Type 0
 AllWide [] = ⊤
 AllWide (r ∷ rs) = HasWidths r.1 × AllWide rs
 
-one : (form : ℕ) (r : ℕ × Layout) (rs : List (ℕ × Layout)) (l : Layout) (t : Bool) → HasWidths r.1
+one : (form : ℕ) (r : ℕ × FormLayout) (rs : List (ℕ × FormLayout)) (l : FormLayout) (t : Bool) → HasWidths r.1
     → (lookup (λ (f : ℕ). form == f) rs ≡ Some l → HasWidths l)
     → (if t then Some r.1 else lookup (λ (f : ℕ). form == f) rs) ≡ Some l → HasWidths l
 one form r rs l true h ih e = let q : r.1 ≡ l = cc in subst HasWidths q h
 one form r rs l false h ih e = ih e
 
-found : (form : ℕ) (rs : List (ℕ × Layout)) (l : Layout) → AllWide rs
+found : (form : ℕ) (rs : List (ℕ × FormLayout)) (l : FormLayout) → AllWide rs
     → lookup (λ (f : ℕ). form == f) rs ≡ Some l → HasWidths l
 found form [] l h e = cc
 found form (r ∷ rs) l h e = one form r rs l (form == r.0) h.0
@@ -157,6 +157,6 @@ all_wide o a ho ha =
       ),
     )
 
-pub has_widths : (o a form : ℕ) (l : Layout) → HasWidth o → HasWidth a → layout_of o a form ≡ Some l
+pub has_widths : (o a form : ℕ) (l : FormLayout) → HasWidth o → HasWidth a → layout_of o a form ≡ Some l
     → HasWidths l
 has_widths o a form l ho ha e = found form (rows o a) l (all_wide o a ho ha) e

@@ -3,7 +3,7 @@ use Rattle.std.proofs.Common.{◌≡◌, ◌≢◌, ℕ, suc, ◌+◌, ◌-◌, 
 use Rattle.std.proofs.Common.{drop, get_or, Some, Ok, refl, sym, ap, subst, ◌∙◌, arith, inl}
 use Rattle.std.proofs.lemmas.List.{get_or-drop, drop-take}
 use Rattle.dwarf_abbrev.specs.declared.spec.Spec.{Spec}
-use Rattle.dwarf_forms.specs.declared.layout.Layout.{Layout}
+use Rattle.dwarf_forms.specs.declared.layout.FormLayout.{FormLayout}
 use Rattle.dwarf_forms.specs.Forms.{layout_of, HasWidth}
 use Rattle.dwarf_forms.specs.Values.{Plain, Shown, Within, value_of}
 use Rattle.dwarf_forms.specs.Standard.{Means, Stands}
@@ -48,7 +48,7 @@ abbrev pub shown_of : Value → Shown
 shown_of v = record { form = v.spec.form; value = v.value }
 
 pub record IsWritten (c : Within) (v : Value) : Type 0 where
-  pub layout : Layout
+  pub layout : FormLayout
   pub row : layout_of c.offset_bytes c.address_bytes v.spec.form ≡ Some layout
   pub means : Means layout v.spec.form c.order v.spec.implicit v.bytes v.value
   pub direct : v.spec.form ≢ 0x16

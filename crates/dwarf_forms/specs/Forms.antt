@@ -24,17 +24,17 @@ use Rattle.dwarf_abbrev.specs.declared.constants.TheConstants.{DW_FORM_strx4, DW
 use Rattle.dwarf_abbrev.specs.declared.constants.TheConstants.{DW_FORM_addrx2, DW_FORM_addrx3}
 use Rattle.dwarf_abbrev.specs.declared.constants.TheConstants.{DW_FORM_addrx4, DW_FORM_GNU_ref_alt}
 use Rattle.dwarf_abbrev.specs.declared.constants.TheConstants.{DW_FORM_GNU_strp_alt}
-use Rattle.dwarf_forms.specs.declared.layout.Layout.{Layout}
-use Rattle.dwarf_forms.specs.declared.layout.Layout.TheVariants.{Fixed, Leb, Signed, Implicit, Flag}
-use Rattle.dwarf_forms.specs.declared.layout.Layout.TheVariants.{Present, Text, Sixteen, Counted}
-use Rattle.dwarf_forms.specs.declared.layout.Layout.TheVariants.{LebCounted, Elsewhere}
-use Rattle.dwarf_forms.specs.declared.layout.Kind.TheVariants.{Address, Unsigned, Strp, LineStrp}
-use Rattle.dwarf_forms.specs.declared.layout.Kind.TheVariants.{Strx, Index, UnitRef, InfoRef}
-use Rattle.dwarf_forms.specs.declared.layout.Kind.TheVariants.{SecOffset}
-use Rattle.dwarf_forms.specs.declared.layout.Held.TheVariants.{Block, Expr}
+use Rattle.dwarf_forms.specs.declared.layout.FormLayout.{FormLayout}
+use Rattle.dwarf_forms.specs.declared.layout.FormLayout.TheVariants.{Fixed, Leb, Signed, Implicit, Flag}
+use Rattle.dwarf_forms.specs.declared.layout.FormLayout.TheVariants.{Present, Text, Sixteen, Counted}
+use Rattle.dwarf_forms.specs.declared.layout.FormLayout.TheVariants.{LebCounted, Elsewhere}
+use Rattle.dwarf_forms.specs.declared.layout.NumberClass.TheVariants.{Address, Unsigned, Strp, LineStrp}
+use Rattle.dwarf_forms.specs.declared.layout.NumberClass.TheVariants.{Strx, Index, UnitRef, InfoRef}
+use Rattle.dwarf_forms.specs.declared.layout.NumberClass.TheVariants.{SecOffset}
+use Rattle.dwarf_forms.specs.declared.layout.BlockClass.TheVariants.{Block, Expr}
 
 -- for offsets of o bytes and addresses of a bytes
-abbrev pub rows : ℕ → ℕ → List (ℕ × Layout)
+abbrev pub rows : ℕ → ℕ → List (ℕ × FormLayout)
 rows o a =
     (DW_FORM_addr, Fixed a Address)
     ∷ (DW_FORM_block2, Counted 2 Block)
@@ -82,14 +82,14 @@ rows o a =
     ∷ (DW_FORM_GNU_strp_alt, Elsewhere o)
     ∷ []
 
-abbrev pub layout_of : ℕ → ℕ → ℕ → Option Layout
+abbrev pub layout_of : ℕ → ℕ → ℕ → Option FormLayout
 layout_of o a form = lookup (λ (f : ℕ). form == f) (rows o a)
 
 abbrev pub HasWidth : ℕ → Type 0
 HasWidth w = (1 ≤ w) × (w ≤ 8)
 
 -- the widths of a layout are those of numbers
-abbrev pub HasWidths : Layout → Type 0
+abbrev pub HasWidths : FormLayout → Type 0
 HasWidths (Fixed w k) = HasWidth w
 HasWidths (Counted w k) = HasWidth w
 HasWidths (Elsewhere w) = HasWidth w

@@ -10,11 +10,11 @@ use Rattle.dwarf_abbrev.specs.declared.constants.TheConstants.{DW_OP_plus_uconst
 use Rattle.dwarf_forms.specs.declared.fault.FormFault.{FormFault}
 use Rattle.dwarf_forms.specs.declared.fault.FormFault.TheVariants.{StringOut, StrxOut, AltForm}
 use Rattle.dwarf_forms.specs.declared.fault.FormFault.TheVariants.{WrongClass}
-use Rattle.dwarf_forms.specs.declared.layout.Kind.{Kind}
-use Rattle.dwarf_forms.specs.declared.layout.Kind.TheVariants.{Unsigned, Strp, LineStrp, Strx}
-use Rattle.dwarf_forms.specs.declared.layout.Kind.TheVariants.{UnitRef, InfoRef}
-use Rattle.dwarf_forms.specs.declared.layout.Held.{Held}
-use Rattle.dwarf_forms.specs.declared.layout.Held.TheVariants.{Expr}
+use Rattle.dwarf_forms.specs.declared.layout.NumberClass.{NumberClass}
+use Rattle.dwarf_forms.specs.declared.layout.NumberClass.TheVariants.{Unsigned, Strp, LineStrp, Strx}
+use Rattle.dwarf_forms.specs.declared.layout.NumberClass.TheVariants.{UnitRef, InfoRef}
+use Rattle.dwarf_forms.specs.declared.layout.BlockClass.{BlockClass}
+use Rattle.dwarf_forms.specs.declared.layout.BlockClass.TheVariants.{Expr}
 use Rattle.dwarf_forms.specs.declared.given.FormCtx.{FormCtx}
 use Rattle.dwarf_forms.specs.Values.{Plain, Shown}
 use Rattle.dwarf_forms.specs.Values.Plain.{number, signed, bytes, text, flag, elsewhere}
@@ -59,7 +59,7 @@ abbrev pub indexed_at : Sections → ℕ → Result (List ℕ) FormFault
 indexed_at c index = through c.strings index
     (number_of c.str_offsets (c.str_base + index * c.offset_bytes) c.offset_bytes c.order)
 
-abbrev pub number_name : Sections → ℕ → ℕ → Kind → ℕ → Result (List ℕ) FormFault
+abbrev pub number_name : Sections → ℕ → ℕ → NumberClass → ℕ → Result (List ℕ) FormFault
 number_name c attribute form Strp n = string_at c.strings n
 number_name c attribute form LineStrp n = string_at c.line_strings n
 number_name c attribute form Strx n = indexed_at c n
@@ -82,7 +82,7 @@ Fits64 (pos n) = n < 2 ^ 64
 Fits64 (negsuc n) = n < 2 ^ 63
 
 -- a constant; one of 16 bytes is none
-abbrev pub number_constant : ℕ → ℕ → Kind → ℕ → Result ℤ FormFault
+abbrev pub number_constant : ℕ → ℕ → NumberClass → ℕ → Result ℤ FormFault
 number_constant attribute form Unsigned n = Ok (pos n)
 number_constant attribute form other n = Err (WrongClass attribute form)
 
@@ -103,7 +103,7 @@ flag_in attribute g = plain_flag attribute g.form g.value
 
 -- the offset in .debug_info of the entry that a value refers to: one within a unit counts from the
 -- unit's first header byte
-abbrev pub number_target : Sections → ℕ → ℕ → Kind → ℕ → Result ℕ FormFault
+abbrev pub number_target : Sections → ℕ → ℕ → NumberClass → ℕ → Result ℕ FormFault
 number_target c attribute form UnitRef n = Ok (c.unit + n)
 number_target c attribute form InfoRef n = Ok n
 number_target c attribute form other n = Err (WrongClass attribute form)
@@ -125,7 +125,7 @@ unfoldable pub operand_of : List ℕ → Option ℤ
 operand_of expression = if slice_index expression 0 == DW_OP_plus_uconst
     then whole_to (length expression) (uleb_of expression 1) else None
 
-abbrev pub bytes_offset : ℕ → ℕ → Held → List ℕ → Result (Option ℤ) FormFault
+abbrev pub bytes_offset : ℕ → ℕ → BlockClass → List ℕ → Result (Option ℤ) FormFault
 bytes_offset attribute form Expr bs = Ok (operand_of bs)
 bytes_offset attribute form other bs = Err (WrongClass attribute form)
 

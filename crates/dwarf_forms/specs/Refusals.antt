@@ -14,10 +14,10 @@ use Rattle.dwarf_abbrev.specs.declared.spec.Spec.{Spec}
 use Rattle.dwarf_forms.specs.declared.fault.FormFault.{FormFault}
 use Rattle.dwarf_forms.specs.declared.fault.FormFault.TheVariants.{LebWide, FormUnknown}
 use Rattle.dwarf_forms.specs.declared.fault.FormFault.TheVariants.{ValueTruncated}
-use Rattle.dwarf_forms.specs.declared.layout.Layout.{Layout}
-use Rattle.dwarf_forms.specs.declared.layout.Layout.TheVariants.{Fixed, Leb, Signed, Implicit, Flag}
-use Rattle.dwarf_forms.specs.declared.layout.Layout.TheVariants.{Present, Text, Sixteen, Counted}
-use Rattle.dwarf_forms.specs.declared.layout.Layout.TheVariants.{LebCounted, Elsewhere}
+use Rattle.dwarf_forms.specs.declared.layout.FormLayout.{FormLayout}
+use Rattle.dwarf_forms.specs.declared.layout.FormLayout.TheVariants.{Fixed, Leb, Signed, Implicit, Flag}
+use Rattle.dwarf_forms.specs.declared.layout.FormLayout.TheVariants.{Present, Text, Sixteen, Counted}
+use Rattle.dwarf_forms.specs.declared.layout.FormLayout.TheVariants.{LebCounted, Elsewhere}
 use Rattle.dwarf_forms.specs.Forms.{layout_of}
 use Rattle.dwarf_forms.specs.Values.{Within}
 use Rattle.dwarf_forms.specs.Standard.{IsLeb, HasNoNul, Stands, Uses}
@@ -58,7 +58,7 @@ IsNumber unit at n end = (digits : List ℕ) × AreDigits unit at digits end
 
 -- of a value of a layout: its bytes; or where it is counted the count, or what is counted. A value
 -- without bytes lacks nothing
-abbrev pub Lacks : Layout → Order → List ℕ → ℕ → ℕ → FormFault → Type 0
+abbrev pub Lacks : FormLayout → Order → List ℕ → ℕ → ℕ → FormFault → Type 0
 Lacks (Fixed w kind) order unit attribute at f = NoBytes unit attribute at w f
 Lacks (Leb kind) order unit attribute at f = NoNumber unit attribute at f
 Lacks Signed order unit attribute at f = NoSigned unit attribute at f
@@ -78,7 +78,7 @@ Lacks (Elsewhere w) order unit attribute at f = NoBytes unit attribute at w f
 abbrev pub NoneOfForm : Within → Spec → ℕ → ℕ → FormFault → Type 0
 NoneOfForm c spec form at f =
     ((layout_of c.offset_bytes c.address_bytes form ≡ None) × (f ≡ FormUnknown form))
-    ⊎ ((layout : Layout) × (layout_of c.offset_bytes c.address_bytes form ≡ Some layout)
+    ⊎ ((layout : FormLayout) × (layout_of c.offset_bytes c.address_bytes form ≡ Some layout)
     × Lacks layout c.order c.unit spec.attribute at f)
 
 -- of a form named in front of its value: the number, or it is that of indirect or implicit_const

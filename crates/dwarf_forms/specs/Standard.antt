@@ -8,10 +8,10 @@ use Rattle.dw_base.specs.declared.numbers.Order.{Order}
 use Rattle.dwarf_abbrev.specs.declared.constants.TheConstants.{DW_FORM_implicit_const}
 use Rattle.dwarf_abbrev.specs.declared.constants.TheConstants.{DW_FORM_indirect}
 use Rattle.dwarf_abbrev.specs.declared.spec.Spec.{Spec}
-use Rattle.dwarf_forms.specs.declared.layout.Layout.{Layout}
-use Rattle.dwarf_forms.specs.declared.layout.Layout.TheVariants.{Fixed, Leb, Signed, Implicit, Flag}
-use Rattle.dwarf_forms.specs.declared.layout.Layout.TheVariants.{Present, Text, Sixteen, Counted}
-use Rattle.dwarf_forms.specs.declared.layout.Layout.TheVariants.{LebCounted, Elsewhere}
+use Rattle.dwarf_forms.specs.declared.layout.FormLayout.{FormLayout}
+use Rattle.dwarf_forms.specs.declared.layout.FormLayout.TheVariants.{Fixed, Leb, Signed, Implicit, Flag}
+use Rattle.dwarf_forms.specs.declared.layout.FormLayout.TheVariants.{Present, Text, Sixteen, Counted}
+use Rattle.dwarf_forms.specs.declared.layout.FormLayout.TheVariants.{LebCounted, Elsewhere}
 use Rattle.dwarf_forms.specs.Forms.{layout_of}
 use Rattle.dwarf_forms.specs.Values.{Plain, Shown, Within}
 use Rattle.dwarf_forms.specs.Values.Plain.{number, signed, bytes, sixteen, text, flag, elsewhere}
@@ -27,7 +27,7 @@ HasNoNul [] = ⊤
 HasNoNul (b ∷ bs) = (b ≢ 0) × HasNoNul bs
 
 -- these bytes, in this form and order and with this value in the abbreviation, are the value
-abbrev pub Means : Layout → ℕ → Order → ℤ → List ℕ → Plain → Type 0
+abbrev pub Means : FormLayout → ℕ → Order → ℤ → List ℕ → Plain → Type 0
 Means (Fixed w kind) form order implicit piece v =
     (length piece ≡ w) × (v ≡ number kind (ordered order piece))
 Means (Leb kind) form order implicit piece v =
@@ -54,7 +54,7 @@ Stands unit at piece end =
 
 -- a value of a form of the table
 pub record IsOfForm (c : Within) (spec : Spec) (form at : ℕ) (v : Shown) (end : ℕ) : Type 0 where
-  pub layout : Layout
+  pub layout : FormLayout
   pub piece : List ℕ
   pub row : layout_of c.offset_bytes c.address_bytes form ≡ Some layout
   pub stands : Stands c.unit at piece end

@@ -14,12 +14,12 @@ use Rattle.dwarf_abbrev.specs.declared.spec.Spec.{Spec}
 use Rattle.dwarf_forms.specs.declared.fault.FormFault.{FormFault}
 use Rattle.dwarf_forms.specs.declared.fault.FormFault.TheVariants.{LebWide, FormUnknown}
 use Rattle.dwarf_forms.specs.declared.fault.FormFault.TheVariants.{ValueTruncated}
-use Rattle.dwarf_forms.specs.declared.layout.Layout.{Layout}
-use Rattle.dwarf_forms.specs.declared.layout.Layout.TheVariants as layouts
-use Rattle.dwarf_forms.specs.declared.layout.Kind.{Kind}
-use Rattle.dwarf_forms.specs.declared.layout.Kind.TheVariants as kinds
-use Rattle.dwarf_forms.specs.declared.layout.Held.{Held}
-use Rattle.dwarf_forms.specs.declared.layout.Held.TheVariants as holds
+use Rattle.dwarf_forms.specs.declared.layout.FormLayout.{FormLayout}
+use Rattle.dwarf_forms.specs.declared.layout.FormLayout.TheVariants as layouts
+use Rattle.dwarf_forms.specs.declared.layout.NumberClass.{NumberClass}
+use Rattle.dwarf_forms.specs.declared.layout.NumberClass.TheVariants as kinds
+use Rattle.dwarf_forms.specs.declared.layout.BlockClass.{BlockClass}
+use Rattle.dwarf_forms.specs.declared.layout.BlockClass.TheVariants as holds
 use Rattle.dwarf_forms.specs.declared.given.FormCtx.{FormCtx}
 use Rattle.dwarf_forms.specs.declared.given.Given.{Given}
 use Rattle.dwarf_forms.specs.declared.given.FormValue.{FormValue}
@@ -39,18 +39,18 @@ seen view (Err e) = Err e
 
 -- a value without where it lies in memory
 pub data Plain : Type 0 where
-  number : Kind → ℕ → Plain
+  number : NumberClass → ℕ → Plain
   signed : ℤ → Plain
-  bytes : Held → List ℕ → Plain
+  bytes : BlockClass → List ℕ → Plain
   sixteen : List ℕ → Plain
   text : List ℕ → Plain
   flag : Bool → Plain
   elsewhere : ℕ → Plain
 
-abbrev pub number_as : Kind → ℕ → Plain
+abbrev pub number_as : NumberClass → ℕ → Plain
 number_as kind n = number kind n
 
-abbrev pub bytes_as : Held → List ℕ → Plain
+abbrev pub bytes_as : BlockClass → List ℕ → Plain
 bytes_as kind bs = bytes kind bs
 
 abbrev pub plain : FormValue → Plain
@@ -99,7 +99,7 @@ text_at unit at attribute =
     or_cut attribute (text_of unit at) >>= λ (t : List ℕ). Ok (t, at + length t + 1)
 
 -- the value of a layout, and the place after it
-unfoldable pub read_at : Layout → ℕ → List ℕ → ℕ → Order → Spec → Result (Plain × ℕ) FormFault
+unfoldable pub read_at : FormLayout → ℕ → List ℕ → ℕ → Order → Spec → Result (Plain × ℕ) FormFault
 read_at (layouts.Fixed w kind) form unit at order spec =
     fixed_at unit at w order spec.attribute >>= λ (n : ℕ × ℕ). Ok (number kind n.0, n.1)
 read_at (layouts.Leb kind) form unit at order spec =
@@ -123,7 +123,7 @@ read_at (layouts.LebCounted kind) form unit at order spec =
 read_at (layouts.Elsewhere w) form unit at order spec =
     fixed_at unit at w order spec.attribute >>= λ (n : ℕ × ℕ). Ok (elsewhere form, n.1)
 
-abbrev pub or_unknown : ℕ → Option Layout → Result Layout FormFault
+abbrev pub or_unknown : ℕ → Option FormLayout → Result FormLayout FormFault
 or_unknown form None = Err (FormUnknown form)
 or_unknown form (Some l) = Ok l
 
@@ -151,7 +151,7 @@ pub record Within : Type 0 where
 unfoldable pub value_of : Within → Spec → ℕ → Result (Shown × ℕ) FormFault
 value_of c spec at =
     form_at c.unit at spec >>= λ (f : ℕ × ℕ).
-    or_unknown f.0 (layout_of c.offset_bytes c.address_bytes f.0) >>= λ (l : Layout).
+    or_unknown f.0 (layout_of c.offset_bytes c.address_bytes f.0) >>= λ (l : FormLayout).
     read_at l f.0 c.unit f.1 c.order spec >>= λ (v : Plain × ℕ).
     Ok (record { form = f.0; value = v.0 }, v.1)
 

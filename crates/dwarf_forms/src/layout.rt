@@ -15,7 +15,7 @@ use dwarf_abbrev::constants::{
 
 /// What a number means.
 #[derive(Clone, Copy, Debug, PartialEq, Eq)]
-pub enum Kind {
+pub enum NumberClass {
     /// An address of the program.
     Address,
     /// A constant.
@@ -38,7 +38,7 @@ pub enum Kind {
 
 /// What some counted bytes mean.
 #[derive(Clone, Copy, Debug, PartialEq, Eq)]
-pub enum Held {
+pub enum BlockClass {
     /// Any bytes.
     Block,
     /// A DWARF expression.
@@ -47,11 +47,11 @@ pub enum Held {
 
 /// How the bytes of a form lie.
 #[derive(Clone, Copy, Debug, PartialEq, Eq)]
-pub enum Layout {
+pub enum FormLayout {
     /// A number of this many bytes.
-    Fixed(u32, Kind),
+    Fixed(u32, NumberClass),
     /// An unsigned LEB128 number.
-    Leb(Kind),
+    Leb(NumberClass),
     /// A signed LEB128 number.
     Signed,
     /// No bytes: the value stands in the abbreviation.
@@ -65,9 +65,9 @@ pub enum Layout {
     /// 16 bytes.
     Sixteen,
     /// A number of this many bytes, and so many bytes after it.
-    Counted(u32, Held),
+    Counted(u32, BlockClass),
     /// An unsigned LEB128 number, and so many bytes after it.
-    LebCounted(Held),
+    LebCounted(BlockClass),
     /// This many bytes, whose meaning lies in a supplementary file.
     Elsewhere(u32),
 }
@@ -75,55 +75,55 @@ pub enum Layout {
 /// The layout of a form, for offsets and addresses of these many bytes. `None` exactly where the
 /// table has no row for it. The form indirect has no layout of its own: it names another one.
 #[inline(always)]
-pub fn form_layout(form: u64, offset_bytes: u32, address_bytes: u32) -> Option<Layout>
+pub fn form_layout(form: u64, offset_bytes: u32, address_bytes: u32) -> Option<FormLayout>
     ensures row { result ≡ layout_of offset_bytes address_bytes form }
     ensures widths { HasWidth offset_bytes → HasWidth address_bytes → IfSome result HasWidths }
 {
     match form {
-        DW_FORM_addr => Some(Layout::Fixed(address_bytes, Kind::Address)),
-        DW_FORM_block2 => Some(Layout::Counted(2, Held::Block)),
-        DW_FORM_block4 => Some(Layout::Counted(4, Held::Block)),
-        DW_FORM_data2 => Some(Layout::Fixed(2, Kind::Unsigned)),
-        DW_FORM_data4 => Some(Layout::Fixed(4, Kind::Unsigned)),
-        DW_FORM_data8 => Some(Layout::Fixed(8, Kind::Unsigned)),
-        DW_FORM_string => Some(Layout::Text),
-        DW_FORM_block => Some(Layout::LebCounted(Held::Block)),
-        DW_FORM_block1 => Some(Layout::Counted(1, Held::Block)),
-        DW_FORM_data1 => Some(Layout::Fixed(1, Kind::Unsigned)),
-        DW_FORM_flag => Some(Layout::Flag),
-        DW_FORM_sdata => Some(Layout::Signed),
-        DW_FORM_strp => Some(Layout::Fixed(offset_bytes, Kind::Strp)),
-        DW_FORM_udata => Some(Layout::Leb(Kind::Unsigned)),
-        DW_FORM_ref_addr => Some(Layout::Fixed(offset_bytes, Kind::InfoRef)),
-        DW_FORM_ref1 => Some(Layout::Fixed(1, Kind::UnitRef)),
-        DW_FORM_ref2 => Some(Layout::Fixed(2, Kind::UnitRef)),
-        DW_FORM_ref4 => Some(Layout::Fixed(4, Kind::UnitRef)),
-        DW_FORM_ref8 => Some(Layout::Fixed(8, Kind::UnitRef)),
-        DW_FORM_ref_udata => Some(Layout::Leb(Kind::UnitRef)),
-        DW_FORM_sec_offset => Some(Layout::Fixed(offset_bytes, Kind::SecOffset)),
-        DW_FORM_exprloc => Some(Layout::LebCounted(Held::Expr)),
-        DW_FORM_flag_present => Some(Layout::Present),
-        DW_FORM_strx => Some(Layout::Leb(Kind::Strx)),
-        DW_FORM_addrx => Some(Layout::Leb(Kind::Index)),
-        DW_FORM_ref_sup4 => Some(Layout::Elsewhere(4)),
-        DW_FORM_strp_sup => Some(Layout::Elsewhere(offset_bytes)),
-        DW_FORM_data16 => Some(Layout::Sixteen),
-        DW_FORM_line_strp => Some(Layout::Fixed(offset_bytes, Kind::LineStrp)),
-        DW_FORM_ref_sig8 => Some(Layout::Elsewhere(8)),
-        DW_FORM_implicit_const => Some(Layout::Implicit),
-        DW_FORM_loclistx => Some(Layout::Leb(Kind::Index)),
-        DW_FORM_rnglistx => Some(Layout::Leb(Kind::Index)),
-        DW_FORM_ref_sup8 => Some(Layout::Elsewhere(8)),
-        DW_FORM_strx1 => Some(Layout::Fixed(1, Kind::Strx)),
-        DW_FORM_strx2 => Some(Layout::Fixed(2, Kind::Strx)),
-        DW_FORM_strx3 => Some(Layout::Fixed(3, Kind::Strx)),
-        DW_FORM_strx4 => Some(Layout::Fixed(4, Kind::Strx)),
-        DW_FORM_addrx1 => Some(Layout::Fixed(1, Kind::Index)),
-        DW_FORM_addrx2 => Some(Layout::Fixed(2, Kind::Index)),
-        DW_FORM_addrx3 => Some(Layout::Fixed(3, Kind::Index)),
-        DW_FORM_addrx4 => Some(Layout::Fixed(4, Kind::Index)),
-        DW_FORM_GNU_ref_alt => Some(Layout::Elsewhere(offset_bytes)),
-        DW_FORM_GNU_strp_alt => Some(Layout::Elsewhere(offset_bytes)),
+        DW_FORM_addr => Some(FormLayout::Fixed(address_bytes, NumberClass::Address)),
+        DW_FORM_block2 => Some(FormLayout::Counted(2, BlockClass::Block)),
+        DW_FORM_block4 => Some(FormLayout::Counted(4, BlockClass::Block)),
+        DW_FORM_data2 => Some(FormLayout::Fixed(2, NumberClass::Unsigned)),
+        DW_FORM_data4 => Some(FormLayout::Fixed(4, NumberClass::Unsigned)),
+        DW_FORM_data8 => Some(FormLayout::Fixed(8, NumberClass::Unsigned)),
+        DW_FORM_string => Some(FormLayout::Text),
+        DW_FORM_block => Some(FormLayout::LebCounted(BlockClass::Block)),
+        DW_FORM_block1 => Some(FormLayout::Counted(1, BlockClass::Block)),
+        DW_FORM_data1 => Some(FormLayout::Fixed(1, NumberClass::Unsigned)),
+        DW_FORM_flag => Some(FormLayout::Flag),
+        DW_FORM_sdata => Some(FormLayout::Signed),
+        DW_FORM_strp => Some(FormLayout::Fixed(offset_bytes, NumberClass::Strp)),
+        DW_FORM_udata => Some(FormLayout::Leb(NumberClass::Unsigned)),
+        DW_FORM_ref_addr => Some(FormLayout::Fixed(offset_bytes, NumberClass::InfoRef)),
+        DW_FORM_ref1 => Some(FormLayout::Fixed(1, NumberClass::UnitRef)),
+        DW_FORM_ref2 => Some(FormLayout::Fixed(2, NumberClass::UnitRef)),
+        DW_FORM_ref4 => Some(FormLayout::Fixed(4, NumberClass::UnitRef)),
+        DW_FORM_ref8 => Some(FormLayout::Fixed(8, NumberClass::UnitRef)),
+        DW_FORM_ref_udata => Some(FormLayout::Leb(NumberClass::UnitRef)),
+        DW_FORM_sec_offset => Some(FormLayout::Fixed(offset_bytes, NumberClass::SecOffset)),
+        DW_FORM_exprloc => Some(FormLayout::LebCounted(BlockClass::Expr)),
+        DW_FORM_flag_present => Some(FormLayout::Present),
+        DW_FORM_strx => Some(FormLayout::Leb(NumberClass::Strx)),
+        DW_FORM_addrx => Some(FormLayout::Leb(NumberClass::Index)),
+        DW_FORM_ref_sup4 => Some(FormLayout::Elsewhere(4)),
+        DW_FORM_strp_sup => Some(FormLayout::Elsewhere(offset_bytes)),
+        DW_FORM_data16 => Some(FormLayout::Sixteen),
+        DW_FORM_line_strp => Some(FormLayout::Fixed(offset_bytes, NumberClass::LineStrp)),
+        DW_FORM_ref_sig8 => Some(FormLayout::Elsewhere(8)),
+        DW_FORM_implicit_const => Some(FormLayout::Implicit),
+        DW_FORM_loclistx => Some(FormLayout::Leb(NumberClass::Index)),
+        DW_FORM_rnglistx => Some(FormLayout::Leb(NumberClass::Index)),
+        DW_FORM_ref_sup8 => Some(FormLayout::Elsewhere(8)),
+        DW_FORM_strx1 => Some(FormLayout::Fixed(1, NumberClass::Strx)),
+        DW_FORM_strx2 => Some(FormLayout::Fixed(2, NumberClass::Strx)),
+        DW_FORM_strx3 => Some(FormLayout::Fixed(3, NumberClass::Strx)),
+        DW_FORM_strx4 => Some(FormLayout::Fixed(4, NumberClass::Strx)),
+        DW_FORM_addrx1 => Some(FormLayout::Fixed(1, NumberClass::Index)),
+        DW_FORM_addrx2 => Some(FormLayout::Fixed(2, NumberClass::Index)),
+        DW_FORM_addrx3 => Some(FormLayout::Fixed(3, NumberClass::Index)),
+        DW_FORM_addrx4 => Some(FormLayout::Fixed(4, NumberClass::Index)),
+        DW_FORM_GNU_ref_alt => Some(FormLayout::Elsewhere(offset_bytes)),
+        DW_FORM_GNU_strp_alt => Some(FormLayout::Elsewhere(offset_bytes)),
         _ => None,
     }
 }

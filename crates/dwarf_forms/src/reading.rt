@@ -7,7 +7,7 @@ ghost use Rattle.dwarf_forms.specs.Values.{value_of, end_of, within, given, IsCo
 
 use crate::fault::FormFault;
 use crate::given::{FormCtx, FormValue, Given};
-use crate::layout::{Held, Kind, Layout, form_layout};
+use crate::layout::{BlockClass, FormLayout, NumberClass, form_layout};
 use dw_base::{LebFault, Name, Order, number, sleb, text_at as name_at, uleb};
 use dwarf_abbrev::Spec;
 use dwarf_abbrev::constants::{DW_FORM_implicit_const, DW_FORM_indirect};
@@ -90,30 +90,30 @@ fn text<'a>(bytes: &'a [u8], at: u64, attribute: u64) -> Result<(Name<'a>, u64),
 
 /// The value that a number is.
 #[inline(always)]
-fn made<'a>(kind: Kind, n: u64) -> FormValue<'a>
+fn made<'a>(kind: NumberClass, n: u64) -> FormValue<'a>
     ensures { plain result ≡ number_as kind n }
 {
     match kind {
-        Kind::Address => FormValue::Address(n),
-        Kind::Unsigned => FormValue::Unsigned(n),
-        Kind::Strp => FormValue::Strp(n),
-        Kind::LineStrp => FormValue::LineStrp(n),
-        Kind::Strx => FormValue::Strx(n),
-        Kind::Index => FormValue::Index(n),
-        Kind::UnitRef => FormValue::UnitRef(n),
-        Kind::InfoRef => FormValue::InfoRef(n),
-        Kind::SecOffset => FormValue::SecOffset(n),
+        NumberClass::Address => FormValue::Address(n),
+        NumberClass::Unsigned => FormValue::Unsigned(n),
+        NumberClass::Strp => FormValue::Strp(n),
+        NumberClass::LineStrp => FormValue::LineStrp(n),
+        NumberClass::Strx => FormValue::Strx(n),
+        NumberClass::Index => FormValue::Index(n),
+        NumberClass::UnitRef => FormValue::UnitRef(n),
+        NumberClass::InfoRef => FormValue::InfoRef(n),
+        NumberClass::SecOffset => FormValue::SecOffset(n),
     }
 }
 
 /// The value that some counted bytes are.
 #[inline(always)]
-fn made_of<'a>(kind: Held, bytes: &'a [u8]) -> FormValue<'a>
+fn made_of<'a>(kind: BlockClass, bytes: &'a [u8]) -> FormValue<'a>
     ensures { plain result ≡ bytes_as kind bytes.now }
 {
     match kind {
-        Held::Block => FormValue::Block(bytes),
-        Held::Expr => FormValue::Expr(bytes),
+        BlockClass::Block => FormValue::Block(bytes),
+        BlockClass::Expr => FormValue::Expr(bytes),
     }
 }
 
@@ -123,7 +123,7 @@ fn made_of<'a>(kind: Held, bytes: &'a [u8]) -> FormValue<'a>
 fn read<'a>(
     bytes: &'a [u8],
     at: u64,
-    layout: Layout,
+    layout: FormLayout,
     form: u64,
     order: Order,
     spec: &Spec,
@@ -132,43 +132,43 @@ fn read<'a>(
     ensures { seen (λ x. (plain x.0, x.1)) result ≡ read_at layout form bytes.now at order spec.now }
 {
     match layout {
-        Layout::Fixed(width, kind) => {
+        FormLayout::Fixed(width, kind) => {
             let (n, end) = fixed(bytes, at, width, order, spec.attribute)?;
             Ok((made(kind, n), end))
         }
-        Layout::Leb(kind) => {
+        FormLayout::Leb(kind) => {
             let (n, end) = unsigned(bytes, at, spec.attribute)?;
             Ok((made(kind, n), end))
         }
-        Layout::Signed => {
+        FormLayout::Signed => {
             let (z, end) = signed(bytes, at, spec.attribute)?;
             Ok((FormValue::Signed(z), end))
         }
-        Layout::Implicit => Ok((FormValue::Signed(spec.implicit), at)),
-        Layout::Flag => {
+        FormLayout::Implicit => Ok((FormValue::Signed(spec.implicit), at)),
+        FormLayout::Flag => {
             let (n, end) = fixed(bytes, at, 1, order, spec.attribute)?;
             Ok((FormValue::Flag(n != 0), end))
         }
-        Layout::Present => Ok((FormValue::Flag(true), at)),
-        Layout::Text => {
+        FormLayout::Present => Ok((FormValue::Flag(true), at)),
+        FormLayout::Text => {
             let (name, end) = text(bytes, at, spec.attribute)?;
             Ok((FormValue::Text(name), end))
         }
-        Layout::Sixteen => {
+        FormLayout::Sixteen => {
             let (found, end) = held(bytes, at, 16, spec.attribute)?;
             Ok((FormValue::Sixteen(found), end))
         }
-        Layout::Counted(width, kind) => {
+        FormLayout::Counted(width, kind) => {
             let (count, after) = fixed(bytes, at, width, order, spec.attribute)?;
             let (found, end) = held(bytes, after, count, spec.attribute)?;
             Ok((made_of(kind, found), end))
         }
-        Layout::LebCounted(kind) => {
+        FormLayout::LebCounted(kind) => {
             let (count, after) = unsigned(bytes, at, spec.attribute)?;
             let (found, end) = held(bytes, after, count, spec.attribute)?;
             Ok((made_of(kind, found), end))
         }
-        Layout::Elsewhere(width) => {
+        FormLayout::Elsewhere(width) => {
             let (_, end) = fixed(bytes, at, width, order, spec.attribute)?;
             Ok((FormValue::Alt(form), end))
         }

@@ -1,15 +1,18 @@
 -- What is known of the targets of relocation sections.
 use Rattle.std.proofs.Common.{◌≡◌, ℕ, Bool, true, false, List, Option, Some, None, refl, sym, ap}
-use Rattle.std.proofs.Common.{◌∙◌}
+use Rattle.std.proofs.Common.{◌∙◌, if◌then◌else◌}
 use Rattle.std.proofs.lemmas.Bool.{eqb-true}
 use Rattle.std.proofs.lemmas.Option.{same_Some}
 use Rattle.elf_sections.specs.declared.fault.Kind.{Kind}
 use Rattle.elf_sections.specs.declared.fault.Kind.TheVariants.{Info, Abbrev, Str, LineStr}
 use Rattle.elf_sections.specs.declared.fault.Kind.TheVariants.{StrOffsets}
 use Rattle.elf_reloc.specs.Tables.{is_relocation, is_sound, target_of, target_met}
-use Rattle.elf_reloc.specs.Clear.{target_at, with_number, is_number, is_known, IsClear, AreClear}
+use Rattle.elf_sections.specs.Numbers.{number_at, with_number}
+use Rattle.elf_sections.specs.Sections.{is_of}
+use Rattle.elf_sections.proofs.Numbered.{with_one}
+use Rattle.elf_reloc.specs.Clear.{is_number, is_known, IsClear, AreClear}
 use Rattle.elf_reloc.specs.Checks.{first, section_checks}
-use Rattle.elf_reloc.specs.declared.targets.Targets.{Targets}
+use Rattle.elf_sections.specs.declared.numbers.SectionNumbers.{SectionNumbers}
 use Rattle.elf_reloc.proofs.Sound.{sound_parts, unsound}
 
 nothing_clear : (file : List ℕ) → IsClear file None
@@ -22,23 +25,24 @@ pub none_clear : (file : List ℕ) → AreClear file (record {
   line_text = None;
   text_offsets = None;
 })
-none_clear file =
-    record {
-      info = nothing_clear file;
-      abbreviations = nothing_clear file;
-      text = nothing_clear file;
-      line_text = nothing_clear file;
-      text_offsets = nothing_clear file;
-    }
+none_clear file = record { each = by }
+  where
+    none : SectionNumbers
+    none =
+        record {
+          info = None;
+          abbreviations = None;
+          text = None;
+          line_text = None;
+          text_offsets = None;
+        }
 
--- the section of a kind
-kind_clear : (file : List ℕ) (t : Targets) (kind : Kind) → AreClear file t
-    → IsClear file (target_at t kind)
-kind_clear file t Info c = c.info
-kind_clear file t Abbrev c = c.abbreviations
-kind_clear file t Str c = c.text
-kind_clear file t LineStr c = c.line_text
-kind_clear file t StrOffsets c = c.text_offsets
+    by : (kind : Kind) → IsClear file (number_at none kind)
+    by Info = nothing_clear file
+    by Abbrev = nothing_clear file
+    by Str = nothing_clear file
+    by LineStr = nothing_clear file
+    by StrOffsets = nothing_clear file
 
 -- a known section is clear
 known_by : (file : List ℕ) (n : ℕ) (o : Option ℕ) → IsClear file o → is_number o n ≡ true
@@ -47,9 +51,9 @@ known_by file n None c e = absurd (cc)
 known_by file n (Some k) c e = let same : k ≡ n = eqb-true k n e in
     ap (target_met file) (sym same) ∙ c.clear k refl
 
-pub known_clear : (file : List ℕ) (t : Targets) (kind : Kind) (n : ℕ) → AreClear file t
+pub known_clear : (file : List ℕ) (t : SectionNumbers) (kind : Kind) (n : ℕ) → AreClear file t
     → is_known t kind n ≡ true → target_met file n ≡ false
-known_clear file t kind n c e = known_by file n (target_at t kind) (kind_clear file t kind c) e
+known_clear file t kind n c e = known_by file n (number_at t kind) (c.each kind) e
 
 one_clear : (file : List ℕ) (n : ℕ) → target_met file n ≡ false → IsClear file (Some n)
 one_clear file n e = record {
@@ -57,43 +61,16 @@ one_clear file n e = record {
       ap (target_met file) (sym (same_Some n k s)) ∙ e;
 }
 
-pub with_clear : (file : List ℕ) (t : Targets) (kind : Kind) (n : ℕ) → AreClear file t
-    → target_met file n ≡ false → AreClear file (with_number t kind n)
-with_clear file t Info n c e = record {
-  info = one_clear file n e;
-  abbreviations = c.abbreviations;
-  text = c.text;
-  line_text = c.line_text;
-  text_offsets = c.text_offsets;
+pub with_clear : (file : List ℕ) (t : SectionNumbers) (other : Kind) (n : ℕ) → AreClear file t
+    → target_met file n ≡ false → AreClear file (with_number t other n)
+with_clear file t other n c e = record {
+  each = λ (kind : Kind).
+      rw (with_one t kind other n) (either (is_of kind (Some other)) kind);
 }
-with_clear file t Abbrev n c e = record {
-  info = c.info;
-  abbreviations = one_clear file n e;
-  text = c.text;
-  line_text = c.line_text;
-  text_offsets = c.text_offsets;
-}
-with_clear file t Str n c e = record {
-  info = c.info;
-  abbreviations = c.abbreviations;
-  text = one_clear file n e;
-  line_text = c.line_text;
-  text_offsets = c.text_offsets;
-}
-with_clear file t LineStr n c e = record {
-  info = c.info;
-  abbreviations = c.abbreviations;
-  text = c.text;
-  line_text = one_clear file n e;
-  text_offsets = c.text_offsets;
-}
-with_clear file t StrOffsets n c e = record {
-  info = c.info;
-  abbreviations = c.abbreviations;
-  text = c.text;
-  line_text = c.line_text;
-  text_offsets = one_clear file n e;
-}
+  where
+    either : (b : Bool) (kind : Kind) → IsClear file (if b then Some n else number_at t kind)
+    either true kind = one_clear file n e
+    either false kind = c.each kind
 
 -- the target of a relocation section whose checks have passed
 sound_passed : (file : List ℕ) (i : ℕ) → is_relocation file i ≡ true

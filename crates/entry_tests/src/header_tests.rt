@@ -2,7 +2,7 @@
 use dw_base::Order;
 use elf_sections::Image;
 use entry_tree::{Unit, UnitFault, UnitList, units};
-use small_files::bytes::{Header, Sections, file_of, put, put_header};
+use small_files::bytes::{Sections, UnitHeader, file_of, put, put_header};
 use std::alloc::{AllocError, Global};
 use std::process::Abort;
 use std::test::Fail;
@@ -48,9 +48,9 @@ fn check_units(
 }
 
 /// A whole header of a version, with some bytes behind it.
-fn plain(size: Size, behind: u64) -> Header {
+fn plain(size: Size, behind: u64) -> UnitHeader {
     let (version, offset_bytes, fields) = size;
-    Header {
+    UnitHeader {
         version,
         offset_bytes,
         unit_type: 1,
@@ -61,7 +61,7 @@ fn plain(size: Size, behind: u64) -> Header {
 }
 
 /// What a header at a place is read as.
-fn read_as(header: Header, at: u64, fields: u64) -> Unit {
+fn read_as(header: UnitHeader, at: u64, fields: u64) -> Unit {
     let after = at.wrapping_add(if header.offset_bytes == 8 { 12 } else { 4 });
     Unit {
         at,
@@ -80,7 +80,7 @@ fn check_header(
     rt: &impl Abort,
     alloc: Global,
     order: Order,
-    header: Header,
+    header: UnitHeader,
     fields: u64,
 ) -> Result<(), AllocError> {
     let mut info = Vec::new(alloc);
@@ -177,7 +177,7 @@ const REFUSED: &[(u16, u8, u8, u64, UnitFault)] = &[
 fn headers_refused(rt: HostRuntime) -> Result<(), Fail> {
     for &order in ORDERS {
         for &(version, unit_type, address_size, size, fault) in REFUSED {
-            let header = Header {
+            let header = UnitHeader {
                 version,
                 offset_bytes: 4,
                 unit_type,

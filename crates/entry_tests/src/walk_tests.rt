@@ -8,7 +8,7 @@ use dwarf_abbrev::{AbbrevFault, Abbrevs};
 use dwarf_forms::{FormCtx, FormFault, name_of};
 use elf_sections::{Image, Kind};
 use entry_tree::{Entry, RootInfo, Unit, UnitFault, Walk, WalkFault, context, root, units};
-use small_files::bytes::{Header, Sections, file_of, info_of, plain_file, put_all, put_header};
+use small_files::bytes::{Sections, UnitHeader, file_of, info_of, plain_file, put_all, put_header};
 use std::alloc::{AllocError, Global};
 use std::process::Abort;
 use std::test::Fail;
@@ -143,7 +143,7 @@ fn real_file(alloc: Global) -> Result<Vec<u8>, AllocError> {
 enum Outcome {
     NoImage,
     NoUnit,
-    Header(UnitFault),
+    UnitHeader(UnitFault),
     Table(AbbrevFault),
     Tree(WalkFault),
     Untold,
@@ -568,7 +568,7 @@ fn sized_file(
     let mut entries = Vec::new(alloc);
     put_sized(&mut entries, offset_bytes, u32::from(address_bytes))?;
     let end = kept.min(entries.len());
-    let header = Header {
+    let header = UnitHeader {
         version: 5,
         offset_bytes,
         unit_type: 1,

@@ -12,7 +12,7 @@ use Rattle.entry_tree.specs.declared.unit.Unit.{Unit}
 use Rattle.entry_tree.specs.declared.unit.UnitFault.{UnitFault}
 use Rattle.entry_tree.specs.declared.unit.UnitFault.TheVariants.{UnitLength, UnitVersion}
 use Rattle.entry_tree.specs.declared.unit.UnitFault.TheVariants.{AddressSize}
-use Rattle.entry_tree.specs.declared.headers.Extent.{Extent}
+use Rattle.entry_tree.specs.declared.headers.UnitSpan.{UnitSpan}
 use Rattle.entry_tree.specs.declared.headers.Fields.{Fields}
 
 pub bind_ok : {A B : Type 0} (r : Result A UnitFault) (f : A → Result B UnitFault) (y : B)
@@ -30,25 +30,25 @@ short_ok at None y e = absurd (cc)
 short_ok at (Some x) y e = cc
 
 -- an extent lies in the section behind the unit's first byte
-pub record Lies (info : List ℕ) (at : ℕ) (e : Extent) : Type 0 where
+pub record Lies (info : List ℕ) (at : ℕ) (e : UnitSpan) : Type 0 where
   pub begins : at < e.after
   pub inside : IsInside info e
 
-made_inside : (info : List ℕ) (at width after size : ℕ) (e : Extent) → at < after → HasWidth width
+made_inside : (info : List ℕ) (at width after size : ℕ) (e : UnitSpan) → at < after → HasWidth width
     → extent_of info at width after size ≡ Ok e → Lies info at e
 made_inside info at width after size e begins width_is h =
     let p = if_ok (nat_le (after + size) (length info))
     (record { offset_bytes = width; after = after; end = after + size }) e (UnitLength at) h in
     let le : after + size ≤ length info = leb-true (after + size) (length info) p.0 in
-    let b : e.after ≡ after = ap (λ (x : Extent). x.after) (sym p.1) in
-    let c : e.end ≡ after + size = ap (λ (x : Extent). x.end) (sym p.1) in
-    let d : e.offset_bytes ≡ width = ap (λ (x : Extent). x.offset_bytes) (sym p.1) in
+    let b : e.after ≡ after = ap (λ (x : UnitSpan). x.after) (sym p.1) in
+    let c : e.end ≡ after + size = ap (λ (x : UnitSpan). x.end) (sym p.1) in
+    let d : e.offset_bytes ≡ width = ap (λ (x : UnitSpan). x.offset_bytes) (sym p.1) in
     record {
       begins = omega arith;
       inside = record { behind = omega arith; inside = omega arith; width = rw d width_is };
     }
 
-pub extent_inside : (info : List ℕ) (order : Order) (at : ℕ) (e : Extent)
+pub extent_inside : (info : List ℕ) (order : Order) (at : ℕ) (e : UnitSpan)
     → extent_at info order at ≡ Ok e → Lies info at e
 unfolding extent_at
 extent_inside info order at e h =
@@ -111,7 +111,7 @@ pub unit_lies : (info : List ℕ) (order : Order) (at : ℕ)
 unfolding unit_at
 unit_lies info order at =
     each (IsWithin info at) (extent_at info order at) _
-    (λ (e : Extent) (extent : extent_at info order at ≡ Ok e).
+    (λ (e : UnitSpan) (extent : extent_at info order at ≡ Ok e).
     each (IsWithin info at) (or_short at (number_of (take e.end info) e.after 2 order)) _
     (λ (version : ℕ)
     (there : or_short at (number_of (take e.end info) e.after 2 order) ≡ Ok version).

@@ -8,8 +8,8 @@ use Rattle.dwarf_forms.specs.Values.Plain.{number}
 use Rattle.dwarf_forms.specs.Meanings.{constant_in}
 use Rattle.dwarf_forms.specs.declared.fault.FormFault.{FormFault}
 use Rattle.dwarf_forms.specs.declared.fault.FormFault.TheVariants.{WrongClass}
-use Rattle.dwarf_forms.specs.declared.layout.Kind.{Kind}
-use Rattle.dwarf_forms.specs.declared.layout.Kind.TheVariants.{Unsigned, SecOffset}
+use Rattle.dwarf_forms.specs.declared.layout.NumberClass.{NumberClass}
+use Rattle.dwarf_forms.specs.declared.layout.NumberClass.TheVariants.{Unsigned, SecOffset}
 use Rattle.entry_tree.specs.Reads.{value_with}
 use Rattle.entry_tree.specs.Items.{◌>>=◌, Standing, Given, item_at, given_at, of_form}
 use Rattle.entry_tree.specs.Items.Standing.{nothing, null, entry}
@@ -30,7 +30,7 @@ language_in (Some g) = as_some (constant_in DW_AT_language g)
 -- constant; without one they count from
 -- behind the section's header (DWARF 5, section 7.26), which has 8 bytes, and 16 where offsets have
 -- 8
-abbrev pub number_base : ℕ → Kind → ℕ → Result ℕ FormFault
+abbrev pub number_base : ℕ → NumberClass → ℕ → Result ℕ FormFault
 number_base form SecOffset n = Ok n
 number_base form Unsigned n = Ok n
 number_base form other n = Err (WrongClass DW_AT_str_offsets_base form)

@@ -13,7 +13,7 @@ use Rattle.entry_tree.specs.declared.unit.Unit.{Unit}
 use Rattle.entry_tree.specs.declared.unit.UnitFault.{UnitFault}
 use Rattle.entry_tree.specs.declared.unit.UnitFault.TheVariants.{UnitLength, UnitVersion, UnitType}
 use Rattle.entry_tree.specs.declared.unit.UnitFault.TheVariants.{AddressSize, Memory}
-use Rattle.entry_tree.specs.declared.headers.Extent.{Extent}
+use Rattle.entry_tree.specs.declared.headers.UnitSpan.{UnitSpan}
 use Rattle.entry_tree.specs.declared.headers.Fields.{Fields}
 
 infixl 10 ◌>>=◌
@@ -27,7 +27,7 @@ or_short at None = Err (UnitLength at)
 or_short at (Some x) = Ok x
 
 -- a unit whose length counts from `after` on, and whose offsets have so many bytes
-abbrev pub extent_of : List ℕ → ℕ → ℕ → ℕ → ℕ → Result Extent UnitFault
+abbrev pub extent_of : List ℕ → ℕ → ℕ → ℕ → ℕ → Result UnitSpan UnitFault
 extent_of info at offset_bytes after size =
     if nat_le (after + size) (length info) then Ok (record {
       offset_bytes = offset_bytes;
@@ -36,7 +36,7 @@ extent_of info at offset_bytes after size =
     }) else Err (UnitLength at)
 
 -- a unit lies in the section behind its length, and its offsets have the width of a number
-pub record IsInside (info : List ℕ) (e : Extent) : Type 0 where
+pub record IsInside (info : List ℕ) (e : UnitSpan) : Type 0 where
   pub behind : e.after ≤ e.end
   pub inside : e.end ≤ length info
   pub width : HasWidth e.offset_bytes
@@ -44,7 +44,7 @@ pub record IsInside (info : List ℕ) (e : Extent) : Type 0 where
 -- the initial length (section 7.4): 4 bytes; or the escape 0xffffffff and 8 bytes, and then offsets
 -- have 8 bytes. From 0xfffffff0
 -- on the other values are reserved. The unit ends inside the section.
-unfoldable pub extent_at : List ℕ → Order → ℕ → Result Extent UnitFault
+unfoldable pub extent_at : List ℕ → Order → ℕ → Result UnitSpan UnitFault
 extent_at info order at =
     or_short at (number_of info at 4 order) >>= λ (short : ℕ).
     if short == 0xffffffff then (or_short at (number_of info (at + 4) 8 order) >>= λ (long : ℕ).
@@ -100,7 +100,7 @@ check_address at size = if size == 4 || size == 8 then Ok size else Err (Address
 -- addresses
 unfoldable pub unit_at : List ℕ → Order → ℕ → Result Unit UnitFault
 unit_at info order at =
-    extent_at info order at >>= λ (e : Extent).
+    extent_at info order at >>= λ (e : UnitSpan).
     or_short at (number_of (take e.end info) e.after 2 order) >>= λ (version : ℕ).
     fields_of at version (e.after + 2) e.offset_bytes >>= λ (f : Fields).
     (if nat_le f.first e.end then Ok f else Err (UnitLength at)) >>= λ (whole : Fields).

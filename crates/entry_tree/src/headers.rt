@@ -25,7 +25,7 @@ const RESERVED: u64 = 0xffff_fff0;
 /// How far a unit goes: the offset after its length, the offset after its last byte, and how many
 /// bytes its offsets have.
 #[derive(Clone, Copy, Debug)]
-struct Extent {
+struct UnitSpan {
     after: u64,
     end: u64,
     offset_bytes: u32,
@@ -76,7 +76,7 @@ fn make_extent(
     offset_bytes: u32,
     after: u64,
     size: u64,
-) -> Result<Extent, UnitFault>
+) -> Result<UnitSpan, UnitFault>
     requires after { after ≤ length info.now }
     requires width { HasWidth offset_bytes }
     ensures extent { result ≡ extent_of info.now at offset_bytes after size }
@@ -85,7 +85,7 @@ fn make_extent(
     if size > info.len() as u64 - after {
         return Err(UnitFault::UnitLength(at));
     }
-    Ok(Extent {
+    Ok(UnitSpan {
         after,
         end: after + size,
         offset_bytes,
@@ -94,7 +94,7 @@ fn make_extent(
 
 /// How far the unit at a place goes.
 #[tactic(auto, using(dw_base::proofs::Numbering::number_within), unfolding(crate::specs::Units::extent_at))]
-fn read_extent(info: &[u8], order: Order, at: u64) -> Result<Extent, UnitFault>
+fn read_extent(info: &[u8], order: Order, at: u64) -> Result<UnitSpan, UnitFault>
     requires { at ≤ length info.now }
     ensures extent { result ≡ extent_at info.now order at }
     ensures inside { IfOk result (IsInside info.now) }

@@ -15,13 +15,13 @@ use std::marker::Model;
 #[derive(Debug, Drop)]
 pub struct FwdIndex {
     count: u32,
-    kept: Option<Kept>,
+    kept: Option<TagGroups>,
 }
 
 /// Of each node the number of its tag's group and 1, or 0 where it is no forward, and the groups of
 /// definitions.
 #[derive(Debug, Drop)]
-pub struct Kept {
+pub struct TagGroups {
     pub tags: Vec<u32>,
     pub groups: Vec<Vec<u32>>,
 }
@@ -62,12 +62,12 @@ impl FwdIndex {
         requires { let g = G.shape graph.now in IsCoarsest (take g.base g.nodes) base.now }
         ensures { IfOk result (λ f. IsForwardIndex (G.shape graph.now) f) }
     {
-        let Kept { tags, mut groups } = gathered(alloc, graph)?;
+        let TagGroups { tags, mut groups } = gathered(alloc, graph)?;
         empty_unnamed(alloc, &tags, &mut groups)?;
         let groups = opened(alloc, base.numbers(), groups)?;
         Ok(FwdIndex {
             count: graph.len(),
-            kept: Some(Kept { tags, groups }),
+            kept: Some(TagGroups { tags, groups }),
         })
     }
 
@@ -105,7 +105,7 @@ impl FwdIndex {
     }
 
     /// The index as it is kept: the number of each node's tag, and the definitions of each tag.
-    pub fn kept(&self) -> &Option<Kept>
+    pub fn kept(&self) -> &Option<TagGroups>
         ensures { (n : ℕ) × (self.now ≡ index_of n result.now) × IsKept n result.now }
     {
         &self.kept

@@ -18,7 +18,7 @@ pub struct FuncEntry<'a> {
 pub type FuncEntries<'a> = Listed<FuncEntry<'a>>;
 
 /// A list of offsets in `.debug_info`. Contracts see it as the list.
-pub type Places = Listed<u64>;
+pub type Offsets = Listed<u64>;
 
 /// The functions of a unit, and where its types stand.
 #[derive(Debug, Drop)]
@@ -26,7 +26,7 @@ pub struct UnitFuncs<'a> {
     /// The functions in the order of their entries.
     pub funcs: FuncEntries<'a>,
     /// The offsets of the entries that are types, in order.
-    pub places: Places,
+    pub places: Offsets,
     /// Whether one of these types is an array.
     pub has_array: bool,
 }

@@ -8,5 +8,5 @@ mod shared;
 pub mod unit;
 mod walking;
 
-pub use entries::{FuncEntries, FuncEntry, Places, UnitFuncs};
+pub use entries::{FuncEntries, FuncEntry, Offsets, UnitFuncs};
 pub use unit::{functions_of_unit, functions_of_unit_with};

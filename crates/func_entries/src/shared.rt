@@ -1,5 +1,5 @@
 //! What workers share or give back may be shared and sent.
-use crate::entries::{FuncEntries, FuncEntry, Places, UnitFuncs};
+use crate::entries::{FuncEntries, FuncEntry, Offsets, UnitFuncs};
 use c_types::TypeFault;
 
 fn crosses<T: Send + Sync>() {}
@@ -7,7 +7,7 @@ fn crosses<T: Send + Sync>() {}
 fn all_cross<'a>() {
     crosses::<FuncEntry<'a>>();
     crosses::<FuncEntries<'a>>();
-    crosses::<Places>();
+    crosses::<Offsets>();
     crosses::<UnitFuncs<'a>>();
     crosses::<Result<UnitFuncs<'a>, TypeFault>>();
 }

@@ -6,7 +6,7 @@ ghost use Rattle.entry_tree.specs.Roots.{root_of};
 ghost use Rattle.c_types.specs.Tables.{IsTableAt};
 ghost use Rattle.func_entries.specs.Units.{after_root, functions_of_unit_of, Gives};
 
-use crate::entries::{FuncEntries, Places, UnitFuncs};
+use crate::entries::{FuncEntries, Offsets, UnitFuncs};
 use crate::walking::read_functions;
 use c_types::unit::is_other;
 use c_types::{TypeFault, read_abbrevs};
@@ -35,7 +35,7 @@ fn read_unit<'a>(
     if is_other(root.language) {
         return Ok(UnitFuncs {
             funcs: FuncEntries::new(Vec::new(alloc)),
-            places: Places::new(Vec::new(alloc)),
+            places: Offsets::new(Vec::new(alloc)),
             has_array: false,
         });
     }

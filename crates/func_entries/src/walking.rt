@@ -16,10 +16,10 @@ ghost use Rattle.func_entries.specs.Units.{or_least, functions_in, Gives};
 ghost use Rattle.func_entries.specs.Walking.{head_at, head_refused, head_listed, prototypes_at};
 ghost use Rattle.func_entries.specs.Walking.{refused_at, paired, of_version};
 
-use crate::entries::{FuncEntries, FuncEntry, Places, UnitFuncs};
+use crate::entries::{FuncEntries, FuncEntry, Offsets, UnitFuncs};
 use crate::places::{Placing, place};
 use c_types::functions::open_function;
-use c_types::open::{Kept, Reading};
+use c_types::open::{OpenType, Reading};
 use c_types::walking::{begin, close, meet};
 use c_types::{SourceType, TypeFault};
 use dw_base::Name;
@@ -105,7 +105,7 @@ fn take_function<'a>(
     let Some(head) = read_head(&ctx.form, entry, &mut gathering.reading.current) else {
         return Ok(());
     };
-    let kept = Kept::Function(open_function(alloc, ctx, entry)?);
+    let kept = OpenType::Function(open_function(alloc, ctx, entry)?);
     begin(
         alloc,
         entry.at(),
@@ -199,7 +199,7 @@ fn end<'a>(
     let funcs = pair(alloc, heads, reading.types)?;
     Ok(UnitFuncs {
         funcs: FuncEntries::new(funcs),
-        places: Places::new(placing.places),
+        places: Offsets::new(placing.places),
         has_array: placing.has_array,
     })
 }

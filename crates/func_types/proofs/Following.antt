@@ -16,7 +16,7 @@ use Rattle.c_model.specs.declared.graph.Ref.{Ref}
 use Rattle.type_attributes.specs.declared.source.Target.{Target}
 use Rattle.type_attributes.specs.declared.source.Target.TheVariants as targets
 use Rattle.unit_graph.specs.declared.links.Out.{Out}
-use Rattle.unit_graph.specs.declared.places.Row.{Row}
+use Rattle.unit_graph.specs.declared.places.NodePlace.{NodePlace}
 use Rattle.unit_graph.specs.Links.{ref_of}
 use Rattle.unit_graph.specs.Links.{with_ref, refs_from, nodes_from}
 use Rattle.unit_graph.specs.Numbers.{Numbers}
@@ -96,7 +96,7 @@ numbered_more first fs i e at =
     ∙ ap (λ (n : ℕ). numbered first (take i fs) ++ func_with (first + n) e ∷ []) size
 
 -- the first i prototypes are linked
-pub record AreLinked (places : List Row) (count : ℕ) (fs : List FileFunc) (before : List CType)
+pub record AreLinked (places : List NodePlace) (count : ℕ) (fs : List FileFunc) (before : List CType)
     (i : ℕ) (nodes : List CType) (done : List Func) (proto : ℕ) : Type 0 where
   pub linked :
       (all : List Source) → Numbers places all → length all ≡ count
@@ -106,7 +106,7 @@ pub record AreLinked (places : List Row) (count : ℕ) (fs : List FileFunc) (bef
   pub next : proto ≡ count + i
   pub within : RefersWithin count nodes
 
-pub none_linked : (places : List Row) (count : ℕ) (fs : List FileFunc) (before : List CType)
+pub none_linked : (places : List NodePlace) (count : ℕ) (fs : List FileFunc) (before : List CType)
     (done : List Func) → RefersWithin count before → done ≡ []
     → AreLinked places count fs before 0 before done count
 none_linked places count fs before done within none =
@@ -118,7 +118,7 @@ none_linked places count fs before done within none =
       within = within;
     }
 
-pub one_linked : (places : List Row) (count : ℕ) (fs : List FileFunc) (before : List CType) (i : ℕ)
+pub one_linked : (places : List NodePlace) (count : ℕ) (fs : List FileFunc) (before : List CType) (i : ℕ)
     (nodes more : List CType) (done : List Func) (proto : ℕ) (e : FileFunc) (rs : List Ref)
     → (all : List Source) × Numbers places all × (length all ≡ count)
     → slice_get fs i ≡ Some e
@@ -152,7 +152,7 @@ one_linked places count fs before i nodes more done proto e rs some at found put
           e.func.proto.targets (sym (found some.0 some.1 some.2)))));
     }
 
-pub not_linked : (places : List Row) (count : ℕ) (fs : List FileFunc) (before : List CType) (i : ℕ)
+pub not_linked : (places : List NodePlace) (count : ℕ) (fs : List FileFunc) (before : List CType) (i : ℕ)
     (nodes : List CType) (done : List Func) (proto : ℕ) (e : FileFunc) (o : Out) (all : List Source)
     → slice_get fs i ≡ Some e → Numbers places all → length all ≡ count
     → Err o ≡ refs_from all e.file count [] e.func.proto.targets
@@ -164,7 +164,7 @@ not_linked places count fs before i nodes done proto e o all at numbers size fou
     (drop (i + 1) (prototypes_in count fs)) o (nodes_from all [] (prototypes_in count fs))
     (drop_entry fs i count e at) found l.2
 
-pub all_linked : (places : List Row) (count : ℕ) (fs : List FileFunc) (before : List CType) (i : ℕ)
+pub all_linked : (places : List NodePlace) (count : ℕ) (fs : List FileFunc) (before : List CType) (i : ℕ)
     (nodes : List CType) (done : List Func) (proto : ℕ) (all : List Source)
     → Numbers places all → length all ≡ count → length fs ≤ i
     → AreLinked places count fs before i nodes done proto

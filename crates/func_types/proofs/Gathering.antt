@@ -11,7 +11,7 @@ use Rattle.type_attributes.specs.declared.source.UnitTypes.{UnitTypes}
 use Rattle.c_types.specs.Types.{types_of_unit_of}
 use Rattle.func_entries.specs.declared.entries.UnitFuncs.{UnitFuncs}
 use Rattle.func_entries.specs.Units.{functions_of_unit_of}
-use Rattle.unit_graph.specs.declared.places.Row.{Row}
+use Rattle.unit_graph.specs.declared.places.NodePlace.{NodePlace}
 use Rattle.unit_graph.specs.Numbers.{row_moved, rows_from}
 use Rattle.unit_graph.specs.Pieces.{Read, both as both_reads, glue, glued, read_before, reads}
 use Rattle.unit_graph.specs.Pieces.{sources_from}
@@ -27,7 +27,7 @@ use Rattle.func_types.specs.declared.fault.FuncFault.{FuncFault}
 use Rattle.func_types.specs.declared.fault.FuncFault.TheVariants.{Unit as UnitFault, NodesTooMany}
 use Rattle.func_types.specs.declared.fault.FuncFault.TheVariants.{TypeRefOut, Memory}
 use Rattle.func_types.specs.declared.file_funcs.FileFunc.{FileFunc}
-use Rattle.func_types.specs.declared.reading.Found.{Found}
+use Rattle.func_types.specs.declared.reading.UnitFunctions.{UnitFunctions}
 
 -- ---- function entries of units behind those of others
 
@@ -151,7 +151,7 @@ made_rows : (k file index : ℕ) (ts : List SourceType)
     → rows_from k (made_sources file index ts) ≡ rows_of k file (map (λ (t : SourceType). t.at) ts)
 unfolding rows_from
 made_rows k file index [] = refl
-made_rows k file index (t ∷ ts) = ap (λ (rs : List Row).
+made_rows k file index (t ∷ ts) = ap (λ (rs : List NodePlace).
     record { file = file; number = k; at = t.at } ∷ rs) (made_rows (k + 1) file index ts)
 
 index_rows : (k file index : ℕ) (has_array : Bool)
@@ -171,7 +171,7 @@ unit_rows k file start t =
     let index : ℕ = start + length t.types in
     rows-append k (k + length (made_sources file index t.types)) (made_sources file index t.types)
     (index_sources file index t.has_array) refl
-    ∙ ap (λ (rs : List Row). rows_from k (made_sources file index t.types) ++ rs)
+    ∙ ap (λ (rs : List NodePlace). rows_from k (made_sources file index t.types) ++ rs)
     (index_rows (k + length (made_sources file index t.types)) file index t.has_array)
     ∙ append-nil (rows_from k (made_sources file index t.types))
     ∙ made_rows k file index t.types
@@ -190,7 +190,7 @@ unit_size file start t =
 
 -- ---- what is held of units
 
-pub found_none : (k : ℕ) (f : Found) → f.funcs.items ≡ [] → f.rows.items ≡ [] → f.count ≡ 0
+pub found_none : (k : ℕ) (f : UnitFunctions) → f.funcs.items ≡ [] → f.rows.items ≡ [] → f.count ≡ 0
     → IsFound k [] f
 found_none k f funcs rows count =
     record {
@@ -234,7 +234,7 @@ all_typed k us all i d lt =
     record { types = t.0; read = t.1 }
 
 -- one unit more
-pub found_more : (k : ℕ) (us : List FileUnit) (i : ℕ) (u : FileUnit) (v : UnitFuncs) (p q : Found)
+pub found_more : (k : ℕ) (us : List FileUnit) (i : ℕ) (u : FileUnit) (v : UnitFuncs) (p q : UnitFunctions)
     → i < length us → u ≡ get_or us i u
     → HasTypes u → functions_of_unit_of u.bytes u.unit ≡ Ok v
     → ((t : UnitTypes) → types_of_unit_of u.bytes u.unit ≡ Ok t
@@ -278,12 +278,12 @@ found_more k us i u v p q lt is types found places_agree put rowed counted h =
           let xs : List Read = l.0 in
           let start : ℕ = n + length (sources_from n xs) in
           rowed
-          ∙ ap (λ (rows : List Row). rows ++ rows_of p.count u.file v.places) (h.rows n xs l.1)
+          ∙ ap (λ (rows : List NodePlace). rows ++ rows_of p.count u.file v.places) (h.rows n xs l.1)
           ∙ ap (λ (ats : List ℕ).
           rows_from 0 (sources_from n xs) ++ rows_of p.count u.file ats) agree.0
           ∙ ap (λ (m : ℕ). rows_from 0 (sources_from n xs)
           ++ rows_of m u.file (map (λ (s : SourceType). s.at) t.types)) (h.count n xs l.1)
-          ∙ ap (λ (rows : List Row). rows_from 0 (sources_from n xs) ++ rows)
+          ∙ ap (λ (rows : List NodePlace). rows_from 0 (sources_from n xs) ++ rows)
           (sym (unit_rows (length (sources_from n xs)) u.file start t))
           ∙ sym (rows-append 0 (length (sources_from n xs)) (sources_from n xs)
           (sources_of u.file start t) (omega arith))
@@ -308,12 +308,12 @@ found_more k us i u v p q lt is types found places_agree put rowed counted h =
           );
     }
 
-pub found_end : (k : ℕ) (us : List FileUnit) (i : ℕ) (f : Found) → length us ≤ i
+pub found_end : (k : ℕ) (us : List FileUnit) (i : ℕ) (f : UnitFunctions) → length us ≤ i
     → IsFound k (take i us) f → IsFound k us f
 found_end k us i f le h = subst (λ (vs : List FileUnit). IsFound k vs f) (take_all i us le) h
 
 -- a unit that is refused
-pub unit_refused : (k : ℕ) (us : List FileUnit) (i : ℕ) (u : FileUnit) (f : TypeFault) (p : Found)
+pub unit_refused : (k : ℕ) (us : List FileUnit) (i : ℕ) (u : FileUnit) (f : TypeFault) (p : UnitFunctions)
     → i < length us → u ≡ get_or us i u → functions_of_unit_of u.bytes u.unit ≡ Err f
     → IsFound k (take i us) p
     → Err (record { file = u.file; unit = k + i; fault = f }) ≡ functions_from k [] us
@@ -330,7 +330,7 @@ unit_refused k us i u f p lt is found h =
 
 -- ---- two workers
 
-pub joined_found : (k m : ℕ) (us vs : List FileUnit) (p q r : Found) → m ≡ k + length us
+pub joined_found : (k m : ℕ) (us vs : List FileUnit) (p q r : UnitFunctions) → m ≡ k + length us
     → IsFound k us p → IsFound m vs q → Joins p q r → IsFound k (us ++ vs) r
 joined_found k m us vs p q r at a b j =
     let parts : (rs : List Read) → reads k (us ++ vs) ≡ Ok rs → (xs : List Read) × (ys : List Read)
@@ -350,10 +350,10 @@ joined_found k m us vs p q r at a b j =
           let size = a.count n l.0 l.2 in
           j.rows
           ∙ ap
-          (λ (rows : List Row). rows ++ map (row_moved p.count) q.rows.items) (a.rows n l.0 l.2)
-          ∙ ap (λ (rows : List Row). rows_from 0 first ++ map (row_moved p.count) rows)
+          (λ (rows : List NodePlace). rows ++ map (row_moved p.count) q.rows.items) (a.rows n l.0 l.2)
+          ∙ ap (λ (rows : List NodePlace). rows_from 0 first ++ map (row_moved p.count) rows)
           (b.rows (n + length first) l.1 l.3)
-          ∙ ap (λ (rows : List Row). rows_from 0 first ++ rows)
+          ∙ ap (λ (rows : List NodePlace). rows_from 0 first ++ rows)
           (sym (rows_moved p.count 0 p.count second (omega arith)))
           ∙ sym (rows-append 0 p.count first second (omega (arith, size)))
           ∙ ap (rows_from 0) (sym (sources-append n l.0 l.1) ∙ ap (sources_from n) l.4);
@@ -400,7 +400,7 @@ fails_first e k m us vs at h =
     (λ r is. functions-append k m us vs at
     ∙ ap (λ (x : Result (List FileFunc) UnitRefusal). both x (functions_from m [] vs)) is) h
 
-pub fails_second : (e : FuncFault) (k m : ℕ) (us vs : List FileUnit) (p : Found) → m ≡ k + length us
+pub fails_second : (e : FuncFault) (k m : ℕ) (us vs : List FileUnit) (p : UnitFunctions) → m ≡ k + length us
     → IsFound k us p → Fails e (unit_faults (functions_from m [] vs))
     → Fails e (unit_faults (functions_from k [] (us ++ vs)))
 fails_second e k m us vs p at a h =
@@ -430,14 +430,14 @@ pub units_typed : (units : List FileUnit) → (all : List Source) × (gathered 0
     → All HasTypes units
 units_typed units all = let t = types_read units all.0 all.1 in all_typed 0 units (t.0, t.1)
 
-all_rows : (units : List FileUnit) (f : Found) (all : List Source) → IsFound 0 units f
+all_rows : (units : List FileUnit) (f : UnitFunctions) (all : List Source) → IsFound 0 units f
     → gathered 0 [] units ≡ Ok all → f.rows.items ≡ rows_from 0 all
 all_rows units f all h g =
     let t = types_read units all g in
     h.rows 0 t.0 t.1 ∙ ap (rows_from 0) t.2
 
-pub all_units_rows : (units : List FileUnit) (r : Result Found FuncFault) → GivesFound 0 units r
-    → IfOk r (λ (f : Found). (all : List Source) → gathered 0 [] units ≡ Ok all
+pub all_units_rows : (units : List FileUnit) (r : Result UnitFunctions FuncFault) → GivesFound 0 units r
+    → IfOk r (λ (f : UnitFunctions). (all : List Source) → gathered 0 [] units ≡ Ok all
     → f.rows.items ≡ rows_from 0 all)
 all_units_rows units (Ok f) h =
     λ (all : List Source) (g : gathered 0 [] units ≡ Ok all). all_rows units f all h g

@@ -15,7 +15,7 @@ use Rattle.c_types.specs.Types.{Gives as TypesGive}
 use Rattle.func_entries.specs.declared.entries.UnitFuncs.{UnitFuncs}
 use Rattle.func_entries.specs.Units.{Gives as FunctionsGive}
 use Rattle.unit_graph.specs.Sources.{UnitRefusal}
-use Rattle.unit_graph.specs.declared.places.Row.{Row}
+use Rattle.unit_graph.specs.declared.places.NodePlace.{NodePlace}
 use Rattle.func_types.specs.Faults.{Fails, fault_in, unit_faults}
 use Rattle.func_types.specs.Reading.{rows_of}
 use Rattle.func_types.specs.declared.file_funcs.FileFunc.{FileFunc}
@@ -74,11 +74,11 @@ refused (SizeLarge a b) file unit q total h stop = sym (ap unit_faults (stop h))
 rows-one_more : (k file : ℕ) (ats : List ℕ) (a : ℕ) → rows_of k file (ats ++ a ∷ [])
     ≡ rows_of k file ats ++ record { file = file; number = k + length ats; at = a } ∷ []
 rows-one_more k file [] a =
-    ap (λ (n : ℕ). let r : Row = record { file = file; number = n; at = a } in r ∷ []) (omega arith)
+    ap (λ (n : ℕ). let r : NodePlace = record { file = file; number = n; at = a } in r ∷ []) (omega arith)
 rows-one_more k file (b ∷ ats) a =
-    ap (λ (rs : List Row). record { file = file; number = k; at = b } ∷ rs)
+    ap (λ (rs : List NodePlace). record { file = file; number = k; at = b } ∷ rs)
     (rows-one_more (k + 1) file ats a ∙ ap (λ (n : ℕ). rows_of (k + 1) file ats
-    ++ (let r : Row = record { file = file; number = n; at = a } in r) ∷ []) (omega arith))
+    ++ (let r : NodePlace = record { file = file; number = n; at = a } in r) ∷ []) (omega arith))
 
 pub rows_more : (k file : ℕ) (ats : List ℕ) (i : ℕ) → i < length ats
     → rows_of k file (take (i + 1) ats) ≡ rows_of k file (take i ats) ++ record {
@@ -90,7 +90,7 @@ rows_more k file ats i lt =
     let size : length (take i ats) ≡ i = length-take-le i ats (omega arith) in
     ap (rows_of k file) (take_more ats i 0 lt)
     ∙ rows-one_more k file (take i ats) (get_or ats i 0)
-    ∙ ap (λ (n : ℕ). rows_of k file (take i ats) ++ (let r : Row = record {
+    ∙ ap (λ (n : ℕ). rows_of k file (take i ats) ++ (let r : NodePlace = record {
       file = file;
       number = k + n;
       at = get_or ats i 0;

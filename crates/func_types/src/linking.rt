@@ -13,7 +13,7 @@ use c_model::copy_of_label;
 use dw_base::Name;
 use packed_graph::PackedNodes;
 use std::alloc::{AllocError, Global};
-use unit_graph::{Out, Places, link_targets};
+use unit_graph::{NodePlaces, Out, link_targets};
 
 /// Types with prototypes behind them, and the function entries in the order of these.
 #[derive(Drop)]
@@ -26,7 +26,7 @@ pub struct Linked<'a> {
 /// first reference of a prototype that names none of the types.
 pub fn link_prototypes<'a>(
     alloc: Global,
-    places: &Places,
+    places: &NodePlaces,
     count: u32,
     nodes: PackedNodes<'a>,
     funcs: &[FileFunc<'a>],

@@ -12,14 +12,14 @@ use crate::file_funcs::FileFunc;
 use c_types::TypeFault;
 use func_entries::{FuncEntries, UnitFuncs, functions_of_unit_with};
 use std::alloc::{AllocError, Global};
-use unit_graph::{LastTable, Row, UnitAt, table_for};
+use unit_graph::{LastTable, NodePlace, UnitAt, table_for};
 
 /// What is read of some units: their function entries, where their types stand, and how many nodes
 /// these are. Nodes are numbered from the first that is held.
 #[derive(Drop)]
-pub struct Found<'a> {
+pub struct UnitFunctions<'a> {
     pub funcs: Vec<FileFunc<'a>>,
-    pub rows: Vec<Row>,
+    pub rows: Vec<NodePlace>,
     pub count: u32,
 }
 
@@ -61,14 +61,19 @@ pub(crate) fn added(count: u32, more: u32) -> Result<u32, AllocError>
 
 /// Appends the places of a file's nodes, which are numbered from `first` on, and gives the next
 /// number.
-fn push_rows(rows: &mut Vec<Row>, file: u32, first: u32, places: &[u64]) -> Result<u32, AllocError>
+fn push_rows(
+    rows: &mut Vec<NodePlace>,
+    file: u32,
+    first: u32,
+    places: &[u64],
+) -> Result<u32, AllocError>
     ensures rows { OnOk result (rows.new.items ≡ rows.old.items ++ rows_of first file places.now) }
     ensures next { IfOk result (λ n. n ≡ first + length places.now) }
 {
     rows.reserve(places.len())?;
     let mut number = first;
     for at in places {
-        rows.push(Row {
+        rows.push(NodePlace {
             file,
             number,
             at: *at,
@@ -93,7 +98,11 @@ fn push_funcs<'a>(
 }
 
 /// What is read, with one unit more.
-fn push_unit<'a>(found: &mut Found<'a>, file: u32, unit: UnitFuncs<'a>) -> Result<(), AllocError>
+fn push_unit<'a>(
+    found: &mut UnitFunctions<'a>,
+    file: u32,
+    unit: UnitFuncs<'a>,
+) -> Result<(), AllocError>
     ensures funcs { OnOk result
         (found.new.funcs.items ≡ found.old.funcs.items ++ of_file file unit.entry.funcs) }
     ensures rows { OnOk result (found.new.rows.items
@@ -112,14 +121,14 @@ pub fn read_piece<'a>(
     alloc: Global,
     from: u32,
     units: &[UnitAt<'a>],
-) -> Result<Found<'a>, FuncFault>
+) -> Result<UnitFunctions<'a>, FuncFault>
     requires few { from + length units.now < 2 ^ 32 }
     requires readable { All IsReadable units.now }
     requires files { AreOfFiles units.now }
     requires types { All HasTypes units.now }
     ensures { GivesFound from units.now result }
 {
-    let mut found = Found {
+    let mut found = UnitFunctions {
         funcs: Vec::new(alloc),
         rows: Vec::new(alloc),
         count: 0,

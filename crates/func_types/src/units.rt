@@ -14,13 +14,13 @@ ghost use Rattle.func_types.specs.Prototypes.{functions_from, prototypes_of_unit
 use crate::fault::FuncFault;
 use crate::linking::link_prototypes;
 use crate::protos::{Funcs, Protos};
-use crate::reading::Found;
+use crate::reading::UnitFunctions;
 use crate::workers::{read_alone, read_functions};
 use c_model::{Graph, TypeGraph};
 use packed_graph::{PackedGraph, packed};
 use std::alloc::{AllocError, Global};
 use std::thread::Threads;
-use unit_graph::{Places, UnitAt, find_tag};
+use unit_graph::{NodePlaces, UnitAt, find_tag};
 
 /// A unit of a file whose functions are read.
 pub type FuncUnit<'a> = UnitAt<'a>;
@@ -46,7 +46,7 @@ fn link_found<'a>(
     most: u32,
     graph: PackedGraph<'a>,
     units: &[FuncUnit<'a>],
-    found: Found<'a>,
+    found: UnitFunctions<'a>,
 ) -> Result<Protos<'a, PackedGraph<'a>>, FuncFault>
     requires few { length units.now < 2 ^ 32 }
     requires readable { All IsReadable units.now }
@@ -71,7 +71,7 @@ fn link_found<'a>(
     if count > u64::from(most) {
         return Err(FuncFault::NodesTooMany(count));
     }
-    let places = Places::new(found.rows)?;
+    let places = NodePlaces::new(found.rows)?;
     let nodes = graph.into_nodes();
     match link_prototypes(alloc, &places, plain, nodes, &found.funcs)? {
         Ok(linked) => Ok(Protos {

@@ -1,7 +1,7 @@
 //! Made graphs: rows are drawn, and mostly repeated with their references moved, so that equal
 //! types and cycles occur. Definitions are now and then replaced by declarations.
 use crate::rows::{ENUM, ENUM64, FWD, INT, NONE, PTR, Row, STRUCT, TYPEDEF, Table, UNION, X, bare};
-use small_graphs::rows::{Head, POINTER, Piece};
+use small_graphs::rows::{POINTER, PartRow, TypeHead};
 use std::alloc::{AllocError, Global};
 
 /// Numbers that look drawn, by a linear congruence modulo 2^64.
@@ -29,12 +29,12 @@ impl Draws {
 /// A row that is repeated: its references are counted from its own place.
 #[derive(Clone, Copy)]
 struct Pattern {
-    head: Head,
+    head: TypeHead,
     steps: [u64; 2],
 }
 
 /// Two members of 64 bits, or two enumerators.
-const TWO: &[Piece] = &[(b"x", 0), (b"y", 64)];
+const TWO: &[PartRow] = &[(b"x", 0), (b"y", 64)];
 
 /// A name, seldom empty.
 fn drawn_name(draws: &mut Draws) -> &'static [u8] {
@@ -46,7 +46,7 @@ fn drawn_name(draws: &mut Draws) -> &'static [u8] {
 }
 
 /// A structure of one member.
-const SINGLE: Head = Head {
+const SINGLE: TypeHead = TypeHead {
     kind: STRUCT,
     size: 16,
     pieces: X,
@@ -54,13 +54,13 @@ const SINGLE: Head = Head {
 };
 
 /// A declared structure.
-const FORWARD: Head = Head {
+const FORWARD: TypeHead = TypeHead {
     kind: FWD,
     ..POINTER
 };
 
 /// What drawn types say of themselves, apart from their names.
-const DRAWN: &[Head] = &[
+const DRAWN: &[TypeHead] = &[
     POINTER,
     POINTER,
     POINTER,
@@ -68,39 +68,39 @@ const DRAWN: &[Head] = &[
     SINGLE,
     SINGLE,
     SINGLE,
-    Head {
+    TypeHead {
         pieces: TWO,
         ..SINGLE
     },
-    Head {
+    TypeHead {
         pieces: &[],
         ..SINGLE
     },
-    Head {
+    TypeHead {
         kind: UNION,
         ..SINGLE
     },
-    Head {
+    TypeHead {
         kind: ENUM,
         size: 4,
         ..SINGLE
     },
-    Head {
+    TypeHead {
         kind: ENUM64,
         size: 8,
         pieces: TWO,
         ..SINGLE
     },
-    Head {
+    TypeHead {
         kind: INT,
         size: 4,
         ..POINTER
     },
-    Head {
+    TypeHead {
         kind: TYPEDEF,
         ..POINTER
     },
-    Head {
+    TypeHead {
         kind: ENUM,
         size: 4,
         ..POINTER
@@ -108,7 +108,7 @@ const DRAWN: &[Head] = &[
 ];
 
 /// What the drawn type of a number says of itself, apart from its name.
-fn numbered_head(number: u64) -> Head {
+fn numbered_head(number: u64) -> TypeHead {
     match DRAWN.get(number as usize) {
         Some(head) => *head,
         None => FORWARD,
@@ -116,21 +116,21 @@ fn numbered_head(number: u64) -> Head {
 }
 
 /// What a drawn type says of itself. A pointer has no name.
-fn drawn_head(draws: &mut Draws) -> Head {
+fn drawn_head(draws: &mut Draws) -> TypeHead {
     let name = drawn_name(draws);
     let head = numbered_head(draws.below(16));
     if head.kind == PTR {
         head
     } else {
-        Head { name, ..head }
+        TypeHead { name, ..head }
     }
 }
 
 /// The declaration of what a type defines; the type itself where it defines no tag.
-fn declaration_of(head: Head) -> Head {
+fn declaration_of(head: TypeHead) -> TypeHead {
     match head.kind {
         STRUCT => bare(FWD, head.name, 0),
-        UNION => Head {
+        UNION => TypeHead {
             flag: true,
             ..bare(FWD, head.name, 0)
         },
@@ -140,7 +140,7 @@ fn declaration_of(head: Head) -> Head {
 }
 
 /// How many types a type refers to.
-fn target_count(head: &Head) -> usize {
+fn target_count(head: &TypeHead) -> usize {
     match head.kind {
         PTR | TYPEDEF => 1,
         STRUCT | UNION => head.pieces.len(),
@@ -149,7 +149,7 @@ fn target_count(head: &Head) -> usize {
 }
 
 /// What a row says of itself: mostly what its pattern says.
-fn made_head(draws: &mut Draws, pattern: &Pattern) -> Head {
+fn made_head(draws: &mut Draws, pattern: &Pattern) -> TypeHead {
     match draws.below(8) {
         0 | 1 => declaration_of(pattern.head),
         2 => drawn_head(draws),

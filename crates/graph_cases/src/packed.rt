@@ -4,25 +4,25 @@ use crate::rows::{STRUCT, UNION};
 use crate::told::tell_holds;
 use c_model::Ref;
 use packed_graph::PackedNodes;
-use small_graphs::packed::{Listed, are_joined, listed, push_types};
-use small_graphs::rows::{Head, POINTER, Piece};
+use small_graphs::packed::{TypeRow, are_joined, listed, push_types};
+use small_graphs::rows::{POINTER, PartRow, TypeHead};
 use std::alloc::{AllocError, Global};
 
-const A: Piece = (b"a", 0);
+const A: PartRow = (b"a", 0);
 
-const B: Piece = (b"b", 32);
+const B: PartRow = (b"b", 32);
 
 /// The members of a structure.
-const PAIR: &[Piece] = &[A, B];
+const PAIR: &[PartRow] = &[A, B];
 
 /// Its members with another name of the last.
-const RENAMED: &[Piece] = &[A, (b"c", 32)];
+const RENAMED: &[PartRow] = &[A, (b"c", 32)];
 
 /// Its members with another place of the last.
-const MOVED: &[Piece] = &[A, (b"b", 64)];
+const MOVED: &[PartRow] = &[A, (b"b", 64)];
 
 /// Its members with names that are the same bytes when they are put together.
-const REGROUPED: &[Piece] = &[(b"ab", 0), (b"", 32)];
+const REGROUPED: &[PartRow] = &[(b"ab", 0), (b"", 32)];
 
 /// A name whose second eight bytes are the multiplier of std's hash: the eight before them make no
 /// difference to it.
@@ -32,7 +32,7 @@ const HIDDEN: &[u8] = b"the_name\x15\x7c\x4a\x7f\xb9\x79\x37\x9e_of_both";
 const HIDDEN_TOO: &[u8] = b"an_other\x15\x7c\x4a\x7f\xb9\x79\x37\x9e_of_both";
 
 /// A structure of two members.
-const S: Head = Head {
+const S: TypeHead = TypeHead {
     kind: STRUCT,
     name: b"s",
     size: 8,
@@ -42,46 +42,46 @@ const S: Head = Head {
 
 /// A structure of two members, and labels that each differ from one before in one thing, of types
 /// that refer to nothing.
-const LABELS: &[Listed] = &[
+const LABELS: &[TypeRow] = &[
     (S, &[]),
-    (Head { kind: UNION, ..S }, &[]),
-    (Head { name: b"t", ..S }, &[]),
-    (Head { flag: true, ..S }, &[]),
-    (Head { size: 4, ..S }, &[]),
-    (Head { extra: 1, ..S }, &[]),
+    (TypeHead { kind: UNION, ..S }, &[]),
+    (TypeHead { name: b"t", ..S }, &[]),
+    (TypeHead { flag: true, ..S }, &[]),
+    (TypeHead { size: 4, ..S }, &[]),
+    (TypeHead { extra: 1, ..S }, &[]),
     (
-        Head {
+        TypeHead {
             pieces: RENAMED,
             ..S
         },
         &[],
     ),
-    (Head { pieces: MOVED, ..S }, &[]),
+    (TypeHead { pieces: MOVED, ..S }, &[]),
     (
-        Head {
+        TypeHead {
             pieces: REGROUPED,
             ..S
         },
         &[],
     ),
     (
-        Head {
+        TypeHead {
             pieces: &[B, A],
             ..S
         },
         &[],
     ),
-    (Head { pieces: &[A], ..S }, &[]),
+    (TypeHead { pieces: &[A], ..S }, &[]),
     (
-        Head {
+        TypeHead {
             pieces: &[A, B, B],
             ..S
         },
         &[],
     ),
-    (Head { name: HIDDEN, ..S }, &[]),
+    (TypeHead { name: HIDDEN, ..S }, &[]),
     (
-        Head {
+        TypeHead {
             name: HIDDEN_TOO,
             ..S
         },
@@ -122,26 +122,26 @@ pub fn labels_hold<R: Print>(rt: &R, alloc: Global) -> Result<bool, Fault> {
 }
 
 /// Two types of one name, the first of which refers to the last and the last to the first.
-const FIRST: &[Listed] = &[(OF_FIRST, &[Ref::Node(1)]), (OF_FIRST, &[Ref::Node(0)])];
+const FIRST: &[TypeRow] = &[(OF_FIRST, &[Ref::Node(1)]), (OF_FIRST, &[Ref::Node(0)])];
 
 /// Two such types of another name.
-const SECOND: &[Listed] = &[(OF_SECOND, &[Ref::Node(1)]), (OF_SECOND, &[Ref::Node(0)])];
+const SECOND: &[TypeRow] = &[(OF_SECOND, &[Ref::Node(1)]), (OF_SECOND, &[Ref::Node(0)])];
 
 /// A structure of one member.
-const OF_FIRST: Head = Head {
+const OF_FIRST: TypeHead = TypeHead {
     name: b"first",
     pieces: &[A],
     ..S
 };
 
 /// The same of another name.
-const OF_SECOND: Head = Head {
+const OF_SECOND: TypeHead = TypeHead {
     name: b"second",
     ..OF_FIRST
 };
 
 /// Lists that follow one another, with empty ones before, between and behind them.
-const LISTS: &[&[Listed]] = &[&[], &[], FIRST, &[], SECOND, &[]];
+const LISTS: &[&[TypeRow]] = &[&[], &[], FIRST, &[], SECOND, &[]];
 
 /// What the types of the lists refer to when they are one list.
 const CROSSED: &[Ref] = &[Ref::Node(1), Ref::Node(0), Ref::Node(3), Ref::Node(2)];

@@ -3,7 +3,7 @@
 //! rows of a table alone.
 use crate::rows::{ENUM, ENUM64, FWD, Row, STRUCT, Table, UNION};
 use c_model::Ref;
-use small_graphs::rows::{Head, Piece};
+use small_graphs::rows::{PartRow, TypeHead};
 use std::alloc::{AllocError, Global};
 
 /// A relation between the rows of a table.
@@ -49,7 +49,7 @@ pub enum Sort {
 }
 
 /// The sort of the tag that a type declares without defining it.
-fn declares(head: &Head) -> Option<Sort> {
+fn declares(head: &TypeHead) -> Option<Sort> {
     if head.kind == FWD {
         return Some(if head.flag {
             Sort::Union
@@ -64,7 +64,7 @@ fn declares(head: &Head) -> Option<Sort> {
 }
 
 /// The sort of the tag that a type defines.
-fn defines(head: &Head) -> Option<Sort> {
+fn defines(head: &TypeHead) -> Option<Sort> {
     if head.kind == STRUCT {
         return Some(Sort::Structure);
     }
@@ -78,7 +78,7 @@ fn defines(head: &Head) -> Option<Sort> {
 }
 
 /// Whether these parts are the same.
-fn are_same_pieces(these: &[Piece], those: &[Piece]) -> bool {
+fn are_same_pieces(these: &[PartRow], those: &[PartRow]) -> bool {
     for ((name, value), (other, number)) in these.iter().zip(those) {
         if name != other || value != number {
             return false;
@@ -88,7 +88,7 @@ fn are_same_pieces(these: &[Piece], those: &[Piece]) -> bool {
 }
 
 /// Whether two types say the same of themselves.
-fn is_same_head(a: &Head, b: &Head) -> bool {
+fn is_same_head(a: &TypeHead, b: &TypeHead) -> bool {
     a.kind == b.kind
         && a.name == b.name
         && a.flag == b.flag

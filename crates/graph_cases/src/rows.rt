@@ -1,6 +1,6 @@
 //! Small graphs as tables: a row for each type.
 use c_model::{CType, Ref};
-use small_graphs::rows::{Head, Piece, parted, type_of};
+use small_graphs::rows::{PartRow, TypeHead, parted, type_of};
 use std::alloc::{AllocError, Global};
 
 pub const INT: u8 = 1;
@@ -25,15 +25,15 @@ pub const ENUM64: u8 = 19;
 pub const NONE: u32 = u32::MAX;
 
 /// A member `x`.
-pub const X: &[Piece] = &[(b"x", 0)];
+pub const X: &[PartRow] = &[(b"x", 0)];
 
 /// The same, and a member `y` behind its 32 bits.
-pub const X_AND_Y: &[Piece] = &[(b"x", 0), (b"y", 32)];
+pub const X_AND_Y: &[PartRow] = &[(b"x", 0), (b"y", 32)];
 
 /// A type of a table, which refers to three types at most.
 #[derive(Clone, Copy)]
 pub struct Row {
-    pub head: Head,
+    pub head: TypeHead,
     targets: [Ref; 3],
     count: usize,
 }
@@ -49,7 +49,7 @@ fn reference(number: u32) -> Ref {
 
 impl Row {
     /// A type that refers to the nodes of these numbers.
-    pub fn new(head: Head, numbers: &[u32]) -> Row {
+    pub fn new(head: TypeHead, numbers: &[u32]) -> Row {
         let mut targets = [Ref::Void; 3];
         for (target, number) in targets.iter_mut().zip(numbers) {
             *target = reference(*number);
@@ -75,7 +75,7 @@ pub struct Table {
 }
 
 /// What a type without parts says of itself.
-pub fn bare(kind: u8, name: &'static [u8], size: u32) -> Head {
+pub fn bare(kind: u8, name: &'static [u8], size: u32) -> TypeHead {
     parted(kind, name, size, &[])
 }
 
@@ -89,7 +89,7 @@ pub fn types_of(alloc: Global, rows: &[Row]) -> Result<Vec<CType<'static>>, Allo
 }
 
 /// Appends a row that refers to the nodes of these numbers.
-pub fn push_row(rows: &mut Vec<Row>, head: Head, numbers: &[u32]) -> Result<(), AllocError> {
+pub fn push_row(rows: &mut Vec<Row>, head: TypeHead, numbers: &[u32]) -> Result<(), AllocError> {
     rows.push(Row::new(head, numbers))?;
     Ok(())
 }

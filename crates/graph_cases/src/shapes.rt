@@ -6,7 +6,7 @@ use std::alloc::{AllocError, Global};
 
 /// A shape of graphs.
 #[derive(Clone, Copy)]
-pub enum Shape {
+pub enum GraphShape {
     /// For each word a ring of structures, one for each letter, which gives its size. Each refers
     /// to the next, the last to the first.
     Rings(&'static [&'static str]),
@@ -27,62 +27,70 @@ pub enum Shape {
 pub type Pair = (u32, [u32; 2]);
 
 /// What a shape is called, the shape, and how many classes it has.
-pub type Shaped = (&'static str, Shape, usize);
+pub type Shaped = (&'static str, GraphShape, usize);
 
 /// The shapes that are tried.
 pub const SHAPES: &[Shaped] = &[
-    ("a ring of equal nodes", Shape::Rings(&["aaaaaaaaa"]), 1),
+    (
+        "a ring of equal nodes",
+        GraphShape::Rings(&["aaaaaaaaa"]),
+        1,
+    ),
     (
         "rings of two lengths",
-        Shape::Rings(&["aaaaa", "aaa", "a"]),
+        GraphShape::Rings(&["aaaaa", "aaa", "a"]),
         1,
     ),
     (
         "a ring with one other node",
-        Shape::Rings(&["baaaaaaaa"]),
+        GraphShape::Rings(&["baaaaaaaa"]),
         9,
     ),
     (
         "rings of a period",
-        Shape::Rings(&["abab", "ababab", "ba"]),
+        GraphShape::Rings(&["abab", "ababab", "ba"]),
         2,
     ),
     (
         "a ring that halves badly",
-        Shape::Rings(&["abaababaabaab"]),
+        GraphShape::Rings(&["abaababaabaab"]),
         13,
     ),
-    ("a chain", Shape::Chains(&["aaaaaaaaaaaaaaaa"]), 16),
+    ("a chain", GraphShape::Chains(&["aaaaaaaaaaaaaaaa"]), 16),
     (
         "chains of two lengths",
-        Shape::Chains(&["aaaaaaaaa", "aaaaa"]),
+        GraphShape::Chains(&["aaaaaaaaa", "aaaaa"]),
         9,
     ),
     (
         "chains of two ends",
-        Shape::Chains(&["aaaaab", "aaaaac"]),
+        GraphShape::Chains(&["aaaaab", "aaaaac"]),
         12,
     ),
     (
         "chains of one end",
-        Shape::Chains(&["aaaab", "aab", "cb"]),
+        GraphShape::Chains(&["aaaab", "aab", "cb"]),
         6,
     ),
-    ("a tree", Shape::Pairs(TREE, &[4, 4, 4, 4]), 3),
+    ("a tree", GraphShape::Pairs(TREE, &[4, 4, 4, 4]), 3),
     (
         "a tree with one other leaf",
-        Shape::Pairs(TREE, &[4, 4, 4, 2]),
+        GraphShape::Pairs(TREE, &[4, 4, 4, 2]),
         5,
     ),
     (
         "nodes that refer to themselves",
-        Shape::Pairs(SELVES, &[4]),
+        GraphShape::Pairs(SELVES, &[4]),
         4,
     ),
-    ("nodes with one target twice", Shape::Pairs(TWICE, &[]), 10),
+    (
+        "nodes with one target twice",
+        GraphShape::Pairs(TWICE, &[]),
+        10,
+    ),
     (
         "a tag whose definitions part late",
-        Shape::Tags {
+        GraphShape::Tags {
             tags: &["s"],
             ends: &["aaaa", "aaab"],
         },
@@ -90,7 +98,7 @@ pub const SHAPES: &[Shaped] = &[
     ),
     (
         "a tag whose definitions never part",
-        Shape::Tags {
+        GraphShape::Tags {
             tags: &["s"],
             ends: &["aaab", "aaab"],
         },
@@ -98,7 +106,7 @@ pub const SHAPES: &[Shaped] = &[
     ),
     (
         "tags that part at once",
-        Shape::Tags {
+        GraphShape::Tags {
             tags: &["s", "t", "u"],
             ends: &["aaaa", "aaab"],
         },
@@ -106,7 +114,7 @@ pub const SHAPES: &[Shaped] = &[
     ),
     (
         "tags of three equal definitions",
-        Shape::Tags {
+        GraphShape::Tags {
             tags: &["s", "t", "u"],
             ends: &["ab", "ab", "ab"],
         },
@@ -114,7 +122,7 @@ pub const SHAPES: &[Shaped] = &[
     ),
     (
         "tags of which one definition parts",
-        Shape::Tags {
+        GraphShape::Tags {
             tags: &["s", "t"],
             ends: &["aab", "aab", "aac"],
         },
@@ -247,17 +255,17 @@ fn push_all_pairs(rows: &mut Vec<Row>, pairs: &[Pair], leaves: &[u32]) -> Result
 }
 
 /// Appends the rows of a shape to no rows.
-fn push_shape(alloc: Global, rows: &mut Vec<Row>, shape: &Shape) -> Result<(), AllocError> {
+fn push_shape(alloc: Global, rows: &mut Vec<Row>, shape: &GraphShape) -> Result<(), AllocError> {
     match shape {
-        Shape::Rings(words) => push_words(rows, words, true),
-        Shape::Chains(words) => push_words(rows, words, false),
-        Shape::Pairs(pairs, leaves) => push_all_pairs(rows, pairs, leaves),
-        Shape::Tags { tags, ends } => push_tags(alloc, rows, tags, ends),
+        GraphShape::Rings(words) => push_words(rows, words, true),
+        GraphShape::Chains(words) => push_words(rows, words, false),
+        GraphShape::Pairs(pairs, leaves) => push_all_pairs(rows, pairs, leaves),
+        GraphShape::Tags { tags, ends } => push_tags(alloc, rows, tags, ends),
     }
 }
 
 /// A graph of a shape.
-pub fn shaped(alloc: Global, shape: &Shape) -> Result<Table, AllocError> {
+pub fn shaped(alloc: Global, shape: &GraphShape) -> Result<Table, AllocError> {
     let mut rows = Vec::new(alloc);
     push_shape(alloc, &mut rows, shape)?;
     Ok(Table { base: 0, rows })

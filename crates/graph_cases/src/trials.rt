@@ -4,7 +4,7 @@ use crate::fault::Fault;
 use crate::made::{Draws, made_table};
 use crate::merged::{Found, merged_table};
 use crate::rows::Table;
-use crate::shapes::{SHAPES, Shape, Shaped, shaped};
+use crate::shapes::{GraphShape, SHAPES, Shaped, shaped};
 use crate::tables::{built, is_table, written};
 use crate::told::{tell, tell_number};
 use crate::worked::{Worked, based_graphs, forward_graphs, plain_graphs, table_of};
@@ -152,7 +152,7 @@ pub fn worked_agree<R: Print + Threads + Sync>(rt: &R, alloc: Global) -> Result<
 fn shape_agrees<R: Threads + Sync>(
     rt: &R,
     alloc: Global,
-    shape: &Shape,
+    shape: &GraphShape,
     classes: usize,
     tally: &mut Tally,
 ) -> Result<bool, Fault> {

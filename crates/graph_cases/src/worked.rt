@@ -1,11 +1,11 @@
 //! Graphs whose coarsest partition is known from C's rules for compatible types, and whose table
 //! follows from it, by hand.
 use crate::rows::{ARRAY, ENUM, FWD, INT, STRUCT, TYPEDEF, Table, UNION, X, X_AND_Y, push_row};
-use small_graphs::rows::{Head, POINTER, Piece};
+use small_graphs::rows::{POINTER, PartRow, TypeHead};
 use std::alloc::{AllocError, Global};
 
 /// What a type says of itself, and the numbers of the types that it refers to.
-pub type Entry = (&'static Head, &'static [u32]);
+pub type Entry = (&'static TypeHead, &'static [u32]);
 
 /// A graph, its classes and its table.
 #[derive(Clone, Copy)]
@@ -35,7 +35,7 @@ pub fn table_of(alloc: Global, base: usize, entries: &[Entry]) -> Result<Table, 
 }
 
 /// C's `int`.
-const NUMBER: Head = Head {
+const NUMBER: TypeHead = TypeHead {
     kind: INT,
     name: b"int",
     size: 4,
@@ -44,55 +44,55 @@ const NUMBER: Head = Head {
 };
 
 /// An `int` of eight bytes.
-const WIDE: Head = Head {
+const WIDE: TypeHead = TypeHead {
     size: 8,
     extra: 0x100_0040,
     ..NUMBER
 };
 
 /// C's `unsigned int`.
-const UNSIGNED: Head = Head {
+const UNSIGNED: TypeHead = TypeHead {
     name: b"unsigned int",
     extra: 0x20,
     ..NUMBER
 };
 
 /// The type of indices.
-const INDEX: Head = Head {
+const INDEX: TypeHead = TypeHead {
     name: b"__ARRAY_SIZE_TYPE__",
     ..UNSIGNED
 };
 
 /// An array of 5 times 6 elements.
-const GRID: Head = Head {
+const GRID: TypeHead = TypeHead {
     kind: ARRAY,
     extra: 30,
     ..POINTER
 };
 
 /// An array without a bound.
-const TAIL: Head = Head {
+const TAIL: TypeHead = TypeHead {
     kind: ARRAY,
     ..POINTER
 };
 
-const FIRST_A: &[Piece] = &[(b"a", 0)];
+const FIRST_A: &[PartRow] = &[(b"a", 0)];
 
-const FIRST_B: &[Piece] = &[(b"b", 0)];
+const FIRST_B: &[PartRow] = &[(b"b", 0)];
 
-const NEXT_AND_PREV: &[Piece] = &[(b"next", 0), (b"prev", 64)];
+const NEXT_AND_PREV: &[PartRow] = &[(b"next", 0), (b"prev", 64)];
 
 /// A bit field of three bits at bit 0.
-const BITS_AT_0: &[Piece] = &[(b"a", 0x300_0000)];
+const BITS_AT_0: &[PartRow] = &[(b"a", 0x300_0000)];
 
 /// A bit field of three bits at bit 5.
-const BITS_AT_5: &[Piece] = &[(b"a", 0x300_0005)];
+const BITS_AT_5: &[PartRow] = &[(b"a", 0x300_0005)];
 
 /// Bit fields of 3, 5 and 17 bits.
-const THREE_FIELDS: &[Piece] = &[(b"a", 0x300_0000), (b"b", 0x500_0003), (b"c", 0x1100_0008)];
+const THREE_FIELDS: &[PartRow] = &[(b"a", 0x300_0000), (b"b", 0x500_0003), (b"c", 0x1100_0008)];
 
 /// A structure of two pointers.
-const LIST_HEAD: Head = Head {
+const LIST_HEAD: TypeHead = TypeHead {
     kind: STRUCT,
     name: b"list_head",
     size: 16,
@@ -101,7 +101,7 @@ const LIST_HEAD: Head = Head {
 };
 
 /// A structure of a member `b`.
-const A_OF_B: Head = Head {
+const A_OF_B: TypeHead = TypeHead {
     kind: STRUCT,
     name: b"A",
     size: 8,
@@ -110,14 +110,14 @@ const A_OF_B: Head = Head {
 };
 
 /// A structure of a member `a`.
-const B_OF_A: Head = Head {
+const B_OF_A: TypeHead = TypeHead {
     name: b"B",
     pieces: FIRST_A,
     ..A_OF_B
 };
 
 /// A structure of a number.
-const B_OF_X: Head = Head {
+const B_OF_X: TypeHead = TypeHead {
     name: b"B",
     size: 4,
     pieces: X,
@@ -125,54 +125,54 @@ const B_OF_X: Head = Head {
 };
 
 /// A structure of two numbers.
-const B_OF_TWO: Head = Head {
+const B_OF_TWO: TypeHead = TypeHead {
     pieces: X_AND_Y,
     size: 8,
     ..B_OF_X
 };
 
 /// A structure of a number.
-const FOO_OF_X: Head = Head {
+const FOO_OF_X: TypeHead = TypeHead {
     name: b"foo",
     ..B_OF_X
 };
 
 /// A structure of 4 bytes without members.
-const FOO_OF_4: Head = Head {
+const FOO_OF_4: TypeHead = TypeHead {
     pieces: &[],
     ..FOO_OF_X
 };
 
 /// A structure of 8 bytes without members.
-const FOO_OF_8: Head = Head {
+const FOO_OF_8: TypeHead = TypeHead {
     size: 8,
     ..FOO_OF_4
 };
 
 /// A declared structure.
-const SOME_FOO: Head = Head {
+const SOME_FOO: TypeHead = TypeHead {
     kind: FWD,
     name: b"foo",
     ..POINTER
 };
 
-const SOME_A: Head = Head {
+const SOME_A: TypeHead = TypeHead {
     name: b"A",
     ..SOME_FOO
 };
 
-const SOME_B: Head = Head {
+const SOME_B: TypeHead = TypeHead {
     name: b"B",
     ..SOME_FOO
 };
 
-const SOME_T: Head = Head {
+const SOME_T: TypeHead = TypeHead {
     name: b"t",
     ..SOME_FOO
 };
 
 /// A union without members, of the name of a declared structure.
-const UNION_T: Head = Head {
+const UNION_T: TypeHead = TypeHead {
     kind: UNION,
     name: b"t",
     size: 8,
@@ -180,7 +180,7 @@ const UNION_T: Head = Head {
 };
 
 /// An unnamed union of a bit field.
-const UNION_AT_0: Head = Head {
+const UNION_AT_0: TypeHead = TypeHead {
     kind: UNION,
     flag: true,
     size: 4,
@@ -189,13 +189,13 @@ const UNION_AT_0: Head = Head {
 };
 
 /// The same elsewhere.
-const UNION_AT_5: Head = Head {
+const UNION_AT_5: TypeHead = TypeHead {
     pieces: BITS_AT_5,
     ..UNION_AT_0
 };
 
 /// A structure of bit fields.
-const FIELDS: Head = Head {
+const FIELDS: TypeHead = TypeHead {
     kind: STRUCT,
     name: b"f",
     flag: true,
@@ -205,7 +205,7 @@ const FIELDS: Head = Head {
 };
 
 /// A declared enumeration.
-const SOME_E: Head = Head {
+const SOME_E: TypeHead = TypeHead {
     kind: ENUM,
     name: b"e",
     size: 4,
@@ -213,13 +213,13 @@ const SOME_E: Head = Head {
 };
 
 /// Its definition.
-const E_OF_A: Head = Head {
+const E_OF_A: TypeHead = TypeHead {
     pieces: FIRST_A,
     ..SOME_E
 };
 
 /// A typedef.
-const LH: Head = Head {
+const LH: TypeHead = TypeHead {
     kind: TYPEDEF,
     name: b"lh",
     ..POINTER

@@ -14,7 +14,7 @@ use dw_base::Steps;
 use forward_rule::FwdIndex;
 use small_graphs::fitting::{graph_from, is_fitting};
 use small_graphs::ring::{ring, ring_classes};
-use small_graphs::rows::Piece;
+use small_graphs::rows::PartRow;
 use small_graphs::same::is_one_relation;
 use std::alloc::{AllocError, Global};
 use std::marker::Brand;
@@ -23,10 +23,10 @@ use std::test::Fail;
 use std::thread::Threads;
 
 /// A member at offset 0.
-const FIRST: &[Piece] = &[(b"", 0)];
+const FIRST: &[PartRow] = &[(b"", 0)];
 
 /// A member at offset 1.
-const SECOND: &[Piece] = &[(b"", 1)];
+const SECOND: &[PartRow] = &[(b"", 1)];
 
 /// Structures that refer to each other, first through declarations, then defined.
 const THROUGH_DECLARATIONS: &[Row] = &[
@@ -43,7 +43,7 @@ const THROUGH_DECLARATIONS: &[Row] = &[
 ];
 
 /// Two members of 32 bits.
-const HALVES: &[Piece] = &[(b"", 0), (b"", 32)];
+const HALVES: &[PartRow] = &[(b"", 0), (b"", 32)];
 
 /// A declaration with two definitions that differ.
 const TWO_DEFINITIONS: &[Row] = &[
@@ -61,7 +61,7 @@ const TWO_DEFINITIONS: &[Row] = &[
 ];
 
 /// Two members of 64 bits.
-const LINKS: &[Piece] = &[(b"", 0), (b"", 64)];
+const LINKS: &[PartRow] = &[(b"", 0), (b"", 64)];
 
 /// The same structure with its pointer in two units, and pointers to themselves.
 const IN_TWO_UNITS: &[Row] = &[

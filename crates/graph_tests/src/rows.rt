@@ -4,7 +4,7 @@ ghost use Rattle.c_model.specs.Forwards.{IsForwardIndex};
 
 use c_model::{CType, Classes, Graph, Numbers, Ref};
 use forward_rule::FwdIndex;
-use small_graphs::rows::{Piece, parted, type_of};
+use small_graphs::rows::{PartRow, parted, type_of};
 use std::alloc::{AllocError, Global};
 
 /// A type: its kind, as `c_model::kinds` numbers it, its name, its size in bytes, its parts, and
@@ -13,7 +13,7 @@ pub type Row = (
     u8,
     &'static [u8],
     u32,
-    &'static [Piece<'static>],
+    &'static [PartRow<'static>],
     &'static [Ref],
 );
 

@@ -1,8 +1,8 @@
 -- Pieces of text.
 use Rattle.std.specs.Prelude.{ℕ, ◌-◌, List, [], ◌∷◌, ◌++◌, decimal, replicate, length, nat_lt}
 use Rattle.std.specs.Prelude.{if◌then◌else◌}
-use Rattle.layout_printer.specs.declared.pieces.Piece.{Piece}
-use Rattle.layout_printer.specs.declared.pieces.Piece.TheVariants.{Text, Left, Number, Wide, Right}
+use Rattle.layout_printer.specs.declared.pieces.LinePiece.{LinePiece}
+use Rattle.layout_printer.specs.declared.pieces.LinePiece.TheVariants.{Text, Left, Number, Wide, Right}
 
 -- so many spaces
 abbrev pub spaces : ℕ → List ℕ
@@ -20,13 +20,13 @@ right number width = spaces (width - length (decimal number)) ++ decimal number
 abbrev pub counted : List ℕ → ℕ → List ℕ → List ℕ
 counted before count after = if nat_lt 0 count then before ++ (decimal count ++ after) else []
 
-abbrev pub text_of : Piece → List ℕ
+abbrev pub text_of : LinePiece → List ℕ
 text_of (Text bytes) = bytes.now
 text_of (Left bytes width) = left bytes.now width
 text_of (Number n) = decimal n
 text_of (Wide n) = decimal n
 text_of (Right n width) = right n width
 
-abbrev pub texts : List Piece → List ℕ
+abbrev pub texts : List LinePiece → List ℕ
 texts [] = []
 texts (p ∷ ps) = text_of p ++ texts ps

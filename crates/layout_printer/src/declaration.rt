@@ -10,7 +10,7 @@ ghost use Rattle.layout_printer.specs.Declarations.{parameter_text, parameters, 
 ghost use Rattle.layout_printer.specs.Declarations.{shape_of, spaced, tagged};
 
 use crate::lookups::{target_at, type_of};
-use crate::pieces::{Piece, put, put_if};
+use crate::pieces::{LinePiece, put, put_if};
 use crate::shapes::{
     Shape, is_void, kind_of, leads_to_list, leads_to_pointer, member_name, member_type, part_count,
     qualifier_word, shape_of, tag_name, tag_word,
@@ -163,7 +163,11 @@ fn write_type(
             let tag = tag_name(t.label.name.bytes());
             put(
                 &mut draft.front,
-                &[Piece::Text(word), Piece::Text(b" "), Piece::Text(tag)],
+                &[
+                    LinePiece::Text(word),
+                    LinePiece::Text(b" "),
+                    LinePiece::Text(tag),
+                ],
             )?;
             Ok(None)
         }
@@ -184,7 +188,10 @@ fn write_type(
             if leads_to_pointer(types, target) {
                 draft.name = qualified_name(alloc, word, &draft.name)?;
             } else {
-                put(&mut draft.front, &[Piece::Text(word), Piece::Text(b" ")])?;
+                put(
+                    &mut draft.front,
+                    &[LinePiece::Text(word), LinePiece::Text(b" ")],
+                )?;
             }
             Ok(Some(target))
         }
@@ -195,7 +202,11 @@ fn write_type(
         Shape::Function => {
             put(
                 &mut draft.name,
-                &[Piece::Text(b"("), Piece::Text(list), Piece::Text(b")")],
+                &[
+                    LinePiece::Text(b"("),
+                    LinePiece::Text(list),
+                    LinePiece::Text(b")"),
+                ],
             )?;
             Ok(Some(target))
         }
@@ -250,9 +261,9 @@ fn put_attribute(out: &mut Vec<u8>, tag: &[u8]) -> Result<(), AllocError>
     put(
         out,
         &[
-            Piece::Text(b"__attribute__((btf_type_tag(\""),
-            Piece::Text(tag),
-            Piece::Text(b"\")))"),
+            LinePiece::Text(b"__attribute__((btf_type_tag(\""),
+            LinePiece::Text(tag),
+            LinePiece::Text(b"\")))"),
         ],
     )
 }
@@ -266,10 +277,14 @@ fn pointer_name(alloc: Global, nested: bool, name: &[u8]) -> Result<Vec<u8>, All
     if nested {
         put(
             &mut out,
-            &[Piece::Text(b"(*"), Piece::Text(name), Piece::Text(b")")],
+            &[
+                LinePiece::Text(b"(*"),
+                LinePiece::Text(name),
+                LinePiece::Text(b")"),
+            ],
         )?;
     } else {
-        put(&mut out, &[Piece::Text(b"*"), Piece::Text(name)])?;
+        put(&mut out, &[LinePiece::Text(b"*"), LinePiece::Text(name)])?;
     }
     Ok(out)
 }
@@ -290,7 +305,7 @@ fn put_spaced(out: &mut Vec<u8>, text: &[u8]) -> Result<(), AllocError>
     if text.is_empty() {
         return Ok(());
     }
-    put(out, &[Piece::Text(b" "), Piece::Text(text)])
+    put(out, &[LinePiece::Text(b" "), LinePiece::Text(text)])
 }
 
 /// Appends the number of an array's elements in brackets.
@@ -298,14 +313,14 @@ fn put_bound(out: &mut Vec<u8>, count: u32) -> Result<(), AllocError>
     ensures { OnOk result (out.new.items ≡ out.old.items ++ (codes "[" ++ (bound count ++ codes "]"))) }
 {
     if count == 0 {
-        put(out, &[Piece::Text(b"[]")])
+        put(out, &[LinePiece::Text(b"[]")])
     } else {
         put(
             out,
             &[
-                Piece::Text(b"["),
-                Piece::Number(u64::from(count)),
-                Piece::Text(b"]"),
+                LinePiece::Text(b"["),
+                LinePiece::Number(u64::from(count)),
+                LinePiece::Text(b"]"),
             ],
         )
     }
@@ -352,9 +367,9 @@ fn put_parameter(
     let name = member_name(types, r, place);
     let target = member_type(types, r, place + 1);
     let last = place + 1 == count;
-    put_if(out, place > 0, &[Piece::Text(b", ")])?;
+    put_if(out, place > 0, &[LinePiece::Text(b", ")])?;
     if last && name.is_empty() && is_void(target) {
-        return put(out, &[Piece::Text(b"...")]);
+        return put(out, &[LinePiece::Text(b"...")]);
     }
     let written = parameter(alloc, types, target, name)?;
     out.extend_from_slice(&written.type_part)?;

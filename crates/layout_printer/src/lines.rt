@@ -7,7 +7,7 @@ ghost use Rattle.layout_printer.specs.Text.{members_text, name_text, place_text,
 ghost use Rattle.layout_printer.specs.Lines.{greatest_line};
 
 use crate::declaration::{Declaration, declare};
-use crate::pieces::{Piece, put, put_count, put_if};
+use crate::pieces::{LinePiece, put, put_count, put_if};
 use crate::shapes::{member_name, member_type};
 use crate::slots::Slot;
 use c_model::{CType, Ref};
@@ -78,10 +78,10 @@ fn put_hole(out: &mut Vec<u8>, hole: u64) -> Result<(), AllocError>
 {
     let bits = hole % 8;
     let bytes = hole / 8;
-    put_if(out, hole > 0, &[Piece::Text(b"\n")])?;
+    put_if(out, hole > 0, &[LinePiece::Text(b"\n")])?;
     put_count(out, b"\t/* XXX ", bits, b" bits hole, try to pack */\n")?;
     put_count(out, b"\t/* XXX ", bytes, b" bytes hole, try to pack */\n")?;
-    put_if(out, hole > 0, &[Piece::Text(b"\n")])
+    put_if(out, hole > 0, &[LinePiece::Text(b"\n")])
 }
 
 /// Appends the line of a boundary of cache lines, where the member is the first that begins behind
@@ -107,15 +107,15 @@ fn put_crossed(out: &mut Vec<u8>, number: u64, boundary: u64, byte: u64) -> Resu
     put(
         out,
         &[
-            Piece::Text(b"\t/* --- cacheline "),
-            Piece::Number(number),
-            Piece::Text(b" boundary ("),
-            Piece::Number(boundary),
-            Piece::Text(b" bytes) "),
+            LinePiece::Text(b"\t/* --- cacheline "),
+            LinePiece::Number(number),
+            LinePiece::Text(b" boundary ("),
+            LinePiece::Number(boundary),
+            LinePiece::Text(b" bytes) "),
         ],
     )?;
     put_count(out, b"was ", byte - boundary, b" bytes ago ")?;
-    put(out, &[Piece::Text(b"--- */\n")])
+    put(out, &[LinePiece::Text(b"--- */\n")])
 }
 
 /// The name part of a member, with the width of a bit field.
@@ -126,7 +126,7 @@ fn name_text(alloc: Global, name: &[u8], slot: &Slot) -> Result<Vec<u8>, AllocEr
     put_if(
         &mut out,
         slot.field,
-        &[Piece::Text(b":"), Piece::Number(slot.bits)],
+        &[LinePiece::Text(b":"), LinePiece::Number(slot.bits)],
     )?;
     out.push(b';')?;
     Ok(out)
@@ -145,11 +145,11 @@ fn put_declared<'p>(
     put(
         out,
         &[
-            Piece::Text(b"\t"),
-            Piece::Left(type_part, 26),
-            Piece::Text(b" "),
-            Piece::Left(name, 21),
-            Piece::Text(b" "),
+            LinePiece::Text(b"\t"),
+            LinePiece::Left(type_part, 26),
+            LinePiece::Text(b" "),
+            LinePiece::Left(name, 21),
+            LinePiece::Text(b" "),
         ],
     )?;
     put_place(out, slot)
@@ -164,24 +164,24 @@ fn put_place(out: &mut Vec<u8>, slot: &Slot) -> Result<(), AllocError>
         put(
             out,
             &[
-                Piece::Text(b"/* "),
-                Piece::Right(byte, 5),
-                Piece::Text(b":"),
-                Piece::Number(bit),
-                Piece::Text(b" "),
-                Piece::Right(slot.bits, 3),
-                Piece::Text(b" */\n"),
+                LinePiece::Text(b"/* "),
+                LinePiece::Right(byte, 5),
+                LinePiece::Text(b":"),
+                LinePiece::Number(bit),
+                LinePiece::Text(b" "),
+                LinePiece::Right(slot.bits, 3),
+                LinePiece::Text(b" */\n"),
             ],
         )
     } else {
         put(
             out,
             &[
-                Piece::Text(b"/* "),
-                Piece::Right(byte, 5),
-                Piece::Text(b" "),
-                Piece::Right(slot.bits / 8, 5),
-                Piece::Text(b" */\n"),
+                LinePiece::Text(b"/* "),
+                LinePiece::Right(byte, 5),
+                LinePiece::Text(b" "),
+                LinePiece::Right(slot.bits / 8, 5),
+                LinePiece::Text(b" */\n"),
             ],
         )
     }

@@ -8,7 +8,7 @@ use std::alloc::AllocError;
 
 /// A piece of a line.
 #[derive(Clone, Copy, Debug)]
-pub enum Piece<'a> {
+pub enum LinePiece<'a> {
     /// These bytes.
     Text(&'a [u8]),
     /// These bytes, and spaces up to a width behind them.
@@ -22,7 +22,7 @@ pub enum Piece<'a> {
 }
 
 /// Appends pieces.
-pub fn put(out: &mut Vec<u8>, pieces: &[Piece<'_>]) -> Result<(), AllocError>
+pub fn put(out: &mut Vec<u8>, pieces: &[LinePiece<'_>]) -> Result<(), AllocError>
     ensures { OnOk result (out.new.items ≡ out.old.items ++ texts pieces.now) }
 {
     for piece in pieces {
@@ -32,7 +32,7 @@ pub fn put(out: &mut Vec<u8>, pieces: &[Piece<'_>]) -> Result<(), AllocError>
 }
 
 /// Appends pieces where a condition holds.
-pub fn put_if(out: &mut Vec<u8>, holds: bool, pieces: &[Piece<'_>]) -> Result<(), AllocError>
+pub fn put_if(out: &mut Vec<u8>, holds: bool, pieces: &[LinePiece<'_>]) -> Result<(), AllocError>
     ensures { OnOk result (out.new.items ≡ out.old.items ++ (if holds then texts pieces.now else [])) }
 {
     if holds { put(out, pieces) } else { Ok(()) }
@@ -51,25 +51,25 @@ pub fn put_count<'p>(
         out,
         count > 0,
         &[
-            Piece::Text(before),
-            Piece::Number(count),
-            Piece::Text(after),
+            LinePiece::Text(before),
+            LinePiece::Number(count),
+            LinePiece::Text(after),
         ],
     )
 }
 
-fn put_piece(out: &mut Vec<u8>, piece: &Piece<'_>) -> Result<(), AllocError>
+fn put_piece(out: &mut Vec<u8>, piece: &LinePiece<'_>) -> Result<(), AllocError>
     ensures { OnOk result (out.new.items ≡ out.old.items ++ text_of piece.now) }
 {
     match piece {
-        Piece::Text(bytes) => out.extend_from_slice(bytes),
-        Piece::Left(bytes, width) => {
+        LinePiece::Text(bytes) => out.extend_from_slice(bytes),
+        LinePiece::Left(bytes, width) => {
             out.extend_from_slice(bytes)?;
             put_spaces(out, width.saturating_sub(bytes.len()))
         }
-        Piece::Number(number) => put_number(out, *number),
-        Piece::Wide(number) => put_wide(out, *number),
-        Piece::Right(number, width) => put_right(out, *number, *width),
+        LinePiece::Number(number) => put_number(out, *number),
+        LinePiece::Wide(number) => put_wide(out, *number),
+        LinePiece::Right(number, width) => put_right(out, *number, *width),
     }
 }
 

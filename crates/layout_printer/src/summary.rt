@@ -3,7 +3,7 @@ ghost use Rattle.std.specs.Prelude.{◌≡◌, ◌++◌, ◌<◌, OnOk};
 ghost use Rattle.layout_printer.specs.Text.{last_line_text, padding_text, size_text, summary_text};
 ghost use Rattle.layout_printer.specs.Totals.{AreTotals, sums_text};
 
-use crate::pieces::{Piece, put, put_count, put_if};
+use crate::pieces::{LinePiece, put, put_count, put_if};
 use crate::slots::{Slot, TypeLayout};
 use std::alloc::AllocError;
 
@@ -67,13 +67,13 @@ fn put_size(out: &mut Vec<u8>, line: u32, shown: &TypeLayout) -> Result<(), Allo
     put(
         out,
         &[
-            Piece::Text(b"\n\t/* size: "),
-            Piece::Number(u64::from(shown.size)),
-            Piece::Text(b", cachelines: "),
-            Piece::Number(lines),
-            Piece::Text(b", members: "),
-            Piece::Number(members as u64),
-            Piece::Text(b" */\n"),
+            LinePiece::Text(b"\n\t/* size: "),
+            LinePiece::Number(u64::from(shown.size)),
+            LinePiece::Text(b", cachelines: "),
+            LinePiece::Number(lines),
+            LinePiece::Text(b", members: "),
+            LinePiece::Number(members as u64),
+            LinePiece::Text(b" */\n"),
         ],
     )
 }
@@ -86,24 +86,24 @@ fn put_holes(out: &mut Vec<u8>, all: Totals) -> Result<(), AllocError>
         out,
         all.byte_holes > 0,
         &[
-            Piece::Text(b"\t/* sum members: "),
-            Piece::Wide(all.bits / 8),
-            Piece::Text(b", holes: "),
-            Piece::Wide(all.byte_holes),
-            Piece::Text(b", sum holes: "),
-            Piece::Wide(all.hole_bytes),
-            Piece::Text(b" */\n"),
+            LinePiece::Text(b"\t/* sum members: "),
+            LinePiece::Wide(all.bits / 8),
+            LinePiece::Text(b", holes: "),
+            LinePiece::Wide(all.byte_holes),
+            LinePiece::Text(b", sum holes: "),
+            LinePiece::Wide(all.hole_bytes),
+            LinePiece::Text(b" */\n"),
         ],
     )?;
     put_if(
         out,
         all.bit_holes > 0,
         &[
-            Piece::Text(b"\t/* bit holes: "),
-            Piece::Wide(all.bit_holes),
-            Piece::Text(b", sum bit holes: "),
-            Piece::Wide(all.hole_bits),
-            Piece::Text(b" bits */\n"),
+            LinePiece::Text(b"\t/* bit holes: "),
+            LinePiece::Wide(all.bit_holes),
+            LinePiece::Text(b", sum bit holes: "),
+            LinePiece::Wide(all.hole_bits),
+            LinePiece::Text(b" bits */\n"),
         ],
     )
 }

@@ -7,7 +7,7 @@ ghost use Rattle.layout_printer.specs.Text.{structure_word, text_of};
 
 use crate::lines::put_members;
 use crate::lookups::{ref_of, type_of};
-use crate::pieces::{Piece, put};
+use crate::pieces::{LinePiece, put};
 use crate::shapes::kind_of;
 use crate::slots::TypeLayout;
 use crate::summary::put_summary;
@@ -31,12 +31,12 @@ pub fn sizes_line(
     put(
         &mut out,
         &[
-            Piece::Text(name_of(table.types.items(), ref_of(id))),
-            Piece::Text(b"\t"),
-            Piece::Number(u64::from(shown.size)),
-            Piece::Text(b"\t"),
-            Piece::Number(shown.byte_holes() as u64),
-            Piece::Text(b"\n"),
+            LinePiece::Text(name_of(table.types.items(), ref_of(id))),
+            LinePiece::Text(b"\t"),
+            LinePiece::Number(u64::from(shown.size)),
+            LinePiece::Text(b"\t"),
+            LinePiece::Number(shown.byte_holes() as u64),
+            LinePiece::Text(b"\n"),
         ],
     )?;
     Ok(Bytes::new(out))
@@ -106,19 +106,19 @@ fn put_head(
         put(
             out,
             &[
-                Piece::Text(b"typedef "),
-                Piece::Text(word),
-                Piece::Text(b" {\n"),
+                LinePiece::Text(b"typedef "),
+                LinePiece::Text(word),
+                LinePiece::Text(b" {\n"),
             ],
         )
     } else {
         put(
             out,
             &[
-                Piece::Text(word),
-                Piece::Text(b" "),
-                Piece::Text(name_of(types, r)),
-                Piece::Text(b" {\n"),
+                LinePiece::Text(word),
+                LinePiece::Text(b" "),
+                LinePiece::Text(name_of(types, r)),
+                LinePiece::Text(b" {\n"),
             ],
         )
     }
@@ -133,12 +133,12 @@ fn put_foot(out: &mut Vec<u8>, types: &[CType<'_>], id: u32) -> Result<(), Alloc
         put(
             out,
             &[
-                Piece::Text(b"} "),
-                Piece::Text(name_of(types, r)),
-                Piece::Text(b";\n"),
+                LinePiece::Text(b"} "),
+                LinePiece::Text(name_of(types, r)),
+                LinePiece::Text(b";\n"),
             ],
         )
     } else {
-        put(out, &[Piece::Text(b"};\n")])
+        put(out, &[LinePiece::Text(b"};\n")])
     }
 }

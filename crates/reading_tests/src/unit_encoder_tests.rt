@@ -7,7 +7,7 @@ use c_types::TypeFault;
 use dw_base::Order;
 use dwarf_abbrev::AbbrevFault;
 use small_files::bytes::{info_of, plain_file, put_unit};
-use small_files::gates::{Held, Told};
+use small_files::gates::{HoldingGate, Told};
 use small_files::texts::{append, put_refs};
 use small_files::units::{push_units, units_of_two};
 use std::alloc::{AllocError, Global};
@@ -331,7 +331,7 @@ fn compiled_units(rt: HostRuntime) -> Result<(), Fail> {
 #[test]
 fn two_workers(rt: HostRuntime) -> Result<(), Fail> {
     let alloc = rt.alloc();
-    let gate = Held::new();
+    let gate = HoldingGate::new();
     let files = one_file(alloc, &[ITSELF, INT])?;
     let found = answer_of(&rt, alloc, &gate, 2, 8, &[0], files.as_slice())?;
     assert!(rt; gate.has_seen());

@@ -9,7 +9,7 @@ use layout_printer::{
     LayoutFault, Sizes, Slot, TypeLayout, layout, pointer_of, sizes_line, sizes_of, text,
 };
 use small_graphs::fitting::refer_to_one_another;
-use small_graphs::rows::Piece;
+use small_graphs::rows::PartRow;
 use std::alloc::{AllocError, Global};
 use std::test::Fail;
 
@@ -451,14 +451,14 @@ fn first_other_text(alloc: Global) -> Result<Option<&'static str>, Fail> {
 }
 
 /// Where a member lies: its first bit, its bits, whether it is a bit field, and the hole before it.
-type Place = (u64, u64, bool, u64);
+type MemberPlace = (u64, u64, bool, u64);
 
 /// An `int`.
 const INT: Row<'static, 'static> = Row(1, b"int", false, 4, 0, &[], &[]);
 
 /// A structure of two members of `int`: its flag, its size, the offset words of its members, the
 /// places of these, and the padding.
-type Placed = (bool, u32, (u64, u64), &'static [Place], u64);
+type Placed = (bool, u32, (u64, u64), &'static [MemberPlace], u64);
 
 const PLACED: &[Placed] = &[
     // In order, with a hole and padding.
@@ -534,12 +534,12 @@ fn placed_members(alloc: Global, row: &Placed) -> Result<Result<TypeLayout, Layo
 }
 
 /// Whether a slot is at a place.
-fn is_at(slot: &Slot, place: &Place) -> bool {
+fn is_at(slot: &Slot, place: &MemberPlace) -> bool {
     (slot.start, slot.bits, slot.field, slot.hole) == *place
 }
 
 /// Whether members have these places, and there is no other.
-fn are_at(slots: &[Slot], places: &[Place]) -> bool {
+fn are_at(slots: &[Slot], places: &[MemberPlace]) -> bool {
     for (slot, place) in slots.iter().zip(places) {
         if !is_at(slot, place) {
             return false;
@@ -671,7 +671,7 @@ fn sizes_of_each_kind(rt: HostRuntime) -> Result<(), Fail> {
 }
 
 /// The offsets of 100 members of 4 bytes.
-fn members<'a>(alloc: Global) -> Result<Vec<Piece<'a>>, AllocError> {
+fn members<'a>(alloc: Global) -> Result<Vec<PartRow<'a>>, AllocError> {
     let mut members = Vec::new(alloc);
     for k in 0..100u64 {
         members.push((b"m".as_slice(), 32 * k))?;
@@ -683,7 +683,7 @@ fn members<'a>(alloc: Global) -> Result<Vec<Piece<'a>>, AllocError> {
 fn push_structures<'a>(
     alloc: Global,
     types: &mut Vec<CType<'a>>,
-    members: &[Piece<'a>],
+    members: &[PartRow<'a>],
 ) -> Result<(), AllocError> {
     let structure = Row(4, b"t", false, 400, 0, members, &[100_001; 100]);
     for _ in 0..1_000 {

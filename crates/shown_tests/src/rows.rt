@@ -2,7 +2,7 @@
 use btf_codec::Table;
 use c_model::{CType, Label, Nodes, Ref, Refs};
 use dw_base::{Name, Order};
-use small_graphs::rows::{Piece, parts_of};
+use small_graphs::rows::{PartRow, parts_of};
 use std::alloc::{AllocError, Global};
 
 /// A type by its kind, its name, its flag, its size, its extra word, its parts, and the ids of its
@@ -14,7 +14,7 @@ pub struct Row<'a, 'r>(
     pub bool,
     pub u32,
     pub u32,
-    pub &'r [Piece<'a>],
+    pub &'r [PartRow<'a>],
     pub &'r [u32],
 );
 

@@ -5,7 +5,7 @@ use Rattle.std.specs.List.{flat_map}
 use Rattle.std.specs.Int.{to_le_bytes, to_be_bytes, w64}
 use Rattle.dw_base.specs.declared.numbers.Order.{Order}
 use Rattle.dw_base.specs.declared.numbers.Order.TheVariants.{Little, Big}
-use Rattle.small_files.specs.declared.bytes.Header.{Header}
+use Rattle.small_files.specs.declared.bytes.UnitHeader.{UnitHeader}
 use Rattle.small_files.specs.declared.bytes.TheConstants.{INFO_AT, NAMES}
 
 -- the lowest bytes of a number, so many, at most eight
@@ -18,20 +18,20 @@ abbrev pub all_bytes : Order → List (ℕ × ℕ) → List ℕ
 all_bytes order numbers = flat_map (λ (n : ℕ × ℕ). number_bytes order n.0 n.1) numbers
 
 -- the length of a unit: before one of eight bytes stand four of ones (DWARF 4 and 5, section 7.4)
-abbrev pub length_bytes : Order → Header → List ℕ
+abbrev pub length_bytes : Order → UnitHeader → List ℕ
 length_bytes order h =
     (if h.offset_bytes == 8 then number_bytes order 4294967295 4 else [])
     ++ number_bytes order h.size h.offset_bytes
 
 -- what stands behind the version (DWARF 4 and 5, section 7.5.1.1)
-abbrev pub kind_bytes : Order → Header → List ℕ
+abbrev pub kind_bytes : Order → UnitHeader → List ℕ
 kind_bytes order h =
     if h.version == 4
     then number_bytes order h.abbrev_at h.offset_bytes ++ h.address_size ∷ []
     else h.unit_type ∷ h.address_size ∷ number_bytes order h.abbrev_at h.offset_bytes
 
 -- a header of a unit
-unfoldable pub header_bytes : Order → Header → List ℕ
+unfoldable pub header_bytes : Order → UnitHeader → List ℕ
 header_bytes order h =
     length_bytes order h ++ (number_bytes order h.version 2 ++ kind_bytes order h)
 

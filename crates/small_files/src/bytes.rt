@@ -37,7 +37,7 @@ pub fn put_all(bytes: &mut Vec<u8>, order: Order, numbers: &[(u64, u32)]) -> Res
 
 /// What the header of a unit says.
 #[derive(Clone, Copy)]
-pub struct Header {
+pub struct UnitHeader {
     pub version: u16,
     pub offset_bytes: u32,
     pub unit_type: u8,
@@ -49,7 +49,7 @@ pub struct Header {
 }
 
 /// Puts the length of a unit.
-fn put_length(bytes: &mut Vec<u8>, order: Order, header: &Header) -> Result<(), AllocError>
+fn put_length(bytes: &mut Vec<u8>, order: Order, header: &UnitHeader) -> Result<(), AllocError>
     ensures { OnOk result (bytes.new.items ≡ bytes.old.items ++ length_bytes order header.now) }
 {
     if header.offset_bytes == 8 {
@@ -59,7 +59,7 @@ fn put_length(bytes: &mut Vec<u8>, order: Order, header: &Header) -> Result<(), 
 }
 
 /// Puts the fields behind the version.
-fn put_kind(bytes: &mut Vec<u8>, order: Order, header: &Header) -> Result<(), AllocError>
+fn put_kind(bytes: &mut Vec<u8>, order: Order, header: &UnitHeader) -> Result<(), AllocError>
     ensures { OnOk result (bytes.new.items ≡ bytes.old.items ++ kind_bytes order header.now) }
 {
     if header.version == 4 {
@@ -75,7 +75,7 @@ fn put_kind(bytes: &mut Vec<u8>, order: Order, header: &Header) -> Result<(), Al
 
 /// Puts a header by the order of its fields in its version (DWARF 4 and 5, section 7.5.1.1).
 #[tactic(auto, unfolding(crate::specs::Bytes::header_bytes))]
-pub fn put_header(bytes: &mut Vec<u8>, order: Order, header: Header) -> Result<(), AllocError>
+pub fn put_header(bytes: &mut Vec<u8>, order: Order, header: UnitHeader) -> Result<(), AllocError>
     ensures { OnOk result (bytes.new.items ≡ bytes.old.items ++ header_bytes order header) }
 {
     put_length(bytes, order, &header)?;
@@ -97,7 +97,7 @@ pub fn put_unit(
         (bytes.new.items ≡ bytes.old.items ++ unit_bytes order version abbrev_at entries.now) }
 {
     let fields = if version == 4 { 7 } else { 8 };
-    let header = Header {
+    let header = UnitHeader {
         version,
         offset_bytes: 4,
         unit_type: 1,
@@ -174,7 +174,7 @@ pub struct Sections<'s> {
 
 /// A section as its header tells it.
 #[derive(Drop)]
-struct Row<'s> {
+struct SectionRow<'s> {
     /// Where its name stands among the names.
     name: u64,
     /// Whether it is there: SHT_PROGBITS or SHT_NULL.
@@ -182,7 +182,7 @@ struct Row<'s> {
     bytes: &'s [u8],
 }
 
-impl<'s> Model for Row<'s> {
+impl<'s> Model for SectionRow<'s> {
     ghost use Rattle.small_files.specs.Bytes.{Section};
 
     ghost Value = { Section };
@@ -191,11 +191,11 @@ impl<'s> Model for Row<'s> {
 }
 
 /// A section that is left out where it has no bytes.
-fn optional(name: u64, bytes: &[u8]) -> Row<'_>
+fn optional(name: u64, bytes: &[u8]) -> SectionRow<'_>
     ensures { result ≡ optional_of name bytes.now }
 {
     let kind = u64::from(!bytes.is_empty());
-    Row { name, kind, bytes }
+    SectionRow { name, kind, bytes }
 }
 
 /// Puts the header of a section.
@@ -204,7 +204,7 @@ fn put_section(
     file: &mut Vec<u8>,
     order: Order,
     at: u64,
-    section: &Row<'_>,
+    section: &SectionRow<'_>,
 ) -> Result<(), AllocError>
     ensures { OnOk result (file.new.items ≡ file.old.items ++ section_bytes order at section.now) }
 {
@@ -238,7 +238,7 @@ fn put_sections(
     alloc: Global,
     file: &mut Vec<u8>,
     order: Order,
-    sections: &[Row<'_>],
+    sections: &[SectionRow<'_>],
 ) -> Result<(), AllocError>
     ensures { OnOk result (file.new.items ≡ file.old.items
         ++ (headers_from order INFO_AT sections.now ++ flat_map (λ s. s.bytes) sections.now)) }
@@ -261,7 +261,7 @@ pub fn file_of(alloc: Global, order: Order, sections: Sections<'_>) -> Result<Ve
 {
     let mut file = Vec::new(alloc);
     put_start(&mut file, order)?;
-    let info = Row {
+    let info = SectionRow {
         name: 1,
         kind: 1,
         bytes: sections.info,

@@ -38,15 +38,15 @@ const LOOKS: u32 = 100_000_000;
 
 /// A gate that holds unit 0 until unit 1 was entered, and keeps whether it saw that.
 #[derive(Drop)]
-pub struct Held {
+pub struct HoldingGate {
     entered: AtomicBool,
     seen: AtomicBool,
 }
 
-impl Held {
+impl HoldingGate {
     /// A gate that nothing has entered.
-    pub fn new() -> Held {
-        Held {
+    pub fn new() -> HoldingGate {
+        HoldingGate {
             entered: AtomicBool::new(false),
             seen: AtomicBool::new(false),
         }
@@ -58,7 +58,7 @@ impl Held {
     }
 }
 
-impl Gate for Held {
+impl Gate for HoldingGate {
     fn enter(&self, unit: u32) {
         if unit == 1 {
             self.entered.store(true, Ordering::SeqCst);

@@ -8,13 +8,13 @@ use Rattle.c_model.specs.declared.graph.Ref.TheVariants.{Node}
 use Rattle.c_model.specs.declared.kinds.TheConstants.{BTF_KIND_PTR, BTF_KIND_STRUCT}
 use Rattle.c_model.specs.declared.label.Label.{Label}
 use Rattle.c_model.specs.declared.label.Part.{Part}
-use Rattle.small_graphs.specs.declared.rows.Head.{Head}
+use Rattle.small_graphs.specs.declared.rows.TypeHead.{TypeHead}
 
 -- parts of these names and values
 abbrev pub parts_in : List (Bor (List ℕ) × ℕ) → List Part
 parts_in pieces = map (λ (p : Bor (List ℕ) × ℕ). record { name = p.0.now; value = p.1 }) pieces
 
-abbrev pub label_in : Head → Label
+abbrev pub label_in : TypeHead → Label
 label_in head = record {
   kind = head.kind;
   name = head.name.now;
@@ -24,7 +24,7 @@ label_in head = record {
   parts = parts_in head.pieces.now;
 }
 
-abbrev pub type_in : Head → List Ref → CType
+abbrev pub type_in : TypeHead → List Ref → CType
 type_in head targets = record { label = label_in head; targets = targets }
 
 -- the structure of a ring, of one member, and its pointer

@@ -2,19 +2,19 @@
 ghost use Rattle.std.specs.Prelude.{◌<◌, length};
 
 use crate::fitting::are_below;
-use crate::rows::{Head, label_of};
+use crate::rows::{TypeHead, label_of};
 use c_model::Ref;
 use packed_graph::PackedNodes;
 use std::alloc::{AllocError, Global};
 
 /// What a type says of itself, and what it refers to.
-pub type Listed = (Head, &'static [Ref]);
+pub type TypeRow = (TypeHead, &'static [Ref]);
 
 /// Appends the types of these rows, those alone whose references are void or can be nodes.
 pub fn push_types(
     alloc: Global,
     nodes: &mut PackedNodes<'static>,
-    rows: &[Listed],
+    rows: &[TypeRow],
 ) -> Result<(), AllocError> {
     for (head, targets) in rows {
         if are_below(u32::MAX, targets) {
@@ -25,7 +25,7 @@ pub fn push_types(
 }
 
 /// The types of these rows.
-pub fn listed(alloc: Global, rows: &[Listed]) -> Result<PackedNodes<'static>, AllocError> {
+pub fn listed(alloc: Global, rows: &[TypeRow]) -> Result<PackedNodes<'static>, AllocError> {
     let mut nodes: PackedNodes<'static> = PackedNodes::new(alloc)?;
     push_types(alloc, &mut nodes, rows)?;
     Ok(nodes)
@@ -35,14 +35,14 @@ pub fn listed(alloc: Global, rows: &[Listed]) -> Result<PackedNodes<'static>, Al
 fn followed(
     alloc: Global,
     nodes: PackedNodes<'static>,
-    rows: &[Listed],
+    rows: &[TypeRow],
 ) -> Result<PackedNodes<'static>, AllocError> {
     let other = listed(alloc, rows)?;
     nodes.followed_by(alloc, &other)
 }
 
 /// Lists of types that follow one another.
-fn joined(alloc: Global, lists: &[&[Listed]]) -> Result<PackedNodes<'static>, AllocError> {
+fn joined(alloc: Global, lists: &[&[TypeRow]]) -> Result<PackedNodes<'static>, AllocError> {
     let Some((first, others)) = lists.split_first() else {
         return PackedNodes::new(alloc);
     };
@@ -76,7 +76,7 @@ fn refer_to(nodes: &PackedNodes<'_>, wanted: &[Ref]) -> bool {
 /// one of these alone.
 pub fn are_joined(
     alloc: Global,
-    lists: &[&[Listed]],
+    lists: &[&[TypeRow]],
     numbers: &[u32],
     targets: &[Ref],
 ) -> Result<bool, AllocError> {

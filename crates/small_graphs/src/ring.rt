@@ -2,13 +2,13 @@
 ghost use Rattle.std.specs.Prelude.{◌≡◌, ◌<◌, IfOk};
 ghost use Rattle.small_graphs.specs.Made.{ring_type, ring_types, classes_in_ring};
 
-use crate::rows::{Head, POINTER, type_of};
+use crate::rows::{POINTER, TypeHead, type_of};
 use c_model::kinds::BTF_KIND_STRUCT;
 use c_model::{CType, Ref};
 use std::alloc::{AllocError, Global};
 
 /// A structure of a pointer.
-pub const STRUCTURE: Head = Head {
+pub const STRUCTURE: TypeHead = TypeHead {
     kind: BTF_KIND_STRUCT,
     name: b"ring",
     size: 8,

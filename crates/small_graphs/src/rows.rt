@@ -8,22 +8,22 @@ use dw_base::Name;
 use std::alloc::{AllocError, Global};
 
 /// A member or an enumerator: its name and its value.
-pub type Piece<'a> = (&'a [u8], u64);
+pub type PartRow<'a> = (&'a [u8], u64);
 
 /// What a type says of itself, apart from what it refers to.
 #[derive(Clone, Copy)]
-pub struct Head {
+pub struct TypeHead {
     pub kind: u8,
     pub name: &'static [u8],
     pub flag: bool,
     pub size: u32,
     /// The last word of an INT, the number of elements of an ARRAY.
     pub extra: u32,
-    pub pieces: &'static [Piece<'static>],
+    pub pieces: &'static [PartRow<'static>],
 }
 
 /// What a pointer says of itself. Other rows are written as what differs from it.
-pub const POINTER: Head = Head {
+pub const POINTER: TypeHead = TypeHead {
     kind: BTF_KIND_PTR,
     name: b"",
     flag: false,
@@ -33,7 +33,12 @@ pub const POINTER: Head = Head {
 };
 
 /// What a type with these parts says of itself.
-pub fn parted(kind: u8, name: &'static [u8], size: u32, pieces: &'static [Piece<'static>]) -> Head
+pub fn parted(
+    kind: u8,
+    name: &'static [u8],
+    size: u32,
+    pieces: &'static [PartRow<'static>],
+) -> TypeHead
     ensures { label_in result ≡ record {
       kind = kind;
       name = name.now;
@@ -43,7 +48,7 @@ pub fn parted(kind: u8, name: &'static [u8], size: u32, pieces: &'static [Piece<
       parts = parts_in pieces.now;
     } }
 {
-    Head {
+    TypeHead {
         kind,
         name,
         size,
@@ -53,7 +58,7 @@ pub fn parted(kind: u8, name: &'static [u8], size: u32, pieces: &'static [Piece<
 }
 
 /// The parts of a label.
-pub fn parts_of<'a>(alloc: Global, pieces: &[Piece<'a>]) -> Result<Parts<'a>, AllocError>
+pub fn parts_of<'a>(alloc: Global, pieces: &[PartRow<'a>]) -> Result<Parts<'a>, AllocError>
     ensures { IfOk result (λ parts. parts ≡ parts_in pieces.now) }
 {
     let mut parts = Vec::new(alloc);
@@ -67,7 +72,7 @@ pub fn parts_of<'a>(alloc: Global, pieces: &[Piece<'a>]) -> Result<Parts<'a>, Al
 }
 
 /// The label of a row.
-pub fn label_of(alloc: Global, head: &Head) -> Result<Label<'static>, AllocError>
+pub fn label_of(alloc: Global, head: &TypeHead) -> Result<Label<'static>, AllocError>
     ensures { IfOk result (λ label. label ≡ label_in head.now) }
 {
     let parts = parts_of(alloc, head.pieces)?;
@@ -82,7 +87,11 @@ pub fn label_of(alloc: Global, head: &Head) -> Result<Label<'static>, AllocError
 }
 
 /// The type of a row that refers to these.
-pub fn type_of(alloc: Global, head: &Head, targets: &[Ref]) -> Result<CType<'static>, AllocError>
+pub fn type_of(
+    alloc: Global,
+    head: &TypeHead,
+    targets: &[Ref],
+) -> Result<CType<'static>, AllocError>
     ensures { IfOk result (λ t. t ≡ type_in head.now targets.now) }
 {
     let label = label_of(alloc, head)?;

@@ -2,16 +2,16 @@
 use Rattle.std.proofs.Common.{◌≡◌, ◌+◌, ◌*◌, length, drop, Option, None, Some, refl, arith}
 use Rattle.c_model.specs.declared.graph.CType.{CType}
 use Rattle.btf_codec.specs.Fields.{fields_of, layout_of}
-use Rattle.btf_codec.specs.declared.layout.Layout.{Layout}
-use Rattle.btf_codec.specs.declared.layout.Layout.TheVariants.{Int, Link, Array, Forward}
-use Rattle.btf_codec.specs.declared.layout.Layout.TheVariants.{TaggedLink, Float, Sized, Prototype}
+use Rattle.btf_codec.specs.declared.layout.KindLayout.{KindLayout}
+use Rattle.btf_codec.specs.declared.layout.KindLayout.TheVariants.{Int, Link, Array, Forward}
+use Rattle.btf_codec.specs.declared.layout.KindLayout.TheVariants.{TaggedLink, Float, Sized, Prototype}
 use Rattle.btf_codec.specs.declared.layout.PartLayout.TheVariants.{Member, Enumerator}
 use Rattle.btf_codec.specs.declared.layout.PartLayout.TheVariants.{WideEnumerator, Parameter}
 use Rattle.btf_codec.specs.declared.layout.PartLayout.TheVariants.{Variable}
 use Rattle.btf_codec.proofs.Counting.{length_by, length_parts}
 use Rattle.split_base.specs.Building.{words_besides, words_each}
 
-pub words_is : (t : CType) (o : Option Layout) → o ≡ layout_of t.label.kind
+pub words_is : (t : CType) (o : Option KindLayout) → o ≡ layout_of t.label.kind
     → length (fields_of t) ≡ words_besides o + words_each o * length t.label.parts
 words_is t None e = omega (arith, length_by t None e)
 words_is t (Some Int) e = omega (arith, length_by t (Some Int) e)

@@ -5,9 +5,9 @@ use Rattle.std.specs.Prelude.{unwrap_or, All, Option, None, Some, Result, Ok, Er
 use Rattle.std.specs.List.{filter, position_or_len, range_with_len}
 use Rattle.std.specs.Option.{option_map}
 use Rattle.btf_codec.specs.Spelling.{HasOffset}
-use Rattle.btf_codec.specs.declared.layout.Layout.{Layout}
-use Rattle.btf_codec.specs.declared.layout.Layout.TheVariants.{Int, Link, Array, Forward}
-use Rattle.btf_codec.specs.declared.layout.Layout.TheVariants.{TaggedLink, Float, Sized, Prototype}
+use Rattle.btf_codec.specs.declared.layout.KindLayout.{KindLayout}
+use Rattle.btf_codec.specs.declared.layout.KindLayout.TheVariants.{Int, Link, Array, Forward}
+use Rattle.btf_codec.specs.declared.layout.KindLayout.TheVariants.{TaggedLink, Float, Sized, Prototype}
 use Rattle.btf_codec.specs.declared.layout.PartLayout.TheVariants.{Member, Enumerator}
 use Rattle.btf_codec.specs.declared.layout.PartLayout.TheVariants.{WideEnumerator, Parameter}
 use Rattle.btf_codec.specs.declared.layout.PartLayout.TheVariants.{Variable}
@@ -86,7 +86,7 @@ PutsNames old names new (Err e) =
 
 -- how many words a type of a layout has besides those of its parts: its name, its info word, and
 -- what follows them
-abbrev pub words_besides : Option Layout → ℕ
+abbrev pub words_besides : Option KindLayout → ℕ
 words_besides None = 2
 words_besides (Some Int) = 4
 words_besides (Some Link) = 3
@@ -98,7 +98,7 @@ words_besides (Some (Sized part)) = 3
 words_besides (Some Prototype) = 3
 
 -- how many words each of its parts has
-abbrev pub words_each : Option Layout → ℕ
+abbrev pub words_each : Option KindLayout → ℕ
 words_each (Some (Sized Member)) = 3
 words_each (Some (Sized Enumerator)) = 2
 words_each (Some (Sized WideEnumerator)) = 3

@@ -11,7 +11,7 @@ use std::collections::HashMap;
 
 /// Where the classes of a partition stand in its table.
 #[derive(Drop)]
-pub struct Places {
+pub struct ClassPlaces {
     /// The place of each node's class in the table, from 0.
     pub nodes: Vec<u32>,
     /// The first nodes of the own classes, in order.
@@ -23,7 +23,7 @@ pub fn places_of<'a, G: TypeGraph<'a>>(
     alloc: Global,
     graph: &G,
     classes: &Classes,
-) -> Result<Places, AllocError>
+) -> Result<ClassPlaces, AllocError>
     requires { length classes.now ≡ length (G.shape graph.now).nodes }
     ensures nodes { IfOk result (λ s. s.nodes.items
         ≡ map (place_of (G.shape graph.now) classes.now)
@@ -37,7 +37,7 @@ pub fn places_of<'a, G: TypeGraph<'a>>(
     for x in 0..count {
         nodes.push(class_place(graph, classes, x, &mut known, &mut firsts)?)?;
     }
-    Ok(Places { nodes, firsts })
+    Ok(ClassPlaces { nodes, firsts })
 }
 
 /// The place of the class of a node. `known` has the places of the classes of the nodes before it,

@@ -5,7 +5,7 @@ ghost use Rattle.std.specs.Option.{option_or};
 ghost use Rattle.c_model.specs.Forwards.{forward_at};
 ghost use Rattle.split_base.specs.Building.{IsNoted, source_by};
 
-use crate::places::Places;
+use crate::places::ClassPlaces;
 use c_model::TypeGraph;
 use forward_rule::FwdIndex;
 use std::alloc::{AllocError, Global};
@@ -15,7 +15,7 @@ use std::alloc::{AllocError, Global};
 pub fn sources_of<'a, G: TypeGraph<'a>>(
     alloc: Global,
     graph: &G,
-    places: &Places,
+    places: &ClassPlaces,
 ) -> Result<Vec<u32>, AllocError>
     requires covers { length places.now.nodes.items ≡ length (G.shape graph.now).nodes }
     requires within { All (λ place.

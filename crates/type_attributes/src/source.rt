@@ -18,7 +18,7 @@ pub enum Target {
 
 /// How a list of targets is kept. Most types have one target, which takes no memory of its own.
 #[derive(Debug, Drop)]
-enum Kept {
+enum OneOrMany {
     One(Target),
     Many(Vec<Target>),
 }
@@ -26,7 +26,7 @@ enum Kept {
 /// A list of targets. Contracts see it as the list.
 #[derive(Debug, Drop)]
 pub struct Targets {
-    kept: Kept,
+    kept: OneOrMany,
 }
 
 impl Model for Targets {
@@ -46,7 +46,7 @@ impl Targets {
         ensures { result ≡ items.items }
     {
         Targets {
-            kept: Kept::Many(items),
+            kept: OneOrMany::Many(items),
         }
     }
 
@@ -55,7 +55,7 @@ impl Targets {
         ensures { result ≡ target ∷ [] }
     {
         Targets {
-            kept: Kept::One(target),
+            kept: OneOrMany::One(target),
         }
     }
 
@@ -65,8 +65,8 @@ impl Targets {
         ensures { result.now ≡ self.now }
     {
         match &self.kept {
-            Kept::One(target) => std::slice::from_ref(target),
-            Kept::Many(items) => items.as_slice(),
+            OneOrMany::One(target) => std::slice::from_ref(target),
+            OneOrMany::Many(items) => items.as_slice(),
         }
     }
 }

@@ -14,7 +14,7 @@ use Rattle.c_model.specs.Partition.{label_at, targets_at}
 use Rattle.packed_graph.specs.Packed.{moved}
 use Rattle.unit_encoder.specs.declared.piece.Piece.{Piece}
 use Rattle.unit_encoder.specs.declared.piece.Unlinked.{Unlinked}
-use Rattle.unit_graph.specs.declared.places.Row.{Row}
+use Rattle.unit_graph.specs.declared.places.NodePlace.{NodePlace}
 use Rattle.unit_graph.specs.Sources.{Source}
 use Rattle.unit_graph.specs.Links.{refs_from}
 use Rattle.unit_graph.proofs.Lists.{get-left, get-right, get-one}
@@ -140,8 +140,8 @@ module _ (local : Bool) (given nodes : ℕ → List Source) (s : ℕ → Source)
             ≡ length p.nodes = h.count n in omega (arith, count_now));
         rows = λ n.
             w.rows n
-            ∙ ap (λ (rs : List Row). rs ++ rows_at (length p.nodes) (s n).file (s n).at) (h.rows n)
-            ∙ ap (λ (rs : List Row). rows_from 0 (nodes n) ++ rs)
+            ∙ ap (λ (rs : List NodePlace). rs ++ rows_at (length p.nodes) (s n).file (s n).at) (h.rows n)
+            ∙ ap (λ (rs : List NodePlace). rows_from 0 (nodes n) ++ rs)
             (sym (rows-one (length p.nodes) (s n)))
             ∙ sym (rows-append 0 (length p.nodes) (nodes n) (s n ∷ [])
             (let size : length (nodes n) ≡ length p.nodes = h.count n in omega arith));

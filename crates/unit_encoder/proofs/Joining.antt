@@ -14,7 +14,7 @@ use Rattle.c_model.specs.Partition.{label_at, targets_at}
 use Rattle.packed_graph.specs.Packed.{moved, moved_by}
 use Rattle.unit_encoder.specs.declared.piece.Piece.{Piece}
 use Rattle.unit_encoder.specs.declared.piece.Unlinked.{Unlinked}
-use Rattle.unit_graph.specs.declared.places.Row.{Row}
+use Rattle.unit_graph.specs.declared.places.NodePlace.{NodePlace}
 use Rattle.unit_graph.specs.Sources.{Source}
 use Rattle.unit_encoder.specs.Held.{Stands, IsLeft, IsListed, Holds, unlinked_moved, Follow}
 use Rattle.unit_graph.specs.Numbers.{row_moved, rows_from}
@@ -180,10 +180,10 @@ module _ (local : Bool) (ss ts : ℕ → List Source) (p q r : Piece) (a : Holds
             ≡ length q.nodes = b.count (n + length p.nodes) in omega (arith, count_now));
         rows = λ n.
             f.rows
-            ∙ ap (λ (rs : List Row). rs ++ map (row_moved (length p.nodes)) q.rows) (a.rows n)
-            ∙ ap (λ (rs : List Row). rows_from 0 (ss n) ++ map (row_moved (length p.nodes)) rs)
+            ∙ ap (λ (rs : List NodePlace). rs ++ map (row_moved (length p.nodes)) q.rows) (a.rows n)
+            ∙ ap (λ (rs : List NodePlace). rows_from 0 (ss n) ++ map (row_moved (length p.nodes)) rs)
             (b.rows (n + length p.nodes))
-            ∙ ap (λ (rs : List Row). rows_from 0 (ss n) ++ rs) (sym (rows_moved (length p.nodes) 0
+            ∙ ap (λ (rs : List NodePlace). rows_from 0 (ss n) ++ rs) (sym (rows_moved (length p.nodes) 0
             (length p.nodes) (ts (n + length p.nodes)) (omega arith)))
             ∙ sym (rows-append 0 (length p.nodes) (ss n) (ts (n + length p.nodes))
             (let x = before n in omega arith));

@@ -18,7 +18,7 @@ use Rattle.packed_graph.specs.Packed.{moved}
 use Rattle.unit_graph.specs.declared.links.Out.{Out}
 use Rattle.unit_encoder.specs.declared.piece.Piece.{Piece}
 use Rattle.unit_encoder.specs.declared.piece.Unlinked.{Unlinked}
-use Rattle.unit_graph.specs.declared.places.Row.{Row}
+use Rattle.unit_graph.specs.declared.places.NodePlace.{NodePlace}
 use Rattle.unit_graph.specs.Sources.{Source}
 use Rattle.unit_graph.specs.Links.{number_from, refs_from, nodes_from}
 use Rattle.unit_graph.specs.Numbers.{number_in, PlacesRise}
@@ -71,7 +71,7 @@ module _ (local : Bool) (nodes : ℕ → List Source) (p : Piece) (h : Holds loc
       }
 
   -- what is answered for a node
-  pub record IsAnswer (rows : List Row) (x next more : ℕ) (r : Result (List Ref) Out) : Type 0 where
+  pub record IsAnswer (rows : List NodePlace) (x next more : ℕ) (r : Result (List Ref) Out) : Type 0 where
     pub taken : (u : Unlinked) → slice_get p.unlinked.items next ≡ Some u → u.node ≡ x → (more
         ≡ next + 1) × ((all : List Source) → ((q : ℕ × ℕ) → number_in q rows ≡ number_from q 0 all)
         → length all ≡ length p.nodes → r ≡ refs_from all u.file u.index [] u.targets)
@@ -101,7 +101,7 @@ module _ (local : Bool) (nodes : ℕ → List Source) (p : Piece) (h : Holds loc
       (cases_lt x u.node))
       (cases_lt u.node x)
 
-  pub next_node : (rows : List Row) (x next more : ℕ) (linked : List CType)
+  pub next_node : (rows : List NodePlace) (x next more : ℕ) (linked : List CType)
       (r : Result (List Ref) Out) → ((q : ℕ × ℕ) → number_in q rows ≡ number_in q p.rows)
       → x < length p.nodes → IsResting (nodes 0) p.unlinked.items x next linked
       → IsAnswer rows x next more r → IsNext x next more r

@@ -6,12 +6,12 @@ ghost use Rattle.unit_encoder.specs.Runs.{rows_of};
 
 use std::alloc::{AllocError, Global};
 use std::marker::Model;
-use unit_graph::{Row, push_moved_rows};
+use unit_graph::{NodePlace, push_moved_rows};
 
 /// Some rows, each of a node that comes so many later than it says.
 #[derive(Drop)]
-pub(crate) struct Run {
-    rows: Vec<Row>,
+pub(crate) struct MovedRows {
+    rows: Vec<NodePlace>,
     by: u32,
 }
 
@@ -19,23 +19,27 @@ pub(crate) struct Run {
 /// which is not moved. Contracts see it as the list of all rows, each moved as its run is.
 #[derive(Drop)]
 pub(crate) struct Rows {
-    runs: Vec<Run>,
-    last: Vec<Row>,
+    runs: Vec<MovedRows>,
+    last: Vec<NodePlace>,
 }
 
 impl Model for Rows {
     ghost use Rattle.std.specs.Prelude.{List, ◌++◌};
-    ghost use Rattle.unit_graph.specs.declared.places.Row.{Row};
+    ghost use Rattle.unit_graph.specs.declared.places.NodePlace.{NodePlace};
     ghost use Rattle.unit_encoder.specs.Runs.{rows_of};
 
-    ghost Value = { List Row };
+    ghost Value = { List NodePlace };
 
     ghost view = { λ r. rows_of r.runs.items ++ r.last.items };
 }
 
 /// Puts runs behind others, each moved by so many more. A number that does not fit is want of
 /// memory.
-fn push_moved_runs(runs: &mut Vec<Run>, more: Vec<Run>, by: u32) -> Result<(), AllocError>
+fn push_moved_runs(
+    runs: &mut Vec<MovedRows>,
+    more: Vec<MovedRows>,
+    by: u32,
+) -> Result<(), AllocError>
     ensures { OnOk result
         (rows_of runs.new.items ≡ rows_of runs.old.items ++ map (row_moved by) (rows_of more.items)) }
 {
@@ -44,7 +48,7 @@ fn push_moved_runs(runs: &mut Vec<Run>, more: Vec<Run>, by: u32) -> Result<(), A
         let Some(sum) = run.by.checked_add(by) else {
             return Err(AllocError);
         };
-        runs.push(Run {
+        runs.push(MovedRows {
             rows: run.rows,
             by: sum,
         })?;
@@ -53,7 +57,7 @@ fn push_moved_runs(runs: &mut Vec<Run>, more: Vec<Run>, by: u32) -> Result<(), A
 }
 
 /// Puts the rows of runs behind others, each moved as its run is.
-fn push_rows_of(rows: &mut Vec<Row>, runs: Vec<Run>) -> Result<(), AllocError>
+fn push_rows_of(rows: &mut Vec<NodePlace>, runs: Vec<MovedRows>) -> Result<(), AllocError>
     ensures { OnOk result (rows.new.items ≡ rows.old.items ++ rows_of runs.items) }
 {
     for run in runs {
@@ -79,7 +83,7 @@ impl Rows {
 
     /// Puts a row behind the others.
     #[inline(always)]
-    pub(crate) fn push(&mut self, row: Row) -> Result<(), AllocError>
+    pub(crate) fn push(&mut self, row: NodePlace) -> Result<(), AllocError>
         ensures { OnOk result (self.new ≡ self.old ++ row ∷ []) }
     {
         self.last.push(row)?;
@@ -87,11 +91,11 @@ impl Rows {
     }
 
     /// The runs, with the last.
-    fn into_runs(self) -> Result<Vec<Run>, AllocError>
+    fn into_runs(self) -> Result<Vec<MovedRows>, AllocError>
         ensures { IfOk result (λ runs. rows_of runs.items ≡ self) }
     {
         let Rows { mut runs, last } = self;
-        runs.push(Run { rows: last, by: 0 })?;
+        runs.push(MovedRows { rows: last, by: 0 })?;
         Ok(runs)
     }
 
@@ -110,7 +114,7 @@ impl Rows {
     }
 
     /// All rows in one list. They are copied only where there is a run before the last.
-    pub(crate) fn into_vec(self, alloc: Global) -> Result<Vec<Row>, AllocError>
+    pub(crate) fn into_vec(self, alloc: Global) -> Result<Vec<NodePlace>, AllocError>
         ensures { IfOk result (λ rows. rows.items ≡ self) }
     {
         if self.runs.is_empty() {

@@ -4,7 +4,7 @@ use Rattle.std.proofs.Common.{Option, None, Some, length, map, refl, sym, ap, �
 use Rattle.std.proofs.Common.{append_assoc, append-nil}
 use Rattle.std.proofs.lemmas.List.{map-append}
 use Rattle.std.proofs.Math.Bool.{and-false}
-use Rattle.unit_graph.specs.declared.places.Row.{Row}
+use Rattle.unit_graph.specs.declared.places.NodePlace.{NodePlace}
 use Rattle.unit_graph.specs.Sources.{Source}
 use Rattle.unit_graph.specs.Links.{is_at, at_offset, or_here, number_from}
 use Rattle.unit_graph.specs.Numbers.{number_in, row_moved, rows_at, rows_from}
@@ -17,7 +17,7 @@ unfolding rows_from
 rows-append k m [] ts e = let same : k ≡ m = omega arith in ap (λ n. rows_from n ts) same
 rows-append k m (s ∷ ss) ts e =
     let next : m ≡ (k + 1) + length ss = omega arith in
-    ap (λ (rs : List Row). rows_at k s.file s.at ++ rs) (rows-append (k + 1) m ss ts next)
+    ap (λ (rs : List NodePlace). rows_at k s.file s.at ++ rs) (rows-append (k + 1) m ss ts next)
     ∙ sym (append_assoc (rows_at k s.file s.at) (rows_from (k + 1) ss) (rows_from m ts))
 
 pub rows-one : (k : ℕ) (s : Source) → rows_from k (s ∷ []) ≡ rows_at k s.file s.at
@@ -42,8 +42,8 @@ unfolding rows_from
 rows_moved c k m [] e = refl
 rows_moved c k m (s ∷ ss) e =
     let next : m + 1 ≡ k + 1 + c = omega arith in
-    ap (λ (rs : List Row). rs ++ rows_from (m + 1) ss) (row-moved c k m s.file s.at e)
-    ∙ ap (λ (rs : List Row). map (row_moved c) (rows_at k s.file s.at) ++ rs)
+    ap (λ (rs : List NodePlace). rs ++ rows_from (m + 1) ss) (row-moved c k m s.file s.at e)
+    ∙ ap (λ (rs : List NodePlace). map (row_moved c) (rows_at k s.file s.at) ++ rs)
     (rows_moved c (k + 1) (m + 1) ss next)
     ∙ sym (map-append (row_moved c) (rows_at k s.file s.at) (rows_from (k + 1) ss))
 
@@ -53,7 +53,7 @@ pub not_here : (k : ℕ) (o : Option ℕ) → or_here k false o ≡ o
 not_here k None = refl
 not_here k (Some n) = refl
 
-row_here : (p : ℕ × ℕ) (k file : ℕ) (at : Option ℕ) (rest : List Row) → number_in p
+row_here : (p : ℕ × ℕ) (k file : ℕ) (at : Option ℕ) (rest : List NodePlace) → number_in p
     (rows_at k file at ++ rest) ≡ or_here k (file == p.0 && at_offset p.1 at) (number_in p rest)
 row_here p k file None rest = sym (ap (λ (b : Bool). or_here k b (number_in p rest))
     (and-false (file == p.0)) ∙ not_here k (number_in p rest))

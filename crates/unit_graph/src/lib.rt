@@ -13,7 +13,7 @@ pub mod tags;
 
 pub use links::{Out, link_targets};
 pub use pieces::{cut_of, push_moved_rows};
-pub use places::{Places, Row};
+pub use places::{NodePlace, NodePlaces};
 pub use sources::UnitAt;
 pub use tables::{LastTable, table_for, types_by};
 pub use tags::find_tag;

@@ -4,7 +4,7 @@ ghost use Rattle.unit_graph.specs.Sources.{Source};
 ghost use Rattle.unit_graph.specs.Links.{number_of, ref_of, refs_from, seen};
 ghost use Rattle.unit_graph.specs.Numbers.{Numbers};
 
-use crate::places::Places;
+use crate::places::NodePlaces;
 use c_model::Ref;
 use c_types::Target;
 use std::alloc::{AllocError, Global};
@@ -22,7 +22,7 @@ pub struct Out {
 
 /// The number of the node whose entry begins at an offset of a file. One that passes 64 bits is no
 /// place.
-fn find(places: &Places, file: u32, to: u128) -> Option<u32>
+fn find(places: &NodePlaces, file: u32, to: u128) -> Option<u32>
     ensures { (all : List Source) → Numbers places.now all → result ≡ number_of all file to }
 {
     if to < 18_446_744_073_709_551_616 {
@@ -33,7 +33,7 @@ fn find(places: &Places, file: u32, to: u128) -> Option<u32>
 }
 
 /// What a target of a node refers to, among so many nodes.
-fn link(places: &Places, count: u64, file: u32, index: u64, target: &Target) -> Result<Ref, Out>
+fn link(places: &NodePlaces, count: u64, file: u32, index: u64, target: &Target) -> Result<Ref, Out>
     requires { count < 2 ^ 32 }
     ensures { (all : List Source) → Numbers places.now all → length all ≡ count
         → result ≡ ref_of all file index target.now }
@@ -60,7 +60,7 @@ fn link(places: &Places, count: u64, file: u32, index: u64, target: &Target) -> 
 /// arrays.
 pub fn link_targets(
     alloc: Global,
-    places: &Places,
+    places: &NodePlaces,
     count: u64,
     file: u32,
     index: u64,

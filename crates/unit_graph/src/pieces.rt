@@ -3,7 +3,7 @@
 ghost use Rattle.std.specs.Prelude.{◌≡◌, ◌<◌, ◌≤◌, ◌++◌, length, map, OnOk};
 ghost use Rattle.unit_graph.specs.Numbers.{row_moved};
 
-use crate::places::Row;
+use crate::places::NodePlace;
 use crate::sources::UnitAt;
 use std::alloc::AllocError;
 
@@ -45,7 +45,11 @@ pub fn cut_of(units: &[UnitAt<'_>], half: u32, jobs: u32) -> usize
 
 /// Puts places behind others, each of a node that comes so many later. A number that does not fit
 /// is want of memory.
-pub fn push_moved_rows(rows: &mut Vec<Row>, more: &[Row], by: u32) -> Result<(), AllocError>
+pub fn push_moved_rows(
+    rows: &mut Vec<NodePlace>,
+    more: &[NodePlace],
+    by: u32,
+) -> Result<(), AllocError>
     ensures { OnOk result (rows.new.items ≡ rows.old.items ++ map (row_moved by) more.now) }
 {
     rows.reserve(more.len())?;
@@ -53,7 +57,7 @@ pub fn push_moved_rows(rows: &mut Vec<Row>, more: &[Row], by: u32) -> Result<(),
         let Some(number) = row.number.checked_add(by) else {
             return Err(AllocError);
         };
-        rows.push(Row {
+        rows.push(NodePlace {
             file: row.file,
             number,
             at: row.at,

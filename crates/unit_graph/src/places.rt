@@ -2,7 +2,7 @@
 //! and offset.
 ghost use Rattle.std.specs.Prelude.{◌≡◌, ◌≤◌, ℕ, length, OnOk, IfSome, true, false, Some};
 ghost use Rattle.std.specs.List.Sorted.{IsPartitionPoint};
-ghost use Rattle.unit_graph.specs.declared.places.Row.{Row};
+ghost use Rattle.unit_graph.specs.declared.places.NodePlace.{NodePlace};
 ghost use Rattle.unit_graph.specs.Numbers.{row_is_at, row_is_up_to, number_in, IsInOrder};
 
 use std::alloc::AllocError;
@@ -10,7 +10,7 @@ use std::marker::Model;
 
 /// The place of a node: where its entry begins, and the number of the node.
 #[derive(Clone, Copy, Debug)]
-pub struct Row {
+pub struct NodePlace {
     /// The file.
     pub file: u32,
     /// The number of the node.
@@ -19,7 +19,7 @@ pub struct Row {
     pub at: u64,
 }
 
-impl Row {
+impl NodePlace {
     /// Whether this is an offset of a file.
     #[inline(always)]
     fn is_at(&self, file: u32, to: u64) -> bool
@@ -38,7 +38,7 @@ impl Row {
 }
 
 /// Puts the places in order. Those of units that follow one another are.
-fn order_rows(rows: &mut Vec<Row>) -> Result<(), AllocError>
+fn order_rows(rows: &mut Vec<NodePlace>) -> Result<(), AllocError>
     ensures order { OnOk result (IsInOrder rows.new.items) }
     ensures numbers { OnOk result ((p : ℕ × ℕ) → number_in p rows.new.items ≡ number_in p rows.old.items) }
 {
@@ -47,7 +47,7 @@ fn order_rows(rows: &mut Vec<Row>) -> Result<(), AllocError>
 }
 
 /// The number of the row before an end, if it is the last at an offset of a file.
-fn number_before(rows: &[Row], end: usize, file: u32, to: u64) -> Option<u32>
+fn number_before(rows: &[NodePlace], end: usize, file: u32, to: u64) -> Option<u32>
     requires order { IsInOrder rows.now }
     requires within { end ≤ length rows.now }
     ensures found { IfSome result (λ n. number_in (file, to) rows.now ≡ Some n) }
@@ -68,7 +68,7 @@ fn number_before(rows: &[Row], end: usize, file: u32, to: u64) -> Option<u32>
 }
 
 /// The number of the last row at an offset of a file.
-fn find_in_all(rows: &[Row], file: u32, to: u64) -> Option<u32>
+fn find_in_all(rows: &[NodePlace], file: u32, to: u64) -> Option<u32>
     requires { IsInOrder rows.now }
     ensures { result ≡ number_in (file, to) rows.now }
 {
@@ -79,34 +79,34 @@ fn find_in_all(rows: &[Row], file: u32, to: u64) -> Option<u32>
 /// The places of nodes, in which they are looked for. Contracts see it as the rows, in order by
 /// file and offset.
 #[derive(Debug, Drop)]
-pub struct Places {
-    rows: Vec<Row>,
+pub struct NodePlaces {
+    rows: Vec<NodePlace>,
 }
 
-impl Model for Places {
+impl Model for NodePlaces {
     ghost use Rattle.std.specs.Prelude.{List};
-    ghost use Rattle.unit_graph.specs.declared.places.Row.{Row};
+    ghost use Rattle.unit_graph.specs.declared.places.NodePlace.{NodePlace};
     ghost use Rattle.unit_graph.specs.Numbers.{IsInOrder};
 
-    ghost Value = { List Row };
+    ghost Value = { List NodePlace };
 
     ghost view = { λ p. p.rows.items };
 
     ghost invariant = { λ p. IsInOrder p.rows.items };
 }
 
-impl Places {
+impl NodePlaces {
     ghost use Rattle.std.specs.Prelude.{◌≡◌, ℕ, IfOk};
     ghost use Rattle.unit_graph.specs.Numbers.{number_in};
 
     /// Takes rows in any order. Those of units that follow one another are in order, which costs
     /// one pass.
-    pub fn new(rows: Vec<Row>) -> Result<Places, AllocError>
+    pub fn new(rows: Vec<NodePlace>) -> Result<NodePlaces, AllocError>
         ensures { IfOk result (λ places. (p : ℕ × ℕ) → number_in p places ≡ number_in p rows.items) }
     {
         let mut rows = rows;
         order_rows(&mut rows)?;
-        Ok(Places { rows })
+        Ok(NodePlaces { rows })
     }
 
     /// The number of the last row at an offset of a file; none where no row is there.

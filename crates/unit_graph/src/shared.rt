@@ -1,6 +1,6 @@
 //! What workers share or give back may be shared and sent.
 use crate::links::Out;
-use crate::places::Places;
+use crate::places::NodePlaces;
 use crate::sources::UnitAt;
 use crate::tables::LastTable;
 
@@ -8,7 +8,7 @@ fn crosses<T: Send + Sync>() {}
 
 fn all_cross<'a>() {
     crosses::<UnitAt<'a>>();
-    crosses::<Places>();
+    crosses::<NodePlaces>();
     crosses::<Out>();
     crosses::<LastTable>();
 }

@@ -5,18 +5,18 @@ use small_files::bytes::{info_of, plain_file};
 use small_files::units::units_of;
 use std::alloc::{AllocError, Global};
 use std::test::Fail;
-use unit_graph::{Out, Places, Row, find_tag, link_targets, types_by};
+use unit_graph::{NodePlace, NodePlaces, Out, find_tag, link_targets, types_by};
 
 /// Rows: the file, the offset and the number. Two begin at one place: the later one counts there.
 const ROWS: &[(u32, u64, u32)] = &[(1, 11, 2), (0, 18, 1), (0, 11, 0), (0, 18, 3)];
 
 /// The places of these rows.
-fn places(alloc: Global) -> Result<Places, AllocError> {
+fn places(alloc: Global) -> Result<NodePlaces, AllocError> {
     let mut rows = Vec::new(alloc);
     for &(file, at, number) in ROWS {
-        rows.push(Row { file, number, at })?;
+        rows.push(NodePlace { file, number, at })?;
     }
-    Places::new(rows)
+    NodePlaces::new(rows)
 }
 
 /// References of the entry at 40.

@@ -9,8 +9,8 @@ use Rattle.dw_base.specs.declared.numbers.Order.{Order}
 use Rattle.dwarf_abbrev.specs.Declarations.{Declaration}
 use Rattle.dwarf_abbrev.specs.declared.spec.Spec.{Spec}
 use Rattle.dwarf_forms.specs.declared.fault.FormFault.{FormFault}
-use Rattle.dwarf_forms.specs.declared.layout.Layout.{Layout}
-use Rattle.dwarf_forms.specs.declared.layout.Layout.TheVariants as layouts
+use Rattle.dwarf_forms.specs.declared.layout.FormLayout.{FormLayout}
+use Rattle.dwarf_forms.specs.declared.layout.FormLayout.TheVariants as layouts
 use Rattle.dwarf_forms.specs.Forms.{layout_of}
 use Rattle.dwarf_forms.specs.Values.{◌>>=◌, Plain, Shown, Within, or_cut, or_unknown, fixed_at}
 use Rattle.dwarf_forms.specs.Values.{uleb_at, sleb_at, held_at, text_at, read_at, form_at, value_of}
@@ -56,7 +56,7 @@ text_at_clean unit at attribute x e =
     (cut_clean attribute t (text_of unit at)
     (λ (u : List ℕ) (k : text_of unit at ≡ Some u). text_of_no_nul unit u at k) is)) e
 
-read_clean : (l : Layout) (form : ℕ) (unit : List ℕ) (at : ℕ) (order : Order) (spec : Spec)
+read_clean : (l : FormLayout) (form : ℕ) (unit : List ℕ) (at : ℕ) (order : Order) (spec : Spec)
     (x : Plain × ℕ) → read_at l form unit at order spec ≡ Ok x → IsCleanPlain x.0
 unfolding read_at
 read_clean (layouts.Fixed w kind) form unit at order spec x e = bound (IsCleanPlain x.0)

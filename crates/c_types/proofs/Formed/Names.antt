@@ -7,8 +7,8 @@ use Rattle.std.proofs.lemmas.List.Elements.{All-nil, All-cons}
 use Rattle.dw_base.specs.Numbers.{number_of}
 use Rattle.dw_base.specs.Texts.{text_of, HasNoNul}
 use Rattle.dwarf_forms.specs.declared.fault.FormFault.{FormFault}
-use Rattle.dwarf_forms.specs.declared.layout.Kind.{Kind}
-use Rattle.dwarf_forms.specs.declared.layout.Kind.TheVariants.{Strp, LineStrp, Strx}
+use Rattle.dwarf_forms.specs.declared.layout.NumberClass.{NumberClass}
+use Rattle.dwarf_forms.specs.declared.layout.NumberClass.TheVariants.{Strp, LineStrp, Strx}
 use Rattle.dwarf_forms.specs.Values.{Plain, Shown}
 use Rattle.dwarf_forms.specs.Values.Plain.{number, text}
 use Rattle.dwarf_forms.specs.Meanings.{Sections, or_out, string_at, through, number_name}
@@ -38,7 +38,7 @@ through_clean : (strings n : List ℕ) (index : ℕ) (o : Option ℕ) → throug
 through_clean strings n index None e = cc
 through_clean strings n index (Some offset) e = string_clean strings n offset e
 
-number_clean : (c : Sections) (attribute form : ℕ) (kind : Kind) (k : ℕ) (n : List ℕ)
+number_clean : (c : Sections) (attribute form : ℕ) (kind : NumberClass) (k : ℕ) (n : List ℕ)
     → number_name c attribute form kind k ≡ Ok n → HasNoNul n
 number_clean c attribute form Strp k n e = string_clean c.strings n k e
 number_clean c attribute form LineStrp k n e = string_clean c.line_strings n k e

@@ -4,7 +4,7 @@ use Rattle.std.specs.Option.{option_map}
 use Rattle.c_model.specs.declared.graph.CType.{CType}
 use Rattle.dw_base.specs.declared.numbers.Order.{Order}
 use Rattle.btf_codec.specs.Gives.{EndsWithNul, base_seen, before_of, table_over}
-use Rattle.btf_codec.specs.Reading.{Shown, is_wanted, types_of}
+use Rattle.btf_codec.specs.Reading.{Decoded, is_wanted, types_of}
 use Rattle.btf_codec.specs.Spells.{Spells}
 use Rattle.btf_codec.specs.declared.fault.BtfFault.{BtfFault}
 use Rattle.btf_codec.specs.declared.table.Table.{Table}
@@ -85,7 +85,7 @@ returns-clause-wanted c = (shows (option_map (λ (b : Bor Table). before_of b.no
     )) (subst (λ (xs : List ℕ). EndsWithNul xs) c.strings_of-strings.ensures.names
     c.strings_of-strings.ensures.ends) (returns-clause-gives c)).wanted
 
-same : (t u : Shown) (r : Result Shown BtfFault) → r ≡ Ok t → r ≡ Ok u → t ≡ u
+same : (t u : Decoded) (r : Result Decoded BtfFault) → r ≡ Ok t → r ≡ Ok u → t ≡ u
 same t u r e f = cc
 
 pub returns-clause-complete : goal.returns-clause-complete

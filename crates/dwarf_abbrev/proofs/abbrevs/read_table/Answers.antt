@@ -7,7 +7,7 @@ use Rattle.dw_base.proofs.Collecting.{goes_on, ends, fails, is_cut_off}
 use Rattle.dwarf_abbrev.specs.Rows.{declarations_of, declaration_of, Places}
 use Rattle.dwarf_abbrev.specs.Declarations.{Declaration, place_of}
 use Rattle.dwarf_abbrev.specs.Table.{declaration_at, table_at, ◌>>=◌}
-use Rattle.dwarf_abbrev.specs.declared.row.Row.{Row}
+use Rattle.dwarf_abbrev.specs.declared.row.OwnedAbbrev.{OwnedAbbrev}
 use Rattle.dwarf_abbrev.specs.declared.fault.AbbrevFault.{AbbrevFault}
 use Rattle.dwarf_abbrev.specs.declared.fault.AbbrevFault.TheVariants.{AbbrevTruncated}
 use Rattle.dwarf_abbrev.proofs.Placing.{places_push, declarations_length}
@@ -60,7 +60,7 @@ loop-preserved c =
     let v : declarations_of c.push.new.self.items
     ≡ declarations_of c.loop.rows.items ++ declaration_of c.in-Some.row ∷ [] =
     rw w (map_push declaration_of c.loop.rows.items c.in-Some.row) in
-    let fresh : IfSome c.in_ok-found.found (λ (r : Row). place_of r.code
+    let fresh : IfSome c.in_ok-found.found (λ (r : OwnedAbbrev). place_of r.code
     (declarations_of c.as_slice.result.now) ≡ None) = c.in_ok-found.ensures.fresh in
     let f = rw (c.as_slice.ensures.value, c.in-Some.is) at fresh in
     let n : c.len.result ≡ length (declarations_of c.loop.rows.items) =

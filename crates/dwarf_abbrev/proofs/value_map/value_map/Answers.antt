@@ -1,7 +1,7 @@
 use Rattle.std.proofs.Common.{◌≡◌, ◌+◌, ℕ, List, length, ap, ◌∙◌, subst, arith}
 use Rattle.std.proofs.lemmas.List.{length_push}
 use Rattle.dwarf_abbrev.specs.ValueMaps.{IsRun, ArePlaces}
-use Rattle.dwarf_abbrev.specs.declared.value_map.Run.{Run}
+use Rattle.dwarf_abbrev.specs.declared.value_map.FixedRun.{FixedRun}
 use Rattle.dwarf_abbrev.proofs.Mapping.{are_more}
 use Rattle.dwarf_abbrev.proofs.value_map.value_map.Goals as goal
 
@@ -15,7 +15,7 @@ loop-index-preserved c =
       here = c.next_run-run.ensures;
       all = rw e (are_more c.args.specs.now c.loop-index.runs.items c.loop-index.run
           c.loop-index.invariant.all here);
-      count = ap (λ (rs : List Run). length rs) e
+      count = ap (λ (rs : List FixedRun). length rs) e
           ∙ length_push c.loop-index.runs.items c.loop-index.run
           ∙ ap (λ k. k + 1) n;
       places = c.note_place.ensures;
@@ -33,7 +33,7 @@ returns c =
     record {
       runs = rw e (are_more c.args.specs.now c.loop-index.runs.items c.loop-index.run
           c.loop-index.invariant.all here);
-      all = ap (λ (rs : List Run). length rs) e
+      all = ap (λ (rs : List FixedRun). length rs) e
           ∙ length_push c.loop-index.runs.items c.loop-index.run
           ∙ ap (λ k. k + 1) (n ∙ is);
       places = subst (λ (m : ℕ). ArePlaces c.args.specs.now m c.loop-index.places) is

@@ -1,7 +1,7 @@
 use Rattle.std.proofs.Common.{◌≡◌, ◌≤◌, ℕ, ◌+◌, length, drop, take, slice_get, Some, List, sym, ap}
 use Rattle.std.proofs.Common.{◌∙◌, refl, subst, arith}
 use Rattle.std.proofs.lemmas.Option.{slice_get_read}
-use Rattle.dwarf_abbrev.specs.declared.value_map.Run.{Run}
+use Rattle.dwarf_abbrev.specs.declared.value_map.FixedRun.{FixedRun}
 use Rattle.dwarf_abbrev.specs.Sizes.{sizes_of}
 use Rattle.dwarf_abbrev.specs.ValueMaps.{IsRun}
 use Rattle.dwarf_forms.specs.Values.{within}
@@ -12,7 +12,7 @@ pub returns-then-sum-length : goal.returns-then-sum-length
 returns-then-sum-length c =
     let at = c.in_ok-run.ensures.lookup.3 in
     let there : slice_get c.args.map.now.runs.items c.args.count ≡ Some c.in_ok-run.run'.now =
-    ap (λ (rs : List Run). slice_get rs c.args.count) (sym c.deref.ensures.value)
+    ap (λ (rs : List FixedRun). slice_get rs c.args.count) (sym c.deref.ensures.value)
     ∙ slice_get_read c.deref.result.now (length c.deref.result.now) c.args.count
     c.in_ok-run.run'.now refl at.0 (at.1 c.in_ok-run.run'.now) in
     let run : IsRun c.args.specs.now c.args.count c.in_ok-run.run'.now =

@@ -1,7 +1,7 @@
 use Rattle.std.proofs.Common.{◌≡◌, ◌<◌, length, List, [], false, Some, None, sym, ap, ◌∙◌, arith}
 use Rattle.dwarf_abbrev.specs.Rows.{declarations_of, declaration_of}
 use Rattle.dwarf_abbrev.specs.Declarations.{Declaration, place_of, declaration_with}
-use Rattle.dwarf_abbrev.specs.declared.row.Row.{Row}
+use Rattle.dwarf_abbrev.specs.declared.row.OwnedAbbrev.{OwnedAbbrev}
 use Rattle.dwarf_abbrev.specs.declared.spec.Spec.{Spec}
 use Rattle.dwarf_abbrev.proofs.Placing.{declaration_there, no_declaration, declarations_length}
 use Rattle.dwarf_abbrev.proofs.Placing.{declaration_of_row}
@@ -12,7 +12,7 @@ returns-in_err-index c =
     let h : None ≡ place_of c.args.code (declarations_of c.as_slice.result.now) =
     c.in_err-index.ensures in
     let k : None ≡ place_of c.args.code (declarations_of c.self.inside.rows.items) =
-    h ∙ ap (λ (rows : List Row). place_of c.args.code (declarations_of rows))
+    h ∙ ap (λ (rows : List OwnedAbbrev). place_of c.args.code (declarations_of rows))
     c.as_slice.ensures.value in
     rw c.from_residual.ensures (sym (no_declaration c.args.self.now c.args.code
     (sym (k ∙ ap (place_of c.args.code) c.self.view_is))))
@@ -21,7 +21,7 @@ pub index-row-requires : goal.index-row-requires
 index-row-requires c =
     let h : Some c.in_ok-index.index
     ≡ place_of c.args.code (declarations_of c.as_slice.result.now) = c.in_ok-index.ensures in
-    let k = h ∙ ap (λ (rows : List Row). place_of c.args.code (declarations_of rows))
+    let k = h ∙ ap (λ (rows : List OwnedAbbrev). place_of c.args.code (declarations_of rows))
     c.as_slice.ensures.value in
     let d : Declaration = record { code = 0; tag = 0; children = false; specs = [] } in
     let p = declaration_there
@@ -32,7 +32,7 @@ pub returns : goal.returns
 returns c =
     let h : Some c.in_ok-index.index
     ≡ place_of c.args.code (declarations_of c.as_slice.result.now) = c.in_ok-index.ensures in
-    let k = h ∙ ap (λ (rows : List Row). place_of c.args.code (declarations_of rows))
+    let k = h ∙ ap (λ (rows : List OwnedAbbrev). place_of c.args.code (declarations_of rows))
     c.as_slice.ensures.value in
     let x = c.index-row.result.now in
     let p = declaration_there (declarations_of c.self.inside.rows.items) c.args.code

@@ -1,0 +1,336 @@
+//! The types that the words of a file show.
+ghost use Rattle.std.specs.Prelude.{◌≡◌, ◌+◌, ◌*◌, ◌-◌, ◌<◌, ◌≤◌, ◌^◌, ◌++◌, ℕ, List, [], ◌∷◌};
+ghost use Rattle.std.specs.Prelude.{Some, length, map, OnOk, IfOk, slice_index};
+ghost use Rattle.dw_base.specs.Texts.{text_of};
+ghost use Rattle.btf_codec.specs.Gives.{EndsWithNul, IsPiece};
+ghost use Rattle.btf_codec.specs.Reading.{extra_by, ids_by, ids_in, name_at, decoded_part, parts_by};
+ghost use Rattle.btf_codec.specs.Reading.{decoded_parts, part_width, places, ref_of, size_by};
+ghost use Rattle.btf_codec.specs.Reading.{type_by, decoded_type, type_width, vlen_in, whole_value};
+ghost use Rattle.btf_codec.specs.Reading.{word_in, words_at};
+
+use crate::layout::{KindLayout, PartLayout, layout_of};
+use crate::pieces::{flag_in, kind_in, part_width, vlen_in, word_in};
+use c_model::kinds::BTF_KIND_FUNC;
+use c_model::{CType, Label, Part, Parts, Ref, Refs};
+use dw_base::{Name, Order, text_at};
+use std::alloc::{AllocError, Global};
+
+/// The strings of a table: those of its base, and behind them the own ones.
+#[derive(Clone, Copy)]
+pub struct TableStrings<'a> {
+    pub base: &'a [u8],
+    pub own: &'a [u8],
+}
+
+/// The text at an offset.
+fn text_in<'a>(texts: TableStrings<'a>, at: u64) -> Option<Name<'a>>
+    requires { EndsWithNul texts.base.now }
+    ensures { result ≡ text_of (texts.entry.base.now ++ texts.entry.own.now) at }
+{
+    let start = texts.base.len() as u64;
+    if at < start {
+        return text_at(texts.base, at);
+    }
+    text_at(texts.own, at - start)
+}
+
+/// The name at an offset; empty where no text is there.
+fn name_at<'a>(texts: TableStrings<'a>, at: u32) -> Name<'a>
+    requires { EndsWithNul texts.base.now }
+    ensures { result ≡ name_at (texts.entry.base.now ++ texts.entry.own.now) at }
+{
+    match text_in(texts, u64::from(at)) {
+        Some(name) => name,
+        None => Name::new(&[]),
+    }
+}
+
+/// The reference of an id.
+fn ref_of(id: u32) -> Ref
+    ensures { result ≡ ref_of id }
+{
+    if id == 0 {
+        Ref::Void
+    } else {
+        Ref::Node(id - 1)
+    }
+}
+
+/// The low and the high 32 bits in two words.
+fn whole_value(order: Order, piece: &[u8], at: usize) -> u64
+    requires { 4 * at + 12 ≤ length piece.now }
+    ensures { result ≡ whole_value (word_in order piece.now) at }
+{
+    let low = word_in(order, piece, at + 1);
+    let high = word_in(order, piece, at + 2);
+    u64::from(low) + 0x1_0000_0000 * u64::from(high)
+}
+
+/// The part at a place.
+fn decoded_part<'a>(
+    layout: PartLayout,
+    texts: TableStrings<'a>,
+    order: Order,
+    piece: &[u8],
+    at: usize,
+) -> Part<'a>
+    requires ends { EndsWithNul texts.base.now }
+    requires room { 4 * (at + part_width layout) ≤ length piece.now }
+    ensures { result ≡ decoded_part layout (texts.entry.base.now ++ texts.entry.own.now)
+        (word_in order piece.now) at }
+{
+    match layout {
+        PartLayout::Member => Part {
+            name: name_at(texts, word_in(order, piece, at)),
+            value: u64::from(word_in(order, piece, at + 2)),
+        },
+        PartLayout::Enumerator => Part {
+            name: name_at(texts, word_in(order, piece, at)),
+            value: u64::from(word_in(order, piece, at + 1)),
+        },
+        PartLayout::WideEnumerator => Part {
+            name: name_at(texts, word_in(order, piece, at)),
+            value: whole_value(order, piece, at),
+        },
+        PartLayout::Parameter => Part {
+            name: name_at(texts, word_in(order, piece, at)),
+            value: 0,
+        },
+        PartLayout::Variable => Part {
+            name: Name::new(&[]),
+            value: whole_value(order, piece, at),
+        },
+    }
+}
+
+/// So many parts.
+fn decoded_parts<'a>(
+    alloc: Global,
+    layout: PartLayout,
+    texts: TableStrings<'a>,
+    order: Order,
+    piece: &[u8],
+    n: u32,
+) -> Result<Vec<Part<'a>>, AllocError>
+    requires ends { EndsWithNul texts.base.now }
+    requires few { n < 65536 }
+    requires room { 4 * (3 + part_width layout * n) ≤ length piece.now }
+    ensures { IfOk result (λ v. v.items ≡ decoded_parts layout
+        (texts.entry.base.now ++ texts.entry.own.now) (word_in order piece.now) n) }
+{
+    let width = part_width(layout);
+    let mut parts = Vec::new(alloc);
+    for i in 0..n {
+        let at = (3 + width * i) as usize;
+        parts.push(decoded_part(layout, texts, order, piece, at))?;
+    }
+    Ok(parts)
+}
+
+/// Appends so many references, each `width` words behind the one before.
+fn push_refs(
+    out: &mut Vec<Ref>,
+    order: Order,
+    piece: &[u8],
+    at: u32,
+    width: u32,
+    n: u32,
+) -> Result<(), AllocError>
+    requires few { n < 65536 }
+    requires near { at ≤ 4 }
+    requires width { width ≤ 3 }
+    requires some { 1 ≤ width }
+    requires room { 4 * (at + width * n) ≤ length piece.now + 4 * (width - 1) }
+    ensures { OnOk result (out.new.items
+        ≡ out.old.items ++ map ref_of (words_at (word_in order piece.now) at width n)) }
+{
+    for i in 0..n {
+        out.push(ref_of(word_in(order, piece, (at + width * i) as usize)))?;
+    }
+    Ok(())
+}
+
+/// The references of some ids.
+fn listed(alloc: Global, ids: &[u32]) -> Result<Vec<Ref>, AllocError>
+    ensures { IfOk result (λ v. v.items ≡ map ref_of ids.now) }
+{
+    ids.iter().map(|id| ref_of(*id)).collect(alloc)
+}
+
+/// So many references, each `width` words behind the one before.
+fn listed_at(
+    alloc: Global,
+    order: Order,
+    piece: &[u8],
+    at: u32,
+    width: u32,
+    n: u32,
+) -> Result<Vec<Ref>, AllocError>
+    requires few { n < 65536 }
+    requires near { at ≤ 4 }
+    requires width { width ≤ 3 }
+    requires some { 1 ≤ width }
+    requires room { 4 * (at + width * n) ≤ length piece.now + 4 * (width - 1) }
+    ensures { IfOk result (λ v. v.items ≡ map ref_of (words_at (word_in order piece.now) at width n)) }
+{
+    let mut refs = Vec::new(alloc);
+    push_refs(&mut refs, order, piece, at, width, n)?;
+    Ok(refs)
+}
+
+/// The references of a type.
+fn refs_by(
+    alloc: Global,
+    layout: KindLayout,
+    order: Order,
+    piece: &[u8],
+    vlen: u32,
+) -> Result<Vec<Ref>, AllocError>
+    requires few { vlen < 65536 }
+    requires long { length piece.now ≡ 4 * type_width layout vlen }
+    ensures { IfOk result
+        (λ v. v.items ≡ map ref_of (ids_by (Some layout) (word_in order piece.now) vlen)) }
+{
+    match layout {
+        KindLayout::Int => listed(alloc, &[]),
+        KindLayout::Link => listed(alloc, &[word_in(order, piece, 2)]),
+        KindLayout::Array => {
+            let element = word_in(order, piece, 3);
+            listed(alloc, &[element, word_in(order, piece, 4)])
+        }
+        KindLayout::Forward => listed(alloc, &[]),
+        KindLayout::TaggedLink => listed(alloc, &[word_in(order, piece, 2)]),
+        KindLayout::Float => listed(alloc, &[]),
+        KindLayout::Sized(PartLayout::Member) => listed_at(alloc, order, piece, 4, 3, vlen),
+        KindLayout::Sized(PartLayout::Enumerator) => listed(alloc, &[]),
+        KindLayout::Sized(PartLayout::WideEnumerator) => listed(alloc, &[]),
+        KindLayout::Sized(PartLayout::Parameter) => listed(alloc, &[]),
+        KindLayout::Sized(PartLayout::Variable) => listed_at(alloc, order, piece, 3, 3, vlen),
+        KindLayout::Prototype => {
+            let mut refs = listed(alloc, &[word_in(order, piece, 2)])?;
+            push_refs(&mut refs, order, piece, 4, 2, vlen)?;
+            Ok(refs)
+        }
+    }
+}
+
+/// The parts of a type.
+fn parts_by<'a>(
+    alloc: Global,
+    layout: KindLayout,
+    texts: TableStrings<'a>,
+    order: Order,
+    piece: &[u8],
+    vlen: u32,
+) -> Result<Vec<Part<'a>>, AllocError>
+    requires ends { EndsWithNul texts.base.now }
+    requires few { vlen < 65536 }
+    requires long { length piece.now ≡ 4 * type_width layout vlen }
+    ensures { IfOk result (λ v. v.items ≡ parts_by (Some layout)
+        (texts.entry.base.now ++ texts.entry.own.now) (word_in order piece.now) vlen) }
+{
+    match layout {
+        KindLayout::Int => Ok(Vec::new(alloc)),
+        KindLayout::Link => Ok(Vec::new(alloc)),
+        KindLayout::Array => Ok(Vec::new(alloc)),
+        KindLayout::Forward => Ok(Vec::new(alloc)),
+        KindLayout::TaggedLink => Ok(Vec::new(alloc)),
+        KindLayout::Float => Ok(Vec::new(alloc)),
+        KindLayout::Sized(parts) => decoded_parts(alloc, parts, texts, order, piece, vlen),
+        KindLayout::Prototype => {
+            decoded_parts(alloc, PartLayout::Parameter, texts, order, piece, vlen)
+        }
+    }
+}
+
+/// The size of a type; 0 where its kind has none.
+fn size_by(layout: KindLayout, order: Order, piece: &[u8]) -> u32
+    requires { 12 ≤ length piece.now }
+    ensures { result ≡ size_by (Some layout) (word_in order piece.now) }
+{
+    match layout {
+        KindLayout::Int => word_in(order, piece, 2),
+        KindLayout::Link => 0,
+        KindLayout::Array => 0,
+        KindLayout::Forward => 0,
+        KindLayout::TaggedLink => 0,
+        KindLayout::Float => word_in(order, piece, 2),
+        KindLayout::Sized(_) => word_in(order, piece, 2),
+        KindLayout::Prototype => 0,
+    }
+}
+
+/// What a type has besides: the word of an INT, the linkage of a FUNC or VAR, the elements of an
+/// ARRAY, the index of a DECL_TAG; else 0.
+fn extra_by(layout: KindLayout, order: Order, piece: &[u8], vlen: u32) -> u32
+    requires { length piece.now ≡ 4 * type_width layout vlen }
+    ensures { vlen ≡ vlen_in (word_in order piece.now 1)
+        → result ≡ extra_by (Some layout) (word_in order piece.now) }
+{
+    match layout {
+        KindLayout::Int => word_in(order, piece, 3),
+        KindLayout::Link => {
+            if kind_in(word_in(order, piece, 1)) == BTF_KIND_FUNC {
+                vlen
+            } else {
+                0
+            }
+        }
+        KindLayout::Array => word_in(order, piece, 5),
+        KindLayout::Forward => 0,
+        KindLayout::TaggedLink => word_in(order, piece, 3),
+        KindLayout::Float => 0,
+        KindLayout::Sized(_) => 0,
+        KindLayout::Prototype => 0,
+    }
+}
+
+/// The type that a piece of a known layout shows.
+fn type_by<'a>(
+    alloc: Global,
+    layout: KindLayout,
+    texts: TableStrings<'a>,
+    order: Order,
+    piece: &[u8],
+) -> Result<CType<'a>, AllocError>
+    requires ends { EndsWithNul texts.base.now }
+    requires long { length piece.now ≡ 4 * type_width layout (vlen_in (word_in order piece.now 1)) }
+    requires head { 12 ≤ length piece.now }
+    ensures { IfOk result (λ t. t ≡ type_by (Some layout)
+        (texts.entry.base.now ++ texts.entry.own.now) (word_in order piece.now)) }
+{
+    let info = word_in(order, piece, 1);
+    let vlen = vlen_in(info);
+    let parts = parts_by(alloc, layout, texts, order, piece, vlen)?;
+    let refs = refs_by(alloc, layout, order, piece, vlen)?;
+    let label = Label {
+        kind: kind_in(info),
+        name: name_at(texts, word_in(order, piece, 0)),
+        flag: flag_in(info),
+        size: size_by(layout, order, piece),
+        extra: extra_by(layout, order, piece, vlen),
+        parts: Parts::new(parts),
+    };
+    Ok(CType {
+        label,
+        targets: Refs::new(refs),
+    })
+}
+
+/// The type that a piece shows.
+pub fn decoded_type<'a>(
+    alloc: Global,
+    texts: TableStrings<'a>,
+    order: Order,
+    piece: &[u8],
+) -> Result<CType<'a>, AllocError>
+    requires ends { EndsWithNul texts.base.now }
+    requires piece { IsPiece order piece.now }
+    ensures { IfOk result (λ t.
+        t ≡ decoded_type (texts.entry.base.now ++ texts.entry.own.now) (word_in order piece.now)) }
+{
+    match layout_of(kind_in(word_in(order, piece, 1))) {
+        Some(layout) => type_by(alloc, layout, texts, order, piece),
+        None => unreachable!(),
+    }
+}
