@@ -94,7 +94,8 @@ no_fault s w count place id n r =
     no_fault_join place id (length s) count w
     (ap (λ (o : Option KindLayout). first_past (length s) (names_by o w (vlen_in (w 1)))) r.laid
     ∙ r.names)
-    (ap (λ (o : Option KindLayout). first_past (count + 1) (ids_by o w (vlen_in (w 1)))) r.laid ∙ r.ids)
+    (ap (λ (o : Option KindLayout). first_past (count + 1) (ids_by o w (vlen_in (w 1)))) r.laid
+    ∙ r.ids)
 
 first_fine : (order : Order) (place id limit count : ℕ) (p : List ℕ) (ps : List (List ℕ))
     → words_fault place id limit count (word_in order p) ≡ None

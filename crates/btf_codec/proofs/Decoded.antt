@@ -21,7 +21,8 @@ use Rattle.btf_codec.specs.Reading.{vlen_in, words_at}
 use Rattle.btf_codec.specs.Spells.{StandsFor}
 use Rattle.btf_codec.specs.declared.layout.KindLayout.{KindLayout}
 use Rattle.btf_codec.specs.declared.layout.KindLayout.TheVariants.{Int, Link, Array, Forward}
-use Rattle.btf_codec.specs.declared.layout.KindLayout.TheVariants.{TaggedLink, Float, Sized, Prototype}
+use Rattle.btf_codec.specs.declared.layout.KindLayout.TheVariants.{TaggedLink, Float, Sized}
+use Rattle.btf_codec.specs.declared.layout.KindLayout.TheVariants.{Prototype}
 use Rattle.btf_codec.specs.declared.layout.PartLayout.{PartLayout}
 use Rattle.btf_codec.specs.declared.layout.PartLayout.TheVariants.{Member, Enumerator}
 use Rattle.btf_codec.specs.declared.layout.PartLayout.TheVariants.{WideEnumerator, Parameter}
@@ -116,7 +117,8 @@ pub shape_there : (k : ℕ) (layout : KindLayout) → layout_of k ≡ Some layou
     → ShapeOf layout k (row_by layout k)
 unfolding Together
 shape_there k layout e =
-    let P : Option KindLayout → Type 0 = λ (o : Option KindLayout). Together k (Some (row_by layout k)) o in
+    let P : Option KindLayout → Type 0 = λ (o : Option KindLayout). Together k
+    (Some (row_by layout k)) o in
     subst P e
     (subst (λ (o : Option Row). Together k o (layout_of k)) (row_known k layout e) (together k))
 
@@ -166,7 +168,8 @@ module _ (s : List ℕ) (w : ℕ → ℕ) (small : (i : ℕ) → w i < 2 ^ 32) (
       let ih = subst (λ (m : ℕ). AllZip (StandsFor s) (parts_fields Member
       (map (decoded_part Member s w) (places (at + 3) 3 n)) (map ref_of (words_at w m 3 n)))
       (words_at w (at + 3) 1 (3 * n))) e (parts_stand Member (at + 3) n q.1) in
-      subst (λ (ws : List ℕ). AllZip (StandsFor s) (parts_fields Member (map (decoded_part Member s w)
+      subst (λ (ws : List ℕ). AllZip (StandsFor s)
+      (parts_fields Member (map (decoded_part Member s w)
       (places at 3 (suc n))) (map ref_of (words_at w (at + 1) 3 (suc n)))) ws)
       (sym (words_three w at n))
       (texts (w at) q.0, (ref_stands (w (at + 1)), (low_there (at + 2), ih)))
@@ -211,7 +214,8 @@ module _ (s : List ℕ) (w : ℕ → ℕ) (small : (i : ℕ) → w i < 2 ^ 32) (
       )
 
   -- the parts are as their row says
-  part_fits : (layout : PartLayout) (at : ℕ) → FitsPart (part_row layout) (decoded_part layout s w at)
+  part_fits : (layout : PartLayout) (at : ℕ) → FitsPart (part_row layout)
+      (decoded_part layout s w at)
   part_fits Member at = record {
     unnamed = λ (e : true ≡ false). cc;
     name = name_clean s (w at);
@@ -261,7 +265,8 @@ module _ (s : List ℕ) (w : ℕ → ℕ) (small : (i : ℕ) → w i < 2 ^ 32) (
   count_ids Parameter n used = absurd (used refl)
   count_ids Variable n used = count_refs 3 3 n
 
-  info_there : (layout : KindLayout) → layout_of (kind_in (w 1)) ≡ Some layout → Info layout (w 1) (w 2)
+  info_there : (layout : KindLayout) → layout_of (kind_in (w 1)) ≡ Some layout
+      → Info layout (w 1) (w 2)
       → vlen_of (type_by (Some layout) s w).label ≡ vlen_in (w 1)
   info_there Int laid i = vlen_none (type_by (Some Int) s w).label (vlen_in (w 1))
       ((shape_there (kind_in (w 1)) Int laid).plain refl) (sym (eqb-true (vlen_in (w 1)) 0 i.vlen))
@@ -289,7 +294,8 @@ module _ (s : List ℕ) (w : ℕ → ℕ) (small : (i : ℕ) → w i < 2 ^ 32) (
   third_zero : (third : ℕ) → (third == 0) ≡ true → third ≡ 0
   third_zero third h = eqb-true third 0 h
 
-  rest_stand : (layout : KindLayout) → layout_of (kind_in (w 1)) ≡ Some layout → Info layout (w 1) (w 2)
+  rest_stand : (layout : KindLayout) → layout_of (kind_in (w 1)) ≡ Some layout
+      → Info layout (w 1) (w 2)
       → first_past (length s) (names_by (Some layout) w (vlen_in (w 1))) ≡ None
       → w 1 ≡ info_of (type_by (Some layout) s w).label
       → AllZip (StandsFor s) (Named (name_at s (w 0)) ∷ Number (info_of
@@ -440,7 +446,8 @@ module _ (s : List ℕ) (w : ℕ → ℕ) (small : (i : ℕ) → w i < 2 ^ 32) (
     size = small 2;
     extra = omega arith;
     targets = omega (arith, count_sized p (used p laid));
-    few = few_parts (length (decoded_parts p s w (vlen_in (w 1)))) (count_parts p 3 (vlen_in (w 1)));
+    few = few_parts (length (decoded_parts p s w (vlen_in (w 1))))
+        (count_parts p 3 (vlen_in (w 1)));
     parts = parts_fit p (places 3 (part_width p) (vlen_in (w 1)));
   }
   formed Prototype laid i = record {

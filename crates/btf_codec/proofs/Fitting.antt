@@ -21,7 +21,8 @@ use Rattle.btf_codec.specs.Spells.{StandsFor}
 use Rattle.btf_codec.specs.declared.fault.BtfFault.TheVariants.{BtfTruncated, BtfInfo}
 use Rattle.btf_codec.specs.declared.layout.KindLayout.{KindLayout}
 use Rattle.btf_codec.specs.declared.layout.KindLayout.TheVariants.{Int, Link, Array, Forward}
-use Rattle.btf_codec.specs.declared.layout.KindLayout.TheVariants.{TaggedLink, Float, Sized, Prototype}
+use Rattle.btf_codec.specs.declared.layout.KindLayout.TheVariants.{TaggedLink, Float, Sized}
+use Rattle.btf_codec.specs.declared.layout.KindLayout.TheVariants.{Prototype}
 use Rattle.btf_codec.specs.declared.layout.PartLayout.{PartLayout}
 use Rattle.btf_codec.specs.declared.layout.PartLayout.TheVariants.{Member, Enumerator}
 use Rattle.btf_codec.specs.declared.layout.PartLayout.TheVariants.{WideEnumerator, Parameter}
@@ -387,7 +388,8 @@ module _ (s : List ℕ) (w : ℕ → ℕ) (count : ℕ) where
         ids = ap (λ (v : ℕ). first_past (count + 1) (ids_by (Some layout) w v)) ev ∙ r.ids;
       }
 
-  read_fields : (t : CType) (wf : IsWellFormed t) (layout : KindLayout) (n : ℕ) → layout_of t.label.kind
+  read_fields : (t : CType) (wf : IsWellFormed t) (layout : KindLayout) (n : ℕ)
+      → layout_of t.label.kind
       ≡ Some layout → wf.row ≡ row_by layout t.label.kind → All (IsBelow count) t.targets
       → AllZip (StandsFor s) (Named t.label.name ∷ Number (info_of t.label)
       ∷ rest_fields layout t.label t.targets) (words_at w 0 1 n) → TypeRead n

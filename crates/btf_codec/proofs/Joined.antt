@@ -51,7 +51,8 @@ sized place id left size w layout true false l h f e =
     record { layout = layout; laid = l; info = h; size_is = sym q; few = omega (arith, q, le) }
 sized place id left size w layout false b l h f e = cc
 
-passed_by : (place id left size : ℕ) (w : ℕ → ℕ) (o : Option KindLayout) → layout_of (kind_in (w 1)) ≡ o
+passed_by : (place id left size : ℕ) (w : ℕ → ℕ) (o : Option KindLayout)
+    → layout_of (kind_in (w 1)) ≡ o
     → checked place id (w 1) (w 2) left o ≡ Ok size → Passed w size left
 passed_by place id left size w None l e = cc
 passed_by place id left size w (Some layout) l e = sized place id left size w layout

@@ -9,7 +9,8 @@ use Rattle.btf_codec.specs.Reading.{may_flag}
 use Rattle.btf_codec.proofs.Shapes.{Together, refers, together}
 use Rattle.btf_codec.specs.declared.layout.KindLayout.{KindLayout}
 use Rattle.btf_codec.specs.declared.layout.KindLayout.TheVariants.{Int, Link, Array, Forward}
-use Rattle.btf_codec.specs.declared.layout.KindLayout.TheVariants.{TaggedLink, Float, Sized, Prototype}
+use Rattle.btf_codec.specs.declared.layout.KindLayout.TheVariants.{TaggedLink, Float, Sized}
+use Rattle.btf_codec.specs.declared.layout.KindLayout.TheVariants.{Prototype}
 use Rattle.btf_codec.specs.declared.layout.PartLayout.{PartLayout}
 use Rattle.btf_codec.specs.declared.layout.PartLayout.TheVariants.{Member, Enumerator}
 use Rattle.btf_codec.specs.declared.layout.PartLayout.TheVariants.{WideEnumerator, Parameter}
@@ -52,7 +53,8 @@ unfoldable pub Agree : ℕ → Option Row → Option KindLayout → Type 0
 Agree k o None = Unit {0}
 Agree k o (Some layout) = o ≡ Some (row_by layout k)
 
-chosen : (k j : ℕ) (row : Row) (layout : KindLayout) (o : Option Row) (m : Option KindLayout) (t : Bool)
+chosen : (k j : ℕ) (row : Row) (layout : KindLayout) (o : Option Row) (m : Option KindLayout)
+    (t : Bool)
     → (k == j) ≡ t → row ≡ row_by layout j → Agree k o m
     → Agree k (if t then Some row else o) (if t then Some layout else m)
 unfolding Agree
@@ -95,7 +97,8 @@ agree k =
 pub row_known : (k : ℕ) (layout : KindLayout) → layout_of k ≡ Some layout
     → row_of k ≡ Some (row_by layout k)
 unfolding Agree
-row_known k layout e = let P : Option KindLayout → Type 0 = Agree k (row_of k) in subst P e (agree k)
+row_known k layout e = let P : Option KindLayout → Type 0 = Agree k (row_of k) in subst P e
+    (agree k)
 
 -- a well-formed type has a layout, and the row of that layout
 pub record Laid (t : CType) (row : Row) : Type 0 where
@@ -122,7 +125,8 @@ other_by : (layout : KindLayout) (m : Option KindLayout) (t : Bool) → (layout 
 other_by layout m true ne rest e = let q : layout ≡ Sized Parameter = cc in ne q
 other_by layout m false ne rest e = rest e
 
-other : (k j : ℕ) (layout : KindLayout) (m : Option KindLayout) → (layout ≡ Sized Parameter → ⊥) → (m
+other : (k j : ℕ) (layout : KindLayout) (m : Option KindLayout) → (layout ≡ Sized Parameter → ⊥)
+    → (m
     ≡ Some (Sized Parameter) → ⊥) → (if k == j then Some layout else m) ≡ Some (Sized Parameter) → ⊥
 other k j layout m ne rest e = other_by layout m (k == j) ne rest e
 

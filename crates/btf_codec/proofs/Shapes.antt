@@ -6,7 +6,8 @@ use Rattle.c_model.specs.Kinds.{PartRow, Row, row_of}
 use Rattle.btf_codec.specs.Fields.{layout_of}
 use Rattle.btf_codec.specs.declared.layout.KindLayout.{KindLayout}
 use Rattle.btf_codec.specs.declared.layout.KindLayout.TheVariants.{Int, Link, Array, Forward}
-use Rattle.btf_codec.specs.declared.layout.KindLayout.TheVariants.{TaggedLink, Float, Sized, Prototype}
+use Rattle.btf_codec.specs.declared.layout.KindLayout.TheVariants.{TaggedLink, Float, Sized}
+use Rattle.btf_codec.specs.declared.layout.KindLayout.TheVariants.{Prototype}
 use Rattle.btf_codec.specs.declared.layout.PartLayout.{PartLayout}
 use Rattle.btf_codec.specs.declared.layout.PartLayout.TheVariants.{Member, Enumerator}
 use Rattle.btf_codec.specs.declared.layout.PartLayout.TheVariants.{WideEnumerator, Parameter}
@@ -64,7 +65,8 @@ Together k None o = Unit {0}
 Together k (Some row) None = ⊥
 Together k (Some row) (Some layout) = ShapeOf layout k row
 
-chosen : (k j : ℕ) (row : Row) (layout : KindLayout) (o : Option Row) (m : Option KindLayout) (t : Bool)
+chosen : (k j : ℕ) (row : Row) (layout : KindLayout) (o : Option Row) (m : Option KindLayout)
+    (t : Bool)
     → (k == j) ≡ t → (k ≡ j → ShapeOf layout k row) → Together k o m
     → Together k (if t then Some row else o) (if t then Some layout else m)
 unfolding Together

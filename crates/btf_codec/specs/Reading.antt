@@ -26,7 +26,8 @@ use Rattle.btf_codec.specs.declared.fault.BtfFault.TheVariants.{BtfKind, BtfInfo
 use Rattle.btf_codec.specs.declared.fault.BtfFault.TheVariants.{BtfStrings}
 use Rattle.btf_codec.specs.declared.layout.KindLayout.{KindLayout}
 use Rattle.btf_codec.specs.declared.layout.KindLayout.TheVariants.{Int, Link, Array, Forward}
-use Rattle.btf_codec.specs.declared.layout.KindLayout.TheVariants.{TaggedLink, Float, Sized, Prototype}
+use Rattle.btf_codec.specs.declared.layout.KindLayout.TheVariants.{TaggedLink, Float, Sized}
+use Rattle.btf_codec.specs.declared.layout.KindLayout.TheVariants.{Prototype}
 use Rattle.btf_codec.specs.declared.layout.PartLayout.{PartLayout}
 use Rattle.btf_codec.specs.declared.layout.PartLayout.TheVariants.{Member, Enumerator}
 use Rattle.btf_codec.specs.declared.layout.PartLayout.TheVariants.{WideEnumerator, Parameter}
@@ -197,7 +198,8 @@ decoded_part Parameter strings w at = record { name = name_at strings (w at); va
 decoded_part Variable strings w at = record { name = []; value = whole_value w at }
 
 abbrev pub decoded_parts : PartLayout → List ℕ → (ℕ → ℕ) → ℕ → List Part
-decoded_parts layout strings w n = map (decoded_part layout strings w) (places 3 (part_width layout) n)
+decoded_parts layout strings w n = map (decoded_part layout strings w)
+    (places 3 (part_width layout) n)
 
 abbrev pub parts_by : Option KindLayout → List ℕ → (ℕ → ℕ) → ℕ → List Part
 parts_by (Some (Sized layout)) strings w v = decoded_parts layout strings w v

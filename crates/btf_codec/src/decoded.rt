@@ -3,7 +3,8 @@ ghost use Rattle.std.specs.Prelude.{◌≡◌, ◌+◌, ◌*◌, ◌-◌, ◌<�
 ghost use Rattle.std.specs.Prelude.{Some, length, map, OnOk, IfOk, slice_index};
 ghost use Rattle.dw_base.specs.Texts.{text_of};
 ghost use Rattle.btf_codec.specs.Gives.{EndsWithNul, IsPiece};
-ghost use Rattle.btf_codec.specs.Reading.{extra_by, ids_by, ids_in, name_at, decoded_part, parts_by};
+ghost use Rattle.btf_codec.specs.Reading.{extra_by, ids_by, ids_in, name_at, decoded_part};
+ghost use Rattle.btf_codec.specs.Reading.{parts_by};
 ghost use Rattle.btf_codec.specs.Reading.{decoded_parts, part_width, places, ref_of, size_by};
 ghost use Rattle.btf_codec.specs.Reading.{type_by, decoded_type, type_width, vlen_in, whole_value};
 ghost use Rattle.btf_codec.specs.Reading.{word_in, words_at};

@@ -12,7 +12,8 @@ use Rattle.dwarf_forms.specs.Meanings.{Sections}
 use Rattle.entry_tree.specs.Items.{Given}
 use Rattle.c_types.specs.declared.open.Open.{Open}
 use Rattle.c_types.specs.declared.open.OpenType.{OpenType}
-use Rattle.c_types.specs.declared.open.OpenType.TheVariants.{Structure, Function, Enumeration, Array}
+use Rattle.c_types.specs.declared.open.OpenType.TheVariants.{Structure, Function, Enumeration}
+use Rattle.c_types.specs.declared.open.OpenType.TheVariants.{Array}
 use Rattle.c_types.specs.declared.open.OpenType.TheVariants.{Pointer}
 use Rattle.c_types.specs.declared.open.OpenPointer.{OpenPointer}
 use Rattle.c_types.specs.declared.open.LastPointer.{LastPointer}

@@ -12,7 +12,8 @@ use Rattle.c_types.specs.declared.open.OpenEnumeration.{OpenEnumeration}
 use Rattle.c_types.specs.declared.open.OpenArray.{OpenArray}
 use Rattle.c_types.specs.declared.open.OpenPointer.{OpenPointer}
 use Rattle.c_types.specs.declared.open.OpenType.{OpenType}
-use Rattle.c_types.specs.declared.open.OpenType.TheVariants.{Structure, Function, Enumeration, Array}
+use Rattle.c_types.specs.declared.open.OpenType.TheVariants.{Structure, Function, Enumeration}
+use Rattle.c_types.specs.declared.open.OpenType.TheVariants.{Array}
 use Rattle.c_types.specs.declared.open.OpenType.TheVariants.{Pointer}
 use Rattle.type_attributes.specs.declared.source.SourceType.{SourceType}
 use Rattle.type_attributes.specs.declared.source.Target.{Target}

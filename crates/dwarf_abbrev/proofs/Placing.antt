@@ -193,7 +193,8 @@ places_push declarations r old new p none others here =
     distinct i j a b e (inr k) (inr l) = last i a k ∙ sym (last j b l)
 
 -- of the rows
-pub code_of_row : (rows : List OwnedAbbrev) (i : ℕ) (x : OwnedAbbrev) → i < length rows → x ≡ get_or rows i x
+pub code_of_row : (rows : List OwnedAbbrev) (i : ℕ) (x : OwnedAbbrev) → i < length rows
+    → x ≡ get_or rows i x
     → code_at (declarations_of rows) i ≡ x.code
 code_of_row rows i x lt is =
     let l : i < length (declarations_of rows) = rw (length-map rows declaration_of) lt in
@@ -201,7 +202,8 @@ code_of_row rows i x lt is =
     ∙ ap (λ (r : Declaration). r.code)
     (get_or-map declaration_of rows i x (declaration_of x) lt ∙ ap declaration_of (sym is))
 
-pub declaration_of_row : (rows : List OwnedAbbrev) (i : ℕ) (x : OwnedAbbrev) → i < length rows → x ≡ get_or rows i x
+pub declaration_of_row : (rows : List OwnedAbbrev) (i : ℕ) (x : OwnedAbbrev) → i < length rows
+    → x ≡ get_or rows i x
     → get_or (declarations_of rows) i (declaration_of x) ≡ declaration_of x
 declaration_of_row rows i x lt is =
     get_or-map declaration_of rows i x (declaration_of x) lt ∙ ap declaration_of (sym is)

@@ -15,8 +15,10 @@ use Rattle.dwarf_abbrev.specs.Sizes.{widths, of_row, width_in, bytes_of}
 use Rattle.dwarf_forms.specs.declared.fault.FormFault.{FormFault}
 use Rattle.dwarf_forms.specs.declared.fault.FormFault.TheVariants.{ValueTruncated}
 use Rattle.dwarf_forms.specs.declared.layout.FormLayout.{FormLayout}
-use Rattle.dwarf_forms.specs.declared.layout.FormLayout.TheVariants.{Fixed, Leb, Signed, Implicit, Flag}
-use Rattle.dwarf_forms.specs.declared.layout.FormLayout.TheVariants.{Present, Text, Sixteen, Counted}
+use Rattle.dwarf_forms.specs.declared.layout.FormLayout.TheVariants.{Fixed, Leb, Signed, Implicit}
+use Rattle.dwarf_forms.specs.declared.layout.FormLayout.TheVariants.{Flag}
+use Rattle.dwarf_forms.specs.declared.layout.FormLayout.TheVariants.{Present, Text, Sixteen}
+use Rattle.dwarf_forms.specs.declared.layout.FormLayout.TheVariants.{Counted}
 use Rattle.dwarf_forms.specs.declared.layout.FormLayout.TheVariants.{LebCounted, Elsewhere}
 use Rattle.dwarf_forms.specs.Forms.{rows, layout_of}
 use Rattle.dwarf_forms.specs.Values.{Plain, number, signed, sixteen, flag, elsewhere, Shown, Within}
@@ -182,7 +184,8 @@ read_cut (LebCounted kind) form unit at w order s size some lt = cc
 read_cut (Elsewhere v) form unit at w order s size some lt =
     rw (cut_at unit at v order s.attribute (omega (arith, same_Some v w size, lt))) refl
 
-cut_by_layout : (c : Within) (s : Spec) (at w : ℕ) (o : Option FormLayout) → layout_of c.offset_bytes
+cut_by_layout : (c : Within) (s : Spec) (at w : ℕ) (o : Option FormLayout)
+    → layout_of c.offset_bytes
     c.address_bytes s.form ≡ o → size_in o ≡ Some w → (s.form == DW_FORM_indirect) ≡ false → 0 < w
     → length c.unit < at + w → value_of c s at ≡ Err (ValueTruncated s.attribute)
 unfolding value_of

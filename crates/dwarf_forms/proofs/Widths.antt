@@ -11,7 +11,8 @@ abbrev pub AllWide : List (ℕ × FormLayout) → Type 0
 AllWide [] = ⊤
 AllWide (r ∷ rs) = HasWidths r.1 × AllWide rs
 
-one : (form : ℕ) (r : ℕ × FormLayout) (rs : List (ℕ × FormLayout)) (l : FormLayout) (t : Bool) → HasWidths r.1
+one : (form : ℕ) (r : ℕ × FormLayout) (rs : List (ℕ × FormLayout)) (l : FormLayout) (t : Bool)
+    → HasWidths r.1
     → (lookup (λ (f : ℕ). form == f) rs ≡ Some l → HasWidths l)
     → (if t then Some r.1 else lookup (λ (f : ℕ). form == f) rs) ≡ Some l → HasWidths l
 one form r rs l true h ih e = let q : r.1 ≡ l = cc in subst HasWidths q h
@@ -157,6 +158,7 @@ all_wide o a ho ha =
       ),
     )
 
-pub has_widths : (o a form : ℕ) (l : FormLayout) → HasWidth o → HasWidth a → layout_of o a form ≡ Some l
+pub has_widths : (o a form : ℕ) (l : FormLayout) → HasWidth o → HasWidth a
+    → layout_of o a form ≡ Some l
     → HasWidths l
 has_widths o a form l ho ha e = found form (rows o a) l (all_wide o a ho ha) e

@@ -25,10 +25,13 @@ use Rattle.dwarf_abbrev.specs.declared.constants.TheConstants.{DW_FORM_addrx2, D
 use Rattle.dwarf_abbrev.specs.declared.constants.TheConstants.{DW_FORM_addrx4, DW_FORM_GNU_ref_alt}
 use Rattle.dwarf_abbrev.specs.declared.constants.TheConstants.{DW_FORM_GNU_strp_alt}
 use Rattle.dwarf_forms.specs.declared.layout.FormLayout.{FormLayout}
-use Rattle.dwarf_forms.specs.declared.layout.FormLayout.TheVariants.{Fixed, Leb, Signed, Implicit, Flag}
-use Rattle.dwarf_forms.specs.declared.layout.FormLayout.TheVariants.{Present, Text, Sixteen, Counted}
+use Rattle.dwarf_forms.specs.declared.layout.FormLayout.TheVariants.{Fixed, Leb, Signed, Implicit}
+use Rattle.dwarf_forms.specs.declared.layout.FormLayout.TheVariants.{Flag}
+use Rattle.dwarf_forms.specs.declared.layout.FormLayout.TheVariants.{Present, Text, Sixteen}
+use Rattle.dwarf_forms.specs.declared.layout.FormLayout.TheVariants.{Counted}
 use Rattle.dwarf_forms.specs.declared.layout.FormLayout.TheVariants.{LebCounted, Elsewhere}
-use Rattle.dwarf_forms.specs.declared.layout.NumberClass.TheVariants.{Address, Unsigned, Strp, LineStrp}
+use Rattle.dwarf_forms.specs.declared.layout.NumberClass.TheVariants.{Address, Unsigned, Strp}
+use Rattle.dwarf_forms.specs.declared.layout.NumberClass.TheVariants.{LineStrp}
 use Rattle.dwarf_forms.specs.declared.layout.NumberClass.TheVariants.{Strx, Index, UnitRef, InfoRef}
 use Rattle.dwarf_forms.specs.declared.layout.NumberClass.TheVariants.{SecOffset}
 use Rattle.dwarf_forms.specs.declared.layout.BlockClass.TheVariants.{Block, Expr}

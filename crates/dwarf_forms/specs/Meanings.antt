@@ -11,7 +11,8 @@ use Rattle.dwarf_forms.specs.declared.fault.FormFault.{FormFault}
 use Rattle.dwarf_forms.specs.declared.fault.FormFault.TheVariants.{StringOut, StrxOut, AltForm}
 use Rattle.dwarf_forms.specs.declared.fault.FormFault.TheVariants.{WrongClass}
 use Rattle.dwarf_forms.specs.declared.layout.NumberClass.{NumberClass}
-use Rattle.dwarf_forms.specs.declared.layout.NumberClass.TheVariants.{Unsigned, Strp, LineStrp, Strx}
+use Rattle.dwarf_forms.specs.declared.layout.NumberClass.TheVariants.{Unsigned, Strp, LineStrp}
+use Rattle.dwarf_forms.specs.declared.layout.NumberClass.TheVariants.{Strx}
 use Rattle.dwarf_forms.specs.declared.layout.NumberClass.TheVariants.{UnitRef, InfoRef}
 use Rattle.dwarf_forms.specs.declared.layout.BlockClass.{BlockClass}
 use Rattle.dwarf_forms.specs.declared.layout.BlockClass.TheVariants.{Expr}

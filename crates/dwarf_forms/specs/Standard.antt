@@ -9,8 +9,10 @@ use Rattle.dwarf_abbrev.specs.declared.constants.TheConstants.{DW_FORM_implicit_
 use Rattle.dwarf_abbrev.specs.declared.constants.TheConstants.{DW_FORM_indirect}
 use Rattle.dwarf_abbrev.specs.declared.spec.Spec.{Spec}
 use Rattle.dwarf_forms.specs.declared.layout.FormLayout.{FormLayout}
-use Rattle.dwarf_forms.specs.declared.layout.FormLayout.TheVariants.{Fixed, Leb, Signed, Implicit, Flag}
-use Rattle.dwarf_forms.specs.declared.layout.FormLayout.TheVariants.{Present, Text, Sixteen, Counted}
+use Rattle.dwarf_forms.specs.declared.layout.FormLayout.TheVariants.{Fixed, Leb, Signed, Implicit}
+use Rattle.dwarf_forms.specs.declared.layout.FormLayout.TheVariants.{Flag}
+use Rattle.dwarf_forms.specs.declared.layout.FormLayout.TheVariants.{Present, Text, Sixteen}
+use Rattle.dwarf_forms.specs.declared.layout.FormLayout.TheVariants.{Counted}
 use Rattle.dwarf_forms.specs.declared.layout.FormLayout.TheVariants.{LebCounted, Elsewhere}
 use Rattle.dwarf_forms.specs.Forms.{layout_of}
 use Rattle.dwarf_forms.specs.Values.{Plain, Shown, Within}

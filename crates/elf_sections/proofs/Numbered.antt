@@ -7,7 +7,8 @@ use Rattle.elf_sections.specs.declared.numbers.SectionNumbers.{SectionNumbers}
 use Rattle.elf_sections.specs.Numbers.{number_at, with_number}
 use Rattle.elf_sections.specs.Sections.{is_of}
 
-pub with_one : (f : SectionNumbers) (kind other : Kind) (n : ℕ) → number_at (with_number f other n) kind
+pub with_one : (f : SectionNumbers) (kind other : Kind) (n : ℕ)
+    → number_at (with_number f other n) kind
     ≡ (if is_of kind (Some other) then Some n else number_at f kind)
 with_one f Info Info n = refl
 with_one f Info Abbrev n = refl

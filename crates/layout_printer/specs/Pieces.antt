@@ -2,7 +2,8 @@
 use Rattle.std.specs.Prelude.{ℕ, ◌-◌, List, [], ◌∷◌, ◌++◌, decimal, replicate, length, nat_lt}
 use Rattle.std.specs.Prelude.{if◌then◌else◌}
 use Rattle.layout_printer.specs.declared.pieces.LinePiece.{LinePiece}
-use Rattle.layout_printer.specs.declared.pieces.LinePiece.TheVariants.{Text, Left, Number, Wide, Right}
+use Rattle.layout_printer.specs.declared.pieces.LinePiece.TheVariants.{Text, Left, Number, Wide}
+use Rattle.layout_printer.specs.declared.pieces.LinePiece.TheVariants.{Right}
 
 -- so many spaces
 abbrev pub spaces : ℕ → List ℕ

@@ -7,7 +7,8 @@ use Rattle.std.specs.Option.{option_map}
 use Rattle.btf_codec.specs.Spelling.{HasOffset}
 use Rattle.btf_codec.specs.declared.layout.KindLayout.{KindLayout}
 use Rattle.btf_codec.specs.declared.layout.KindLayout.TheVariants.{Int, Link, Array, Forward}
-use Rattle.btf_codec.specs.declared.layout.KindLayout.TheVariants.{TaggedLink, Float, Sized, Prototype}
+use Rattle.btf_codec.specs.declared.layout.KindLayout.TheVariants.{TaggedLink, Float, Sized}
+use Rattle.btf_codec.specs.declared.layout.KindLayout.TheVariants.{Prototype}
 use Rattle.btf_codec.specs.declared.layout.PartLayout.TheVariants.{Member, Enumerator}
 use Rattle.btf_codec.specs.declared.layout.PartLayout.TheVariants.{WideEnumerator, Parameter}
 use Rattle.btf_codec.specs.declared.layout.PartLayout.TheVariants.{Variable}

@@ -40,7 +40,8 @@ up_file p r e = grind (arith, nat_tests)
 up_offset : (p : ℕ × ℕ) (r : NodePlace) → row_is_up_to p r ≡ true → r.file ≡ p.0 → r.at ≤ p.1
 up_offset p r e f = grind (arith, nat_tests)
 
-is_up : (p : ℕ × ℕ) (r : NodePlace) → r.file ≤ p.0 → (r.file ≡ p.0 → r.at ≤ p.1) → row_is_up_to p r ≡ true
+is_up : (p : ℕ × ℕ) (r : NodePlace) → r.file ≤ p.0 → (r.file ≡ p.0 → r.at ≤ p.1)
+    → row_is_up_to p r ≡ true
 is_up p r f a = grind (arith, nat_tests)
 
 -- the number of the last row
@@ -90,7 +91,8 @@ pub kept_by_sort : (old new : List NodePlace) → IsStableByKey place place_cmp 
     → number_in p new ≡ number_in p old
 kept_by_sort old new stable p =
     let x : NodePlace = record { file = p.0; number = 0; at = p.1 } in
-    let same : (y : NodePlace) → ties (λ (a b : NodePlace). is_lt (place_cmp (place a) (place b))) x y
+    let same : (y : NodePlace) → ties
+    (λ (a b : NodePlace). is_lt (place_cmp (place a) (place b))) x y
     ≡ row_is_at p y = λ (y : NodePlace). tie p.0 p.1 y.file y.at in
     of_filter p new
     ∙ ap (number_in p) (sym (filter_agree (ties (λ (a b : NodePlace).
@@ -149,7 +151,8 @@ abbrev pub EndsAt : ℕ × ℕ → List NodePlace → ℕ → Type 0
 EndsAt p rows end =
     IsPartitionPoint (λ r. row_is_up_to p r ≡ true) (λ r. row_is_up_to p r ≡ false) rows end
 
-before : (p : ℕ × ℕ) (x y : NodePlace) → IsNotAfter x y → row_is_up_to p y ≡ true → row_is_at p y ≡ false
+before : (p : ℕ × ℕ) (x y : NodePlace) → IsNotAfter x y → row_is_up_to p y ≡ true
+    → row_is_at p y ≡ false
     → row_is_at p x ≡ false
 before p x y a up away =
     not_there p x (row_is_at p x) refl
@@ -165,7 +168,8 @@ past p x away =
     not_there p x (row_is_at p x) refl (λ (f : x.file ≡ p.0) (g : x.at ≡ p.1). sym away
     ∙ is_up p x (omega (arith, f)) (λ (h : x.file ≡ p.0). omega (arith, g)))
 
-none_at : (p : ℕ × ℕ) (rows : List NodePlace) (end k : ℕ) (d : NodePlace) (t : Bool) → nat_lt k end ≡ t
+none_at : (p : ℕ × ℕ) (rows : List NodePlace) (end k : ℕ) (d : NodePlace) (t : Bool)
+    → nat_lt k end ≡ t
     → IsInOrder rows → EndsAt p rows end → end ≤ length rows → (0 < end → row_is_at p
     (get_or rows (end - 1) d) ≡ false) → k < length rows → row_is_at p (get_or rows k d) ≡ false
 none_at p rows end k d true e order ends le away l =
@@ -176,14 +180,16 @@ none_at p rows end k d false e order ends le away l =
     let ge : end ≤ k = ltb-false k end e in
     past p (get_or rows k d) (ends.1 k d ge l)
 
-pub nowhere : (p : ℕ × ℕ) (rows : List NodePlace) (end : ℕ) (d : NodePlace) → IsInOrder rows → EndsAt p rows end
+pub nowhere : (p : ℕ × ℕ) (rows : List NodePlace) (end : ℕ) (d : NodePlace) → IsInOrder rows
+    → EndsAt p rows end
     → end ≤ length rows → (0 < end → row_is_at p (get_or rows (end - 1) d) ≡ false)
     → number_in p rows ≡ None
 nowhere p rows end d order ends le away = none_in p rows d (λ (k : ℕ) (l : k < length rows).
     none_at p rows end k d (nat_lt k end) refl order ends le away l)
 
 -- rows in order are parted by a place
-pub parted : (p : ℕ × ℕ) (rows : List NodePlace) → IsInOrder rows → IsPartitionedBy (row_is_up_to p) rows
+pub parted : (p : ℕ × ℕ) (rows : List NodePlace) → IsInOrder rows
+    → IsPartitionedBy (row_is_up_to p) rows
 parted p rows order i j d le lt up =
     let x = get_or rows i d in
     let y = get_or rows j d in
