@@ -1,5 +1,6 @@
 //! What calls ask of a graph, tested.
-ghost use Rattle.std.specs.Prelude.{◌≡◌, ◌<◌, ◌^◌, ℕ, All, Some, length, IsTrue, IfSome};
+ghost use Rattle.std.specs.Prelude.{◌≡◌, ◌↔◌, ◌<◌, ◌≤◌, ◌^◌, ℕ, All, Some, length, take, IsTrue};
+ghost use Rattle.std.specs.Prelude.{get_or, IfSome, IsSome};
 ghost use Rattle.c_model.specs.Graph.{IsBelow, RefersWithin};
 ghost use Rattle.std.specs.Option.{option_copied};
 ghost use Rattle.btf_strings.specs.Kept.{IsSection};
@@ -23,7 +24,7 @@ const MOST: usize = 4_000_000;
 
 /// Whether a target is void or a node below `limit`.
 fn is_below(limit: u32, target: Ref) -> bool
-    ensures { IsTrue result → IsBelow limit target }
+    ensures { IsTrue result ↔ IsBelow limit target }
 {
     match target {
         Ref::Void => true,
@@ -33,7 +34,7 @@ fn is_below(limit: u32, target: Ref) -> bool
 
 /// Whether each target is void or a node below `limit`.
 pub fn are_below(limit: u32, targets: &[Ref]) -> bool
-    ensures { IsTrue result → All (IsBelow limit) targets.now }
+    ensures { IsTrue result ↔ All (IsBelow limit) targets.now }
 {
     for target in targets {
         if !is_below(limit, *target) {
@@ -45,7 +46,7 @@ pub fn are_below(limit: u32, targets: &[Ref]) -> bool
 
 /// Whether each reference of these types is void or to a node below `limit`.
 pub fn refer_below(limit: u32, nodes: &[CType<'_>]) -> bool
-    ensures { IsTrue result → RefersWithin limit nodes.now }
+    ensures { IsTrue result ↔ RefersWithin limit nodes.now }
 {
     for node in nodes {
         if !are_below(limit, node.targets.items()) {
@@ -59,6 +60,8 @@ pub fn refer_below(limit: u32, nodes: &[CType<'_>]) -> bool
 pub fn refer_to_one_another(types: &[CType<'_>]) -> bool
     ensures few { IsTrue result → length types.now < 2 ^ 31 }
     ensures within { IsTrue result → RefersWithin (length types.now) types.now }
+    ensures told { length types.now ≤ 4_000_000 → RefersWithin (length types.now) types.now
+        → IsTrue result }
 {
     types.len() <= MOST && refer_below(types.len() as u32, types)
 }
@@ -66,7 +69,10 @@ pub fn refer_to_one_another(types: &[CType<'_>]) -> bool
 /// The graph of these types, the first `base` of them those of a base. `None` where a reference
 /// leaves it.
 pub fn graph_from<'a>(base: u32, nodes: Vec<CType<'a>>) -> Option<Graph<'a>>
-    ensures { IfSome result (λ g. (g.base ≡ base) × (g.nodes ≡ nodes.entry.items)) }
+    ensures graph { IfSome result (λ g. (g.base ≡ base) × (g.nodes ≡ nodes.entry.items)) }
+    ensures some { base ≤ length nodes.entry.items → length nodes.entry.items ≤ 4_000_000
+        → RefersWithin (length nodes.entry.items) nodes.entry.items
+        → RefersWithin base (take base nodes.entry.items) → IsSome result }
 {
     if base as usize > nodes.len() || !refer_to_one_another(&nodes) {
         return None;
@@ -80,7 +86,7 @@ pub fn graph_from<'a>(base: u32, nodes: Vec<CType<'a>>) -> Option<Graph<'a>>
 /// Whether a declaration has no targets.
 fn is_leaf(graph: &Graph<'_>, x: u32) -> bool
     requires { x < length graph.now.nodes }
-    ensures { IsTrue result → ((tag : Tag) → declaration_at graph.now.nodes x ≡ Some tag
+    ensures { IsTrue result ↔ ((tag : Tag) → declaration_at graph.now.nodes x ≡ Some tag
         → length (targets_at graph.now.nodes x) ≡ 0) }
 {
     let node = graph.node(x);
@@ -91,7 +97,7 @@ fn is_leaf(graph: &Graph<'_>, x: u32) -> bool
 fn is_like(graph: &Graph<'_>, x: u32, y: u32) -> bool
     requires x { x < length graph.now.nodes }
     requires y { y < length graph.now.nodes }
-    ensures { IsTrue result → ((tag : Tag) → forward_at graph.now x ≡ Some tag → forward_at
+    ensures { IsTrue result ↔ ((tag : Tag) → forward_at graph.now x ≡ Some tag → forward_at
         graph.now y ≡ Some tag → label_at graph.now.nodes x ≡ label_at graph.now.nodes y) }
 {
     let (a, b) = (&graph.node(x).label, &graph.node(y).label);
@@ -105,7 +111,7 @@ fn is_like(graph: &Graph<'_>, x: u32, y: u32) -> bool
 /// Whether all forwards of node `x`'s tag have its label, or it is no forward.
 fn are_like(graph: &Graph<'_>, x: u32) -> bool
     requires { x < length graph.now.nodes }
-    ensures { IsTrue result → ((y : ℕ) (tag : Tag) → y < length graph.now.nodes
+    ensures { IsTrue result ↔ ((y : ℕ) (tag : Tag) → y < length graph.now.nodes
         → forward_at graph.now x ≡ Some tag → forward_at graph.now y ≡ Some tag
         → label_at graph.now.nodes x ≡ label_at graph.now.nodes y) }
 {
@@ -122,7 +128,7 @@ fn are_like(graph: &Graph<'_>, x: u32) -> bool
 
 /// Whether declarations refer to nothing, and forwards of one tag have one label.
 pub fn is_fitting(graph: &Graph<'_>) -> bool
-    ensures { IsTrue result → HasFittingForwards graph.now }
+    ensures { IsTrue result ↔ HasFittingForwards graph.now }
 {
     for x in 0..graph.len() {
         if !is_leaf(graph, x) || !are_like(graph, x) {
@@ -134,7 +140,7 @@ pub fn is_fitting(graph: &Graph<'_>) -> bool
 
 /// Whether a name has no byte NUL.
 pub fn is_text(name: &Name<'_>) -> bool
-    ensures { IsTrue result → HasNoNul name.now }
+    ensures { IsTrue result ↔ HasNoNul name.now }
 {
     for byte in name.bytes() {
         if *byte == 0 {
@@ -205,7 +211,7 @@ fn row_at(kind: u8) -> Option<KindRow>
 
 /// Whether the names of these parts have no byte NUL, and their values are words.
 fn are_words(parts: &[Part<'_>]) -> bool
-    ensures { IsTrue result → All (λ p. HasNoNul p.name × (p.value < 2 ^ 32)) parts.now }
+    ensures { IsTrue result ↔ All (λ p. HasNoNul p.name × (p.value < 2 ^ 32)) parts.now }
 {
     for part in parts {
         if !is_text(&part.name) || part.value > 0xffff_ffff {
@@ -253,7 +259,9 @@ pub fn are_formed(nodes: &[CType<'_>]) -> bool
 
 /// Whether these are the strings of a base, or there is none.
 pub fn is_base(names: Option<&[u8]>) -> bool
-    ensures { IsTrue result → IfSome (option_copied names.entry) IsSection }
+    ensures section { IsTrue result → IfSome (option_copied names.entry) IsSection }
+    ensures told { IfSome (option_copied names.entry) (λ s. (0 < length s) × (length s < 1000)
+        × (get_or s 0 1 ≡ 0)) → IsTrue result }
 {
     match names {
         None => true,

@@ -1,4 +1,4 @@
-use Rattle.std.proofs.Common.{take}
+use Rattle.std.proofs.Common.{take, refl}
 use Rattle.std.proofs.lemmas.List.{take_more, take_all}
 use Rattle.std.proofs.lemmas.List.Elements.{All-push}
 use Rattle.c_model.specs.Graph.{IsBelow}
@@ -9,8 +9,11 @@ pub loop-target-preserved : goal.loop-target-preserved
 loop-target-preserved c =
     rw (take_more c.args.targets.now c.loop-target.target-index Void c.loop-target-test.true)
     (All-push (IsBelow c.args.limit) (take c.loop-target.target-index c.args.targets.now) _
-    c.loop-target.invariant (c.is_below.ensures c.if-not-is_below.false))
+    c.loop-target.invariant (c.is_below.ensures.0 c.if-not-is_below.false))
 
 pub returns : goal.returns
-returns c t = rw (take_all c.loop-target.target-index c.args.targets.now c.loop-target-test.false)
-    at c.loop-target.invariant
+returns c = (
+  λ t. rw (take_all c.loop-target.target-index c.args.targets.now c.loop-target-test.false)
+      at c.loop-target.invariant,
+  λ all. refl,
+)
