@@ -12,7 +12,7 @@ use crate::protos::{Func, func_at};
 use c_model::kinds::BTF_KIND_FUNC;
 use c_model::{Label, Parts, Ref, TypeGraph, copy_of_label};
 use dw_base::Name;
-use packed_graph::PackedNodes;
+use packed_graph::{PackedNodes, targets_of};
 use std::alloc::{AllocError, Global};
 
 /// The linkage of a function that other units can't call.
@@ -20,23 +20,6 @@ const BTF_FUNC_STATIC: u32 = 0;
 
 /// The linkage of a function that other units can call.
 const BTF_FUNC_GLOBAL: u32 = 1;
-
-/// The targets of a node.
-fn targets_of<'a, G: TypeGraph<'a>>(
-    alloc: Global,
-    graph: &G,
-    x: u32,
-) -> Result<Vec<Ref>, AllocError>
-    requires { x < length (G.shape graph.now).nodes }
-    ensures { IfOk result (λ v. v.items ≡ targets_at (G.shape graph.now).nodes x) }
-{
-    let count = graph.target_count(x);
-    let mut targets = Vec::with_capacity(alloc, count)?;
-    for i in 0..count {
-        targets.push(graph.target(x, i))?;
-    }
-    Ok(targets)
-}
 
 /// Appends a second copy of a node.
 fn push_node<'a, G: TypeGraph<'a>>(

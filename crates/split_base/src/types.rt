@@ -7,6 +7,7 @@ ghost use Rattle.split_base.specs.Building.{type_by};
 ghost use Rattle.split_base.specs.Table.{renamed};
 
 use c_model::{CType, Ref, Refs, TypeGraph, copy_of_label};
+use packed_graph::node_of;
 use std::alloc::{AllocError, Global};
 
 /// The base's types as they are, and behind them a type for each source, by the places of the
@@ -41,29 +42,9 @@ fn base_types<'a, G: TypeGraph<'a>>(
     let base = graph.base();
     let mut types = Vec::with_capacity(alloc, (base as usize).saturating_add(more))?;
     for x in 0..base {
-        types.push(base_node(alloc, graph, x)?)?;
+        types.push(node_of(alloc, graph, x)?)?;
     }
     Ok(types)
-}
-
-/// A node as it is.
-fn base_node<'a, G: TypeGraph<'a>>(
-    alloc: Global,
-    graph: &G,
-    x: u32,
-) -> Result<CType<'a>, AllocError>
-    requires { x < length (G.shape graph.now).nodes }
-    ensures { IfOk result (λ t. slice_get (G.shape graph.now).nodes x ≡ Some t) }
-{
-    let count = graph.target_count(x);
-    let mut targets = Vec::with_capacity(alloc, count)?;
-    for i in 0..count {
-        targets.push(graph.target(x, i))?;
-    }
-    Ok(CType {
-        label: copy_of_label(alloc, graph.label(x))?,
-        targets: Refs::new(targets),
-    })
 }
 
 /// A node as a type of the table: its label, and its targets as the types of their classes.
