@@ -5,7 +5,7 @@ use Rattle.std.proofs.Common.{subst, arith, cond, All, inl, inr, ◌⊎◌}
 use Rattle.std.specs.List.{AllByRecursion, cons_option, filter_map, flat_map, slice_get}
 use Rattle.std.specs.Option.{option_map, option_or, option_map_or}
 use Rattle.std.proofs.lemmas.Bool.{lt-ltb, le-ltb}
-use Rattle.std.proofs.lemmas.List.{take_rest, length-map}
+use Rattle.std.proofs.lemmas.List.{take_rest}
 use Rattle.std.proofs.lemmas.List.Elements.{All-from_recursion}
 use Rattle.std.proofs.lemmas.Option.{get_or_from_slice_get, slice_get_within}
 use Rattle.btf_codec.specs.Fields.{fields_of}
@@ -21,7 +21,8 @@ use Rattle.split_base.specs.declared.fault.TableFault.TheVariants.{TableTooLong,
 use Rattle.split_base.specs.Table.{own_firsts, place_of, source_of, renamed, renamed_type, type_of}
 use Rattle.split_base.specs.Table.{own_types, table_of}
 use Rattle.split_base.specs.Refusals.{strings_of, types_refusal, names_refusal, length_refusal}
-use Rattle.split_base.specs.Refusals.{table_refusal}
+use Rattle.split_base.specs.Refusals.{table_refusal, total_length}
+use Rattle.split_base.proofs.Formed.{retargeted_formed}
 use Rattle.split_base.proofs.Tables.{own_of_table, place_of-below}
 
 -- what holds of each type that a number gives
@@ -40,20 +41,6 @@ renamed_within : (n m : ℕ) (f : ℕ → ℕ) → ((x : ℕ) → x < n → f x 
 renamed_within n m f h [] b = tt
 renamed_within n m f h (Void ∷ ts) b = (tt, renamed_within n m f h ts b.1)
 renamed_within n m f h (Node x ∷ ts) b = (h x b.0, renamed_within n m f h ts b.1)
-
--- a renamed type is of the form that it had
-renamed_formed : (f : ℕ → ℕ) (t : CType) → IsWellFormed t → IsWellFormed (renamed_type f t)
-renamed_formed f t w = record {
-  row = w.row;
-  of_kind = w.of_kind;
-  name = w.name;
-  flag = w.flag;
-  size = w.size;
-  extra = w.extra;
-  targets = length-map t.targets (renamed f) ∙ w.targets;
-  few = w.few;
-  parts = w.parts;
-}
 
 module _ (g : Shape) (p : List ℕ) (covers : length p ≡ length g.nodes)
     (fits : g.base ≤ length g.nodes) where
@@ -106,7 +93,7 @@ module _ (g : Shape) (p : List ℕ) (covers : length p ≡ length g.nodes)
               let is : renamed_type (place_of g p) u ≡ t = cc in
               let at : get_or g.nodes (source_of g p x) u ≡ u =
               get_or_from_slice_get g.nodes (source_of g p x) u u a in
-              subst IsWellFormed is (renamed_formed (place_of g p) u (subst IsWellFormed at
+              subst IsWellFormed is (retargeted_formed (renamed (place_of g p)) u (subst IsWellFormed at
               (formed (source_of g p x) u (slice_get_within g.nodes (source_of g p x) u a))))
 
 -- the refusals of a table
@@ -128,23 +115,32 @@ module _ (base : Option (List ℕ)) (g : Shape) (p : List ℕ) where
       (option_or (names_refusal base (own_types g p)) (length_refusal base (own_types g p)))) t
       ∙ ap (λ (o : Option TableFault). option_or o (length_refusal base (own_types g p))) h)
 
+  -- where the types and the names fit, the length alone refuses
+  length_decides : types_refusal (length (table_of g p)) ≡ None
+      → names_refusal base (own_types g p) ≡ None
+      → table_refusal base g p ≡ length_refusal base (own_types g p)
+  unfolding table_refusal
+  length_decides t n =
+      ap (λ (o : Option TableFault). option_or o
+      (option_or (names_refusal base (own_types g p)) (length_refusal base (own_types g p)))) t
+      ∙ ap (λ (o : Option TableFault). option_or o (length_refusal base (own_types g p))) n
+
+  -- the strings that were put make the length
+  length_of_strings : (strings : Names) → strings ≡ strings_of base (own_types g p)
+      → 4 * length (flat_map fields_of (own_types g p)) + length (own_section strings)
+      ≡ total_length base (own_types g p)
+  length_of_strings strings s =
+      ap (λ (v : Names). 4 * length (flat_map fields_of (own_types g p)) + length (own_section v)) s
+
   pub refused_length : (e : TableFault) (strings : Names) → types_refusal (length (table_of g p))
       ≡ None → names_refusal base (own_types g p) ≡ None → strings ≡ strings_of base (own_types g p)
       → 2 ^ 32 ≤ 4 * length (flat_map fields_of (own_types g p)) + length (own_section strings)
       → e ≡ TableTooLong (4 * length (flat_map fields_of (own_types g p))
       + length (own_section strings)) → table_refusal base g p ≡ Some e
-  unfolding table_refusal
   refused_length e strings t n s far is =
-      let total : 4 * length (flat_map fields_of (own_types g p)) + length (own_section strings)
-      ≡ 4 * length (flat_map fields_of (own_types g p))
-      + length (own_section (strings_of base (own_types g p))) =
-      ap (λ (v : Names).
-      4 * length (flat_map fields_of (own_types g p)) + length (own_section v)) s in
-      let long : ℕ = 4 * length (flat_map fields_of (own_types g p))
-      + length (own_section (strings_of base (own_types g p))) in
-      ap (λ (o : Option TableFault). option_or o
-      (option_or (names_refusal base (own_types g p)) (length_refusal base (own_types g p)))) t
-      ∙ ap (λ (o : Option TableFault). option_or o (length_refusal base (own_types g p))) n
+      let total = length_of_strings strings s in
+      let long : ℕ = total_length base (own_types g p) in
+      length_decides t n
       ∙ ap (λ (b : Bool). cond b (Some (TableTooLong long)) None)
       (lt-ltb (2 ^ 32 - 1) long (omega arith))
       ∙ ap (λ (k : ℕ). Some (TableTooLong k)) (sym total)
@@ -154,17 +150,8 @@ module _ (base : Option (List ℕ)) (g : Shape) (p : List ℕ) where
       → names_refusal base (own_types g p) ≡ None → strings ≡ strings_of base (own_types g p)
       → 4 * length (flat_map fields_of (own_types g p)) + length (own_section strings) < 2 ^ 32
       → table_refusal base g p ≡ None
-  unfolding table_refusal
   not_refused strings t n s near =
-      let total : 4 * length (flat_map fields_of (own_types g p)) + length (own_section strings)
-      ≡ 4 * length (flat_map fields_of (own_types g p))
-      + length (own_section (strings_of base (own_types g p))) =
-      ap (λ (v : Names).
-      4 * length (flat_map fields_of (own_types g p)) + length (own_section v)) s in
-      let long : ℕ = 4 * length (flat_map fields_of (own_types g p))
-      + length (own_section (strings_of base (own_types g p))) in
-      ap (λ (o : Option TableFault). option_or o
-      (option_or (names_refusal base (own_types g p)) (length_refusal base (own_types g p)))) t
-      ∙ ap (λ (o : Option TableFault). option_or o (length_refusal base (own_types g p))) n
-      ∙ ap (λ (b : Bool). cond b (Some (TableTooLong long)) None)
+      let total = length_of_strings strings s in
+      let long : ℕ = total_length base (own_types g p) in
+      length_decides t n ∙ ap (λ (b : Bool). cond b (Some (TableTooLong long)) None)
       (le-ltb (2 ^ 32 - 1) long (omega arith))

@@ -51,6 +51,14 @@ no_forward g d tag e = by (forward_at g d) refl
 
 module _ (g : Shape) (index : List (List ℕ)) (ix : IsIndexOf g index) (fit : HasFittingForwards g)
     (p : List ℕ) (a : AgreesWith g index p) where
+  -- the first node of a class is one of the graph's, and of the class
+  first_within : (x : ℕ) → x < length g.nodes
+      → (first_of p x < length g.nodes) × (get_or p (first_of p x) 0 ≡ get_or p x 0)
+  first_within x hx = (
+    omega (arith, first_of-below p x (omega (arith, a.covers)), a.covers),
+    first_of-class p x (omega (arith, a.covers)),
+  )
+
   -- what gives a class its type is of the class, and stands for itself
   source-class : (x : ℕ) → x < length g.nodes → (source_of g p x < length g.nodes) × (get_or p
       (source_of g p x) 0 ≡ get_or p x 0) × (stands_for index p (source_of g p x) ≡ source_of g p x)
@@ -60,10 +68,10 @@ module _ (g : Shape) (index : List (List ℕ)) (ix : IsIndexOf g index) (fit : H
       f = first_of p x
 
       fb : f < length g.nodes
-      fb = omega (arith, first_of-below p x (omega (arith, a.covers)), a.covers)
+      fb = (first_within x hx).0
 
       fc : get_or p f 0 ≡ get_or p x 0
-      fc = first_of-class p x (omega (arith, a.covers))
+      fc = (first_within x hx).1
 
       alone : ((k : ℕ) → k < length g.nodes → is_plain g p x k ≡ false)
           → (definitions_in index f ≡ []) ⊎ IsOpen index f → stands_for index p f ≡ f
@@ -166,12 +174,6 @@ module _ (g : Shape) (index : List (List ℕ)) (ix : IsIndexOf g index) (fit : H
         f : ℕ
         f = first_of p x
 
-        fb : f < length g.nodes
-        fb = omega (arith, first_of-below p x (omega (arith, a.covers)), a.covers)
-
-        fc : get_or p f 0 ≡ get_or p x 0
-        fc = first_of-class p x (omega (arith, a.covers))
-
         r : ℕ
         r = source_of g p x
 
@@ -180,7 +182,8 @@ module _ (g : Shape) (index : List (List ℕ)) (ix : IsIndexOf g index) (fit : H
             → unfold_with g.nodes index p (suc n) x ≡ unfold_at types (suc n) (place_of g p x)
         by (inl lt) ih =
             let is : place_of g p x ≡ f = base_place g p a.covers x lt in
-            unfold_with-class g index ix fit p a sound.within (suc n) x f h fb (sym fc)
+            let w = first_within x h in
+            unfold_with-class g index ix fit p a sound.within (suc n) x f h w.0 (sym w.1)
             ∙ (unfold_with-base (suc n) f lt ∙ ap (unfold_at types (suc n)) (sym is))
         by (inr le) ih =
             let w = source-class x h in

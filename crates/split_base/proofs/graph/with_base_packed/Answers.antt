@@ -7,43 +7,42 @@ use Rattle.c_model.specs.Kinds.{IsWellFormed}
 use Rattle.split_base.specs.Graphs.{joined}
 use Rattle.split_base.proofs.Bases.{joined_fits, joined_formed}
 use Rattle.split_base.proofs.Joining.{base_of_joined, joined-packed, joined_within}
+use Rattle.split_base.proofs.graph.with_base_packed.Goals.{In_ok-nodes}
 use Rattle.split_base.proofs.graph.with_base_packed.Goals as goal
 
-pub new-requires-clause-within : goal.new-requires-clause-within
-new-requires-clause-within c =
-    let is : c.in_ok-nodes.nodes ≡ joined c.args.table.now.types c.args.graph.nodes =
+-- all nodes are the types of the base and the graph's own
+all_joined : (c : In_ok-nodes)
+    → c.in_ok-nodes.nodes ≡ joined c.args.table.now.types c.args.graph.nodes
+all_joined c =
     joined-packed c.args.table.now.types c.args.graph.nodes c.in_ok-packed_types.field-0
     c.into_nodes-own.result c.in_ok-nodes.nodes
     (c.in_ok-packed_types.ensures
-    ∙ c.items-types.ensures) c.into_nodes-own.ensures c.in_ok-nodes.ensures in
-    subst (λ (all : List CType). RefersWithin (length all) all) (sym is)
+    ∙ c.items-types.ensures) c.into_nodes-own.ensures c.in_ok-nodes.ensures
+
+-- the base nodes are as many as the types of the base
+base_counted : (c : In_ok-nodes) → c.in_ok-base.base ≡ length c.args.table.now.types
+base_counted c = c.in_ok-base.ensures.count ∙ ap length c.items-types.ensures
+
+pub new-requires-clause-within : goal.new-requires-clause-within
+new-requires-clause-within c =
+    subst (λ (all : List CType). RefersWithin (length all) all) (sym (all_joined c))
     (joined_within c.args.table.now.types c.args.graph.nodes c.requires.within
     c.len.ensures.sound.within)
 
 pub new-requires-clause-base_within : goal.new-requires-clause-base_within
 new-requires-clause-base_within c =
-    let is : c.in_ok-nodes.nodes ≡ joined c.args.table.now.types c.args.graph.nodes =
-    joined-packed c.args.table.now.types c.args.graph.nodes c.in_ok-packed_types.field-0
-    c.into_nodes-own.result c.in_ok-nodes.nodes
-    (c.in_ok-packed_types.ensures
-    ∙ c.items-types.ensures) c.into_nodes-own.ensures c.in_ok-nodes.ensures in
-    let base : c.in_ok-base.base ≡ length c.args.table.now.types =
-    c.in_ok-base.ensures.count ∙ ap length c.items-types.ensures in
-    subst (λ (n : ℕ). RefersWithin n (take n c.in_ok-nodes.nodes)) (sym base)
+    subst (λ (n : ℕ). RefersWithin n (take n c.in_ok-nodes.nodes)) (sym (base_counted c))
     (subst (RefersWithin (length c.args.table.now.types))
-    (sym (ap (take (length c.args.table.now.types)) is
+    (sym (ap (take (length c.args.table.now.types)) (all_joined c)
     ∙ base_of_joined c.args.table.now.types c.args.graph.nodes)) c.requires.within)
 
 pub returns-clause-whole : goal.returns-clause-whole
 returns-clause-whole c =
-    let is : c.in_ok-nodes.nodes ≡ joined c.args.table.now.types c.args.graph.nodes =
-    joined-packed c.args.table.now.types c.args.graph.nodes c.in_ok-packed_types.field-0
-    c.into_nodes-own.result c.in_ok-nodes.nodes
-    (c.in_ok-packed_types.ensures
-    ∙ c.items-types.ensures) c.into_nodes-own.ensures c.in_ok-nodes.ensures in
-    let base : c.in_ok-base.base ≡ length c.args.table.now.types =
-    c.in_ok-base.ensures.count ∙ ap length c.items-types.ensures in
-    λ i. record { base = (c.new.ensures.base ∙ base) i; nodes = (c.new.ensures.nodes ∙ is) i }
+    let at = (goal.at.returns-clause-whole c).In_ok-nodes in
+    λ i. record {
+      base = (c.new.ensures.base ∙ base_counted at) i;
+      nodes = (c.new.ensures.nodes ∙ all_joined at) i;
+    }
 
 pub returns-clause-formed : goal.returns-clause-formed
 returns-clause-formed c types nodes =

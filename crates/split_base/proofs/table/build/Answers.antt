@@ -12,7 +12,26 @@ use Rattle.split_base.specs.Table.{own_types, table_of}
 use Rattle.split_base.specs.Refusals.{names_refusal, table_refusal}
 use Rattle.split_base.proofs.Owning.{own_drop, own_slice, own_within, own_formed, refused_types}
 use Rattle.split_base.proofs.Owning.{refused_names, refused_length, not_refused}
+use Rattle.split_base.proofs.table.build.Given.{Over}
+use Rattle.split_base.proofs.table.build.Goals.{After-deref, After-new}
 use Rattle.split_base.proofs.table.build.Goals as goal
+
+-- the types whose names are put are the own ones
+own_given : (b : Over) (c : After-deref b) → take (length c.deref.result.now - c.base-base.result)
+    (drop c.base-base.result c.deref.result.now)
+    ≡ own_types (b.G.TypeGraph.shape c.args.graph.now) c.args.classes.now
+own_given b c =
+    own_slice (b.G.TypeGraph.shape c.args.graph.now) c.args.classes.now c.requires.covers
+    c.base-base.ensures.sound.fits c.base-base.result c.deref.result.now
+    c.base-base.ensures.base (c.deref.ensures.value ∙ c.in_ok-types.ensures.table)
+
+-- behind the base the table has the own types
+own_made : (b : Over) (c : After-new b) → drop c.base-base.result c.new.result
+    ≡ own_types (b.G.TypeGraph.shape c.args.graph.now) c.args.classes.now
+own_made b c =
+    own_drop (b.G.TypeGraph.shape c.args.graph.now) c.args.classes.now c.requires.covers
+    c.base-base.ensures.sound.fits c.base-base.result c.new.result c.base-base.ensures.base
+    (c.new.ensures ∙ c.in_ok-types.ensures.table)
 
 pub returns-in_err-types-clause-refusal : goal.returns-in_err-types-clause-refusal
 returns-in_err-types-clause-refusal b c =
@@ -27,11 +46,7 @@ pub returns-in_err-strings-clause-refusal : goal.returns-in_err-strings-clause-r
 returns-in_err-strings-clause-refusal b c =
     let gone : c.from_residual-in_err-strings.result ≡ Err c.in_err-strings.field-0.0 =
     search rules in
-    let own : take (length c.deref.result.now - c.base-base.result) (drop c.base-base.result
-    c.deref.result.now) ≡ own_types (b.G.TypeGraph.shape c.args.graph.now) c.args.classes.now =
-    own_slice (b.G.TypeGraph.shape c.args.graph.now) c.args.classes.now c.requires.covers
-    c.base-base.ensures.sound.fits c.base-base.result c.deref.result.now
-    c.base-base.ensures.base (c.deref.ensures.value ∙ c.in_ok-types.ensures.table) in
+    let own = own_given b (goal.at.returns-in_err-strings-clause-refusal b c).After-deref in
     subst (λ (r : Result TableOut TableFault).
     IfErr r (λ (e : TableFault). (e ≡ Memory) ⊎ (table_refusal (option_copied c.args.base_names)
     (b.G.TypeGraph.shape c.args.graph.now) c.args.classes.now ≡ Some e))) (sym gone)
@@ -43,11 +58,7 @@ returns-in_err-strings-clause-refusal b c =
 
 pub check_length-requires-clause-formed : goal.check_length-requires-clause-formed
 check_length-requires-clause-formed b c =
-    let own : take (length c.deref.result.now - c.base-base.result) (drop c.base-base.result
-    c.deref.result.now) ≡ own_types (b.G.TypeGraph.shape c.args.graph.now) c.args.classes.now =
-    own_slice (b.G.TypeGraph.shape c.args.graph.now) c.args.classes.now c.requires.covers
-    c.base-base.ensures.sound.fits c.base-base.result c.deref.result.now
-    c.base-base.ensures.base (c.deref.ensures.value ∙ c.in_ok-types.ensures.table) in
+    let own = own_given b (goal.at.check_length-requires-clause-formed b c).After-deref in
     subst (All IsWellFormed) (sym own) (own_formed (b.G.TypeGraph.shape c.args.graph.now)
     c.args.classes.now c.requires.covers c.base-base.ensures.sound.fits c.requires.well)
 
@@ -55,11 +66,7 @@ pub returns-in_err-check_length-clause-refusal : goal.returns-in_err-check_lengt
 returns-in_err-check_length-clause-refusal b c =
     let gone : c.from_residual-in_err-check_length.result ≡ Err c.in_err-check_length.field-0.0 =
     search rules in
-    let own : take (length c.deref.result.now - c.base-base.result) (drop c.base-base.result
-    c.deref.result.now) ≡ own_types (b.G.TypeGraph.shape c.args.graph.now) c.args.classes.now =
-    own_slice (b.G.TypeGraph.shape c.args.graph.now) c.args.classes.now c.requires.covers
-    c.base-base.ensures.sound.fits c.base-base.result c.deref.result.now
-    c.base-base.ensures.base (c.deref.ensures.value ∙ c.in_ok-types.ensures.table) in
+    let own = own_given b (goal.at.returns-in_err-check_length-clause-refusal b c).After-deref in
     let told = rw own at c.in_err-check_length.ensures.refusal in
     subst (λ (r : Result TableOut TableFault).
     IfErr r (λ (e : TableFault). (e ≡ Memory) ⊎ (table_refusal (option_copied c.args.base_names)
@@ -72,16 +79,8 @@ returns-in_err-check_length-clause-refusal b c =
 
 pub returns-clause-offsets : goal.returns-clause-offsets
 returns-clause-offsets b c =
-    let own : take (length c.deref.result.now - c.base-base.result) (drop c.base-base.result
-    c.deref.result.now) ≡ own_types (b.G.TypeGraph.shape c.args.graph.now) c.args.classes.now =
-    own_slice (b.G.TypeGraph.shape c.args.graph.now) c.args.classes.now c.requires.covers
-    c.base-base.ensures.sound.fits c.base-base.result c.deref.result.now
-    c.base-base.ensures.base (c.deref.ensures.value ∙ c.in_ok-types.ensures.table) in
-    let rest : drop c.base-base.result c.new.result
-    ≡ own_types (b.G.TypeGraph.shape c.args.graph.now) c.args.classes.now =
-    own_drop (b.G.TypeGraph.shape c.args.graph.now) c.args.classes.now c.requires.covers
-    c.base-base.ensures.sound.fits c.base-base.result c.new.result c.base-base.ensures.base
-    (c.new.ensures ∙ c.in_ok-types.ensures.table) in
+    let own = own_given b (goal.at.returns-clause-offsets b c).After-deref in
+    let rest = own_made b (goal.at.returns-clause-offsets b c).After-new in
     subst (All (HasOffsets c.in_ok-strings.strings))
     (own ∙ sym rest) c.in_ok-strings.ensures.offsets
 
@@ -89,11 +88,7 @@ pub returns-clause-within : goal.returns-clause-within
 returns-clause-within b c =
     let is : c.new.result ≡ table_of (b.G.TypeGraph.shape c.args.graph.now) c.args.classes.now =
     c.new.ensures ∙ c.in_ok-types.ensures.table in
-    let rest : drop c.base-base.result c.new.result
-    ≡ own_types (b.G.TypeGraph.shape c.args.graph.now) c.args.classes.now =
-    own_drop (b.G.TypeGraph.shape c.args.graph.now) c.args.classes.now c.requires.covers
-    c.base-base.ensures.sound.fits c.base-base.result c.new.result
-    c.base-base.ensures.base is in
+    let rest = own_made b (goal.at.returns-clause-within b c).After-new in
     subst (λ (ts : List CType). RefersWithin (length c.new.result) ts) (sym rest)
     (subst (λ (ts : List CType). RefersWithin (length ts)
     (own_types (b.G.TypeGraph.shape c.args.graph.now) c.args.classes.now)) (sym is)
@@ -102,21 +97,13 @@ returns-clause-within b c =
 
 pub returns-clause-formed : goal.returns-clause-formed
 returns-clause-formed b c =
-    let rest : drop c.base-base.result c.new.result
-    ≡ own_types (b.G.TypeGraph.shape c.args.graph.now) c.args.classes.now =
-    own_drop (b.G.TypeGraph.shape c.args.graph.now) c.args.classes.now c.requires.covers
-    c.base-base.ensures.sound.fits c.base-base.result c.new.result c.base-base.ensures.base
-    (c.new.ensures ∙ c.in_ok-types.ensures.table) in
+    let rest = own_made b (goal.at.returns-clause-formed b c).After-new in
     subst (All IsWellFormed) (sym rest) (own_formed (b.G.TypeGraph.shape c.args.graph.now)
     c.args.classes.now c.requires.covers c.base-base.ensures.sound.fits c.requires.well)
 
 pub returns-clause-accepted : goal.returns-clause-accepted
 returns-clause-accepted b c =
-    let own : take (length c.deref.result.now - c.base-base.result) (drop c.base-base.result
-    c.deref.result.now) ≡ own_types (b.G.TypeGraph.shape c.args.graph.now) c.args.classes.now =
-    own_slice (b.G.TypeGraph.shape c.args.graph.now) c.args.classes.now c.requires.covers
-    c.base-base.ensures.sound.fits c.base-base.result c.deref.result.now
-    c.base-base.ensures.base (c.deref.ensures.value ∙ c.in_ok-types.ensures.table) in
+    let own = own_given b (goal.at.returns-clause-accepted b c).After-deref in
     not_refused (option_copied c.args.base_names) (b.G.TypeGraph.shape c.args.graph.now)
     c.args.classes.now c.in_ok-strings.strings c.in_ok-types.ensures.accepted
     (rw own at c.in_ok-strings.ensures.accepted) (rw own at c.in_ok-strings.ensures.strings)

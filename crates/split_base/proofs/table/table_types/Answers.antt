@@ -9,14 +9,14 @@ use Rattle.split_base.specs.Table.{table_of}
 use Rattle.split_base.proofs.Tables.{length-table_of}
 use Rattle.split_base.proofs.Making.{nodes_length, places_within, firsts_placed, sources_below}
 use Rattle.split_base.proofs.Making.{table_made}
+use Rattle.split_base.proofs.table.table_types.Given.{Over}
+use Rattle.split_base.proofs.table.table_types.Goals.{After-check_count}
 use Rattle.split_base.proofs.table.table_types.Goals as goal
 
-pub returns-in_err-check_count-clause-refusal : goal.returns-in_err-check_count-clause-refusal
-returns-in_err-check_count-clause-refusal b c =
-    let gone : c.from_residual-in_err-check_count.result ≡ Err c.in_err-check_count.field-0.0 =
-    search rules in
-    let count : c.from.result + c.len-2.result
-    ≡ length (table_of (b.G.TypeGraph.shape c.args.graph.now) c.args.classes.now) =
+-- the number of the types
+counted : (b : Over) (c : After-check_count b) → c.from.result + c.len-2.result
+    ≡ length (table_of (b.G.TypeGraph.shape c.args.graph.now) c.args.classes.now)
+counted b c =
     omega (
       arith,
       c.from.ensures,
@@ -25,11 +25,17 @@ returns-in_err-check_count-clause-refusal b c =
       length-table_of (b.G.TypeGraph.shape c.args.graph.now) c.args.classes.now c.requires
           c.base.ensures.sound.fits,
       ap length c.in_ok-places.ensures.firsts,
-    ) in
+    )
+
+pub returns-in_err-check_count-clause-refusal : goal.returns-in_err-check_count-clause-refusal
+returns-in_err-check_count-clause-refusal b c =
+    let at = (goal.at.returns-in_err-check_count-clause-refusal b c).After-check_count in
+    let gone : c.from_residual-in_err-check_count.result ≡ Err c.in_err-check_count.field-0.0 =
+    search rules in
     subst (λ (r : Result (Vec CType) TableFault).
     IfErr r (λ (e : TableFault). (e ≡ Memory) ⊎ (types_refusal (length
     (table_of (b.G.TypeGraph.shape c.args.graph.now) c.args.classes.now)) ≡ Some e))) (sym gone)
-    (inr (subst (λ (n : ℕ). types_refusal n ≡ Some c.in_err-check_count.field-0.0) count
+    (inr (subst (λ (n : ℕ). types_refusal n ≡ Some c.in_err-check_count.field-0.0) (counted b at)
     c.in_err-check_count.ensures.refusal))
 
 pub sources_of-requires : goal.sources_of-requires
@@ -71,29 +77,10 @@ returns-clause-table b c =
 pub returns-clause-few : goal.returns-clause-few
 returns-clause-few b c =
     let e = returns-clause-table b c in
-    omega (
-      arith,
-      ap length e,
-      c.from.ensures,
-      c.base.ensures.base,
-      c.len-2.ensures,
-      length-table_of (b.G.TypeGraph.shape c.args.graph.now) c.args.classes.now c.requires
-          c.base.ensures.sound.fits,
-      ap length c.in_ok-places.ensures.firsts,
-      c.in_ok-check_count.ensures.accepted.0,
-    )
+    let at = (goal.at.returns-clause-few b c).After-check_count in
+    omega (arith, ap length e, counted b at, c.in_ok-check_count.ensures.accepted.0)
 
 pub returns-clause-accepted : goal.returns-clause-accepted
 returns-clause-accepted b c =
-    let count : c.from.result + c.len-2.result
-    ≡ length (table_of (b.G.TypeGraph.shape c.args.graph.now) c.args.classes.now) =
-    omega (
-      arith,
-      c.from.ensures,
-      c.base.ensures.base,
-      c.len-2.ensures,
-      length-table_of (b.G.TypeGraph.shape c.args.graph.now) c.args.classes.now c.requires
-          c.base.ensures.sound.fits,
-      ap length c.in_ok-places.ensures.firsts,
-    ) in
-    subst (λ (n : ℕ). types_refusal n ≡ None) count c.in_ok-check_count.ensures.accepted.1
+    let at = (goal.at.returns-clause-accepted b c).After-check_count in
+    subst (λ (n : ℕ). types_refusal n ≡ None) (counted b at) c.in_ok-check_count.ensures.accepted.1
