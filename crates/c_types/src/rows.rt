@@ -1,20 +1,17 @@
 //! The types of single entries as they come by: what begins, and what is whole at once.
-ghost use Rattle.std.specs.Prelude.{◌≡◌, ◌++◌, ◌∷◌, ◌==◌, ◌+◌, ℕ, List, None, Some, [], OnOk, IfOk};
-ghost use Rattle.std.specs.Prelude.{length, if◌then◌else◌};
+ghost use Rattle.std.specs.Prelude.{List, None, Some, OnOk, IfOk, length};
 ghost use Rattle.dwarf_forms.specs.Values.{IsContext};
 ghost use Rattle.dwarf_forms.specs.Meanings.{sections};
 ghost use Rattle.entry_tree.specs.Items.{Given};
 ghost use Rattle.type_attributes.specs.Scopes.{Scope, scope};
-ghost use Rattle.type_attributes.specs.Children.{children_of};
-ghost use Rattle.type_attributes.specs.declared.fault.TypeFault.{TypeFault};
 ghost use Rattle.c_types.specs.Structures.{structure_row};
 ghost use Rattle.c_types.specs.Functions.{function_row};
 ghost use Rattle.c_types.specs.Enumerations.{enumeration_row};
 ghost use Rattle.c_types.specs.Arrays.{array_row};
 ghost use Rattle.c_types.specs.Pointers.{pointer_row, own_target};
 ghost use Rattle.c_types.specs.Types.{plain_row_of, made_in, listed, refused_in};
-ghost use Rattle.c_types.specs.Walking.{filled, least_of, AreNested, ArePlaced, AreAbove};
-ghost use Rattle.c_types.specs.Walking.{with_last, IsComplete, pointed_at};
+ghost use Rattle.c_types.specs.Takes.{Takes, TakesRow};
+ghost use Rattle.c_types.specs.Walking.{AreNested, ArePlaced, AreAbove, with_last, IsComplete};
 
 use crate::arrays::open_array;
 use crate::enumerations::{declared_enumeration, open_enumeration};
@@ -48,18 +45,9 @@ pub(crate) fn take_structure<'a, T: Taker<'a>>(
     requires nested { AreNested opens.old.items }
     requires above { AreAbove entry.now.depth opens.old.items }
     requires placed { ArePlaced (length (T.types types.old)) opens.old.items }
-    ensures types { OnOk result ((es : List Given) → filled (scope ctx.now) opens.new.items
-        es (T.types types.new) ≡ filled (scope ctx.now) opens.old.items es
-        (T.types types.old) ++ (structure_row (scope ctx.now) is_union entry.now
-        (children_of entry.now.depth es)).made ∷ []) }
-    ensures least { OnOk result ((es : List Given) (later : List TypeFault) → least_of (scope
-        ctx.now) opens.new.items es current.new later ≡ least_of (scope ctx.now)
-        opens.old.items es current.old ((structure_row (scope ctx.now) is_union
-        entry.now (children_of entry.now.depth es)).refused ++ later)) }
-    ensures nested { OnOk result (AreNested opens.new.items) }
-    ensures placed { OnOk result (ArePlaced (length (T.types types.new)) opens.new.items) }
-    ensures pointed { OnOk result ((d : ℕ) → pointed_at opens.new.items d ≡ (if
-        entry.now.depth + 1 == d then None else pointed_at opens.old.items d)) }
+    ensures { OnOk result (TakesRow (scope ctx.now) entry.now None
+        (structure_row (scope ctx.now) is_union entry.now) opens.old.items opens.new.items
+        (T.types types.old) (T.types types.new) current.old current.new) }
 {
     let mut declared = None;
     if !flag(entry, DW_AT_declaration, &mut declared) {
@@ -94,18 +82,9 @@ pub(crate) fn take_enumeration<'a, T: Taker<'a>>(
     requires nested { AreNested opens.old.items }
     requires above { AreAbove entry.now.depth opens.old.items }
     requires placed { ArePlaced (length (T.types types.old)) opens.old.items }
-    ensures types { OnOk result ((es : List Given) → filled (scope ctx.now) opens.new.items
-        es (T.types types.new) ≡ filled (scope ctx.now) opens.old.items es
-        (T.types types.old) ++ (enumeration_row (sections ctx.now.form) entry.now
-        (children_of entry.now.depth es)).made ∷ []) }
-    ensures least { OnOk result ((es : List Given) (later : List TypeFault) → least_of (scope
-        ctx.now) opens.new.items es current.new later ≡ least_of (scope ctx.now)
-        opens.old.items es current.old ((enumeration_row (sections ctx.now.form)
-        entry.now (children_of entry.now.depth es)).refused ++ later)) }
-    ensures nested { OnOk result (AreNested opens.new.items) }
-    ensures placed { OnOk result (ArePlaced (length (T.types types.new)) opens.new.items) }
-    ensures pointed { OnOk result ((d : ℕ) → pointed_at opens.new.items d ≡ (if
-        entry.now.depth + 1 == d then None else pointed_at opens.old.items d)) }
+    ensures { OnOk result (TakesRow (scope ctx.now) entry.now None
+        (enumeration_row (sections ctx.now.form) entry.now) opens.old.items opens.new.items
+        (T.types types.old) (T.types types.new) current.old current.new) }
 {
     let mut declared = None;
     let is_declared = flag(entry, DW_AT_declaration, &mut declared);
@@ -141,18 +120,9 @@ pub(crate) fn take_function<'a, T: Taker<'a>>(
     requires nested { AreNested opens.old.items }
     requires above { AreAbove entry.now.depth opens.old.items }
     requires placed { ArePlaced (length (T.types types.old)) opens.old.items }
-    ensures types { OnOk result ((es : List Given) → filled
-        (scope ctx.now) opens.new.items es (T.types types.new) ≡ filled (scope ctx.now)
-        opens.old.items es (T.types types.old) ++ (function_row (sections ctx.now.form)
-        entry.now (children_of entry.now.depth es)).made ∷ []) }
-    ensures least { OnOk result ((es : List Given) (later : List TypeFault) → least_of (scope
-        ctx.now) opens.new.items es current.new later ≡ least_of (scope ctx.now)
-        opens.old.items es current.old ((function_row (sections ctx.now.form)
-        entry.now (children_of entry.now.depth es)).refused ++ later)) }
-    ensures nested { OnOk result (AreNested opens.new.items) }
-    ensures placed { OnOk result (ArePlaced (length (T.types types.new)) opens.new.items) }
-    ensures pointed { OnOk result ((d : ℕ) → pointed_at opens.new.items d ≡ (if
-        entry.now.depth + 1 == d then None else pointed_at opens.old.items d)) }
+    ensures { OnOk result (TakesRow (scope ctx.now) entry.now None
+        (function_row (sections ctx.now.form) entry.now) opens.old.items opens.new.items
+        (T.types types.old) (T.types types.new) current.old current.new) }
 {
     let kept = OpenType::Function(open_function(alloc, ctx, entry)?);
     begin_to(
@@ -180,18 +150,9 @@ pub(crate) fn take_array<'a, T: Taker<'a>>(
     requires nested { AreNested opens.old.items }
     requires above { AreAbove entry.now.depth opens.old.items }
     requires placed { ArePlaced (length (T.types types.old)) opens.old.items }
-    ensures types { OnOk result ((es : List Given) → filled
-        (scope ctx.now) opens.new.items es (T.types types.new) ≡ filled (scope ctx.now)
-        opens.old.items es (T.types types.old) ++ (array_row (sections ctx.now.form)
-        entry.now (children_of entry.now.depth es)).made ∷ []) }
-    ensures least { OnOk result ((es : List Given) (later : List TypeFault) → least_of
-        (scope ctx.now) opens.new.items es current.new later ≡ least_of (scope
-        ctx.now) opens.old.items es current.old ((array_row (sections ctx.now.form)
-        entry.now (children_of entry.now.depth es)).refused ++ later)) }
-    ensures nested { OnOk result (AreNested opens.new.items) }
-    ensures placed { OnOk result (ArePlaced (length (T.types types.new)) opens.new.items) }
-    ensures pointed { OnOk result ((d : ℕ) → pointed_at opens.new.items d ≡ (if
-        entry.now.depth + 1 == d then None else pointed_at opens.old.items d)) }
+    ensures { OnOk result (TakesRow (scope ctx.now) entry.now None
+        (array_row (sections ctx.now.form) entry.now) opens.old.items opens.new.items
+        (T.types types.old) (T.types types.new) current.old current.new) }
 {
     let kept = OpenType::Array(open_array(ctx, entry));
     begin_to(
@@ -219,18 +180,11 @@ pub(crate) fn take_plain<'a, T: Taker<'a>>(
     requires nested { AreNested opens.old.items }
     requires above { AreAbove entry.now.depth opens.old.items }
     requires placed { ArePlaced (length (T.types types.old)) opens.old.items }
-    ensures types { OnOk result ((es : List Given)
-        → filled (scope ctx.now) opens.new.items es (T.types types.new)
-        ≡ filled (scope ctx.now) opens.old.items es (T.types types.old)
-        ++ listed (made_in (plain_row_of (sections ctx.now.form) entry.now))) }
-    ensures least { OnOk result ((es : List Given) (later : List TypeFault)
-        → least_of (scope ctx.now) opens.new.items es current.new later
-        ≡ least_of (scope ctx.now) opens.old.items es current.old
-        (refused_in (plain_row_of (sections ctx.now.form) entry.now) ++ later)) }
-    ensures nested { OnOk result (AreNested opens.new.items) }
-    ensures placed { OnOk result (ArePlaced (length (T.types types.new)) opens.new.items) }
-    ensures pointed { OnOk result ((d : ℕ) → pointed_at opens.new.items d ≡ (if
-        entry.now.depth + 1 == d then None else pointed_at opens.old.items d)) }
+    ensures { OnOk result (Takes (scope ctx.now) entry.now.depth None
+        (λ (es : List Given). listed (made_in (plain_row_of (sections ctx.now.form) entry.now)))
+        (λ (es : List Given). refused_in (plain_row_of (sections ctx.now.form) entry.now))
+        opens.old.items opens.new.items
+        (T.types types.old) (T.types types.new) current.old current.new) }
 {
     let one = read_plain_type(alloc, &ctx.form, entry, current)?;
     take_type(types, one)?;
@@ -249,22 +203,12 @@ pub(crate) fn take_pointer<'a, T: Taker<'a>>(
     requires nested { AreNested opens.old.items }
     requires above { AreAbove entry.now.depth opens.old.items }
     requires placed { ArePlaced (length (T.types types.old)) opens.old.items }
-    ensures types { IfOk result (λ p. (es : List Given) → filled (scope ctx.now) (with_last
-        opens.new.items (Some p)) es (T.types types.new) ≡ filled (scope ctx.now)
-        opens.old.items es (T.types types.old) ++ (pointer_row (sections ctx.now.form)
-        entry.now (children_of entry.now.depth es)).made ∷ []) }
-    ensures least { IfOk result (λ p. (es : List Given) (later : List TypeFault) → least_of
-        (scope ctx.now) (with_last opens.new.items (Some p)) es current.new later
-        ≡ least_of (scope ctx.now) opens.old.items es current.old
-        ((pointer_row (sections ctx.now.form) entry.now
-        (children_of entry.now.depth es)).refused ++ later)) }
-    ensures nested { IfOk result (λ p. AreNested (with_last opens.new.items (Some p))) }
-    ensures placed { IfOk result (λ p.
-        ArePlaced (length (T.types types.new)) (with_last opens.new.items (Some p))) }
+    ensures taken { IfOk result (λ p. TakesRow (scope ctx.now) entry.now
+        (Some (own_target (sections ctx.now.form) entry.now))
+        (pointer_row (sections ctx.now.form) entry.now)
+        opens.old.items (with_last opens.new.items (Some p))
+        (T.types types.old) (T.types types.new) current.old current.new) }
     ensures complete { IfOk result (λ p. (s : Scope) → IsComplete s (T.types types.new) (Some p)) }
-    ensures pointed { IfOk result (λ p. (d : ℕ) → pointed_at (with_last opens.new.items
-        (Some p)) d ≡ (if entry.now.depth + 1 == d then Some (own_target (sections
-        ctx.now.form) entry.now) else pointed_at opens.old.items d)) }
 {
     let own = type_target(&ctx.form, entry, current);
     let index = types.len();

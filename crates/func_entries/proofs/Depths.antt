@@ -4,7 +4,7 @@ use Rattle.std.proofs.Common.{◌∷◌, ◌++◌, Option, None, Some, is_some, 
 use Rattle.std.proofs.Common.{refl, sym, ap, ◌∙◌, subst, arith}
 use Rattle.std.specs.Prelude.{All, slice_get}
 use Rattle.std.specs.Option.{option_to_list}
-use Rattle.std.proofs.lemmas.List.{take_all, take_more}
+use Rattle.std.proofs.lemmas.List.{take_all, take_more, same_from_push}
 use Rattle.std.proofs.lemmas.Option.{slice_get_within, get_or_from_slice_get}
 use Rattle.std.proofs.lemmas.Bool.{ne_eqb, eqb-true, eqb-false}
 use Rattle.std.proofs.lemmas.List.Elements.{All-nil, All-cons, All-head, All-tail, All-push}
@@ -78,19 +78,10 @@ split_last ks k is =
     ∙ ap (λ (j : ℕ). take (length ks - 1) ks ++ j ∷ [])
     (get_or_from_slice_get ks (length ks - 1) k k (sym is))
 
-pub same_last : (xs ys : List ℕ) (x y : ℕ) → xs ++ x ∷ [] ≡ ys ++ y ∷ [] → x ≡ y
-same_last [] [] x y e = cc
-same_last [] (b ∷ []) x y e = cc
-same_last [] (b ∷ (d ∷ ys)) x y e = cc
-same_last (a ∷ []) [] x y e = cc
-same_last (a ∷ (d ∷ xs)) [] x y e = cc
-same_last (a ∷ xs) (b ∷ ys) x y e = let p : xs ++ x ∷ [] ≡ ys ++ y ∷ [] = cc in
-    same_last xs ys x y p
-
 pub last_deep : (all xs ys : List ℕ) (x y depth : ℕ) → all ≡ xs ++ x ∷ [] → all ≡ ys ++ y ∷ []
     → depth ≤ y → depth ≤ x
-last_deep all xs ys x y depth p q le = let e = same_last xs ys x y (sym p ∙ q) in
-    omega (arith, le, e)
+last_deep all xs ys x y depth p q le =
+    let e : x ≡ y = (same_from_push xs ys x y (sym p ∙ q)).1 in omega (arith, le, e)
 
 -- one is taken from the end
 pub popped : (all left : List ℕ) (o : Option ℕ) → all ≡ left ++ option_to_list o → is_some o ≡ true

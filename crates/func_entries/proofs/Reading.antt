@@ -197,18 +197,19 @@ placing_more c ending places more pointers others has had old new e step h m a s
     placing_one c ending places more pointers others has had new e
     (subst (λ (w : Coming). IsPlacing c ending places pointers has w) step h) m a s
 
+-- what was read, once the prototypes that are open are complete
+abbrev pub read_whole : Scope → List Head → List Open → List SourceType → List ℕ → Bool → UnitFuncs
+read_whole s heads os types places has =
+    record { funcs = paired heads (filled s os [] types); places = places; has_array = has }
+
 -- behind the last
 at_end : (s : Scope) (version : ℕ) (ending : Option WalkFault) (heads : List Head) (os : List Open)
     (types : List SourceType) (current : Option TypeFault) (places pointers : List ℕ) (has : Bool)
     → IsReading s ending heads os types current (record { entries = []; ending = None })
     → IsPlacing (of_version version s) ending places pointers has
     (record { entries = []; ending = None })
-    → or_least (record {
-      funcs = paired heads (filled s os [] types);
-      places = places;
-      has_array =
-          has;
-    }) (least_of s os [] current []) ≡ functions_in (of_version version s) ending
+    → or_least (read_whole s heads os types places has) (least_of s os [] current [])
+    ≡ functions_in (of_version version s) ending
 at_end s version ending heads os types current places pointers has r p =
     let h : heads ≡ heads_of s.sections s.entries = sym (append-nil heads) ∙ r.heads_so_far in
     let t : filled s os [] types ≡ prototypes_of s.sections s.entries =
@@ -225,12 +226,8 @@ pub ended : (s : Scope) (version : ℕ) (ending : Option WalkFault) (heads : Lis
     (places pointers : List ℕ) (has : Bool) (walk : Coming)
     → walk ≡ record { entries = []; ending = None } → IsReading s ending heads os types current
     walk → IsPlacing (of_version version s) ending places pointers has walk
-    → or_least (record {
-      funcs = paired heads (filled s os [] types);
-      places = places;
-      has_array =
-          has;
-    }) (least_of s os [] current []) ≡ functions_in (of_version version s) ending
+    → or_least (read_whole s heads os types places has) (least_of s os [] current [])
+    ≡ functions_in (of_version version s) ending
 ended s version ending heads os types current places pointers has walk is r p =
     at_end s version ending heads os types current places pointers has
     (subst (λ (w : Coming). IsReading s ending heads os types current w) is r)

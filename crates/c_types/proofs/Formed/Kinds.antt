@@ -4,6 +4,7 @@ use Rattle.std.proofs.Common.{false, List, [], length, None, Some, if◌then◌e
 use Rattle.std.proofs.Common.{ap, ◌∙◌, arith}
 use Rattle.std.proofs.lemmas.Option.{none-some, same_Some}
 use Rattle.std.proofs.lemmas.List.Elements.{All-nil}
+use Rattle.c_model.specs.declared.kinds.TheConstants.{BTF_KIND_STRUCT, BTF_KIND_UNION}
 use Rattle.c_model.specs.declared.label.Label.{Label}
 use Rattle.c_model.specs.declared.label.Part.{Part}
 use Rattle.c_model.specs.declared.label.Family.TheVariants.{Structure, Union, Enumeration}
@@ -164,11 +165,23 @@ function_formed parts targets count few fit =
     })
     (λ (tag : Tag) (e : declared_tag (function_label parts) ≡ Some tag). absurd (none-some tag e))
 
+-- structures and unions have members, and declare no tag
+structure_row : (union : Bool) → row_of (if union then BTF_KIND_UNION else BTF_KIND_STRUCT)
+    ≡ Some (sized_row true members)
+structure_row true = refl
+structure_row false = refl
+
+structure_declares : (union : Bool) (name : List ℕ) (size : ℕ) (fields : Bool) (parts : List Part)
+    → declared_tag (structure_label union name size fields parts) ≡ None
+structure_declares true name size fields parts = refl
+structure_declares false name size fields parts = refl
+
 pub structure_formed : (union : Bool) (name : List ℕ) (size : ℕ) (fields : Bool) (parts : List Part)
     (targets : ℕ) → HasNoNul name → size < 2 ^ 32 → targets ≡ length parts → length parts ≤ 65535
     → FitsParts members parts → IsFormed (structure_label union name size fields parts) targets
-structure_formed true name size fields parts targets clean s count few fit =
-    fitting (sized_row true members) (structure_label true name size fields parts) targets refl
+structure_formed union name size fields parts targets clean s count few fit =
+    fitting (sized_row true members) (structure_label union name size fields parts) targets
+    (structure_row union)
     (record {
       name = clean;
       flag = λ t. refl;
@@ -178,21 +191,8 @@ structure_formed true name size fields parts targets clean s count few fit =
       few = few;
       parts = fit;
     })
-    (λ (tag : Tag) (e : declared_tag (structure_label true name size fields parts) ≡ Some tag).
-    absurd (none-some tag e))
-structure_formed false name size fields parts targets clean s count few fit =
-    fitting (sized_row true members) (structure_label false name size fields parts) targets refl
-    (record {
-      name = clean;
-      flag = λ t. refl;
-      size = s;
-      extra = omega arith;
-      targets = omega arith;
-      few = few;
-      parts = fit;
-    })
-    (λ (tag : Tag) (e : declared_tag (structure_label false name size fields parts) ≡ Some tag).
-    absurd (none-some tag e))
+    (λ (tag : Tag) (e : declared_tag (structure_label union name size fields parts) ≡ Some tag).
+    absurd (none-some tag (sym (structure_declares union name size fields parts) ∙ e)))
 
 declares_forward : (union : Bool) (name : List ℕ) (tag : Tag) → declared_tag
     (forward_label union name) ≡ Some tag → forward_label union name ≡ declaration_label tag
