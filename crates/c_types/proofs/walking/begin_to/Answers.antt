@@ -1,6 +1,6 @@
 use Rattle.std.proofs.Common.{◌∙◌, ℕ, List, Option, ap, refl, sym, subst}
 use Rattle.c_types.specs.declared.open.Open.{Open}
-use Rattle.c_types.specs.declared.open.Kept.{Kept}
+use Rattle.c_types.specs.declared.open.OpenType.{OpenType}
 use Rattle.type_attributes.specs.declared.fault.TypeFault.{TypeFault}
 use Rattle.type_attributes.specs.Children.{children_of}
 use Rattle.c_types.specs.Walking.{AreNested, pointed_at}
@@ -9,7 +9,7 @@ use Rattle.c_types.proofs.Pointing.{pointed_push}
 use Rattle.c_types.proofs.walking.begin_to.Goals as goal
 
 -- what begins
-abbrev opened : ℕ → ℕ → Option TypeFault → Kept → Open
+abbrev opened : ℕ → ℕ → Option TypeFault → OpenType → Open
 opened depth index before kept =
     record { depth = depth; index = index; before = before; kept = kept }
 
