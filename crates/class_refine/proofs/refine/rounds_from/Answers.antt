@@ -1,8 +1,8 @@
 use Rattle.std.proofs.Common.{◌≡◌, ◌+◌, ℕ, ◌∙◌, ◌≢◌, ◌≤◌, ◌<◌, length, arith, eqb}
 use Rattle.std.specs.Set.{distinct_count}
 use Rattle.type_signature.proofs.Placed.{KeepsForwards-above}
-use Rattle.class_refine.proofs.Rounds.{IsAbove-round, count-le_round, more_classes}
-use Rattle.class_refine.proofs.Rounds.{IsCoarsestWith-from_count, classes-within}
+use Rattle.class_refine.proofs.Rounds.{round-goes_on, count-le_round}
+use Rattle.class_refine.proofs.Rounds.{IsCoarsestWith-from_count}
 use Rattle.class_refine.proofs.Rounds.{IsNumbering-within}
 use Rattle.c_model.specs.Graph.{references}
 use Rattle.std.proofs.lemmas.Map.Made.{distinct_count-le}
@@ -33,23 +33,13 @@ returns-then-next-count-clause-forwards g c =
 
 pub overflow_add-number : goal.overflow_add-number
 overflow_add-number g c =
-    let graph = c.args.graph.now in
-    let index = c.args.fwd.now in
-    let raw = c.loop-now.invariant.0.0 in
     let i = c.loop-now.invariant.0.1 in
-    let next = c.in_ok-next.next.numbers.items in
-    let n = c.in_ok-next.ensures.numbers in
-    let s = rw c.deref.ensures.value at c.in_ok-now.ensures in
-    let le = count-le_round graph index c.requires.index c.requires.fitting
-    c.len-nodes.ensures.within raw c.loop-now.now next i.above n in
-    let ne : c.in_ok-next.next.count ≢ c.loop-now.count = c.if-next-count.false in
-    let m = c.in_ok-next.ensures.count in
-    let k = i.counted in
-    let lt : distinct_count eqb raw < distinct_count eqb next = omega arith in
-    let more = more_classes graph index c.requires.index c.requires.fitting
-    c.len-nodes.ensures.within raw c.loop-now.now next i.above n c.in_ok-now.now s lt in
-    let all = classes-within graph index c.requires.index c.requires.fitting
-    c.len-nodes.ensures.within raw c.loop-now.now next i.above n c.in_ok-now.now s in
+    let on = round-goes_on c.args.graph.now c.args.fwd.now c.requires.index c.requires.fitting
+    c.len-nodes.ensures.within _ _ _ i.above c.in_ok-next.ensures.numbers c.in_ok-now.now
+    (rw c.deref.ensures.value at c.in_ok-now.ensures) i.counted c.in_ok-next.ensures.count
+    c.if-next-count.false in
+    let all = on.2 in
+    let more = on.1 in
     let few = i.few in
     let len = c.len-nodes.ensures.len in
     let fits = c.len-nodes.type_inv in
@@ -74,32 +64,18 @@ loop-now-smaller g c =
 
 pub loop-now-preserved : goal.loop-now-preserved
 loop-now-preserved g c =
-    let graph = c.args.graph.now in
-    let index = c.args.fwd.now in
-    let raw = c.loop-now.invariant.0.0 in
     let i = c.loop-now.invariant.0.1 in
-    let next = c.in_ok-next.next.numbers.items in
-    let n = c.in_ok-next.ensures.numbers in
-    let s = rw c.deref.ensures.value at c.in_ok-now.ensures in
-    let le = count-le_round graph index c.requires.index c.requires.fitting
-    c.len-nodes.ensures.within raw c.loop-now.now next i.above n in
-    let ne : c.in_ok-next.next.count ≢ c.loop-now.count = c.if-next-count.false in
-    let m = c.in_ok-next.ensures.count in
-    let k = i.counted in
-    let lt : distinct_count eqb raw < distinct_count eqb next = omega arith in
-    let more = more_classes graph index c.requires.index c.requires.fitting
-    c.len-nodes.ensures.within raw c.loop-now.now next i.above n c.in_ok-now.now s lt in
+    let on = round-goes_on c.args.graph.now c.args.fwd.now c.requires.index c.requires.fitting
+    c.len-nodes.ensures.within _ _ _ i.above c.in_ok-next.ensures.numbers c.in_ok-now.now
+    (rw c.deref.ensures.value at c.in_ok-now.ensures) i.counted c.in_ok-next.ensures.count
+    c.if-next-count.false in
+    let more = on.1 in
     let few = i.few in
     let before = c.loop-now.invariant.1 in
     let cost = c.in_ok-next.ensures.cost in (
       (
-        next,
-        record {
-          above = IsAbove-round graph index c.requires.index c.requires.fitting
-              c.len-nodes.ensures.within raw c.loop-now.now next i.above n c.in_ok-now.now s;
-          counted = m;
-          few = omega arith;
-        },
+        c.in_ok-next.next.numbers.items,
+        record { above = on.0; counted = c.in_ok-next.ensures.count; few = omega arith },
       ),
       omega arith,
     )
