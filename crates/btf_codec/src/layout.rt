@@ -51,9 +51,9 @@ pub fn layout_of(kind: u8) -> Option<KindLayout>
 {
     match kind {
         BTF_KIND_INT => Some(KindLayout::Int),
-        BTF_KIND_PTR | BTF_KIND_TYPEDEF | BTF_KIND_FUNC | BTF_KIND_TYPE_TAG => Some(
-            KindLayout::Link,
-        ),
+        BTF_KIND_PTR | BTF_KIND_TYPEDEF | BTF_KIND_FUNC | BTF_KIND_TYPE_TAG => {
+            Some(KindLayout::Link)
+        }
         BTF_KIND_VOLATILE | BTF_KIND_CONST | BTF_KIND_RESTRICT => Some(KindLayout::Link),
         BTF_KIND_ARRAY => Some(KindLayout::Array),
         BTF_KIND_STRUCT | BTF_KIND_UNION => Some(KindLayout::Sized(PartLayout::Member)),
