@@ -1,17 +1,13 @@
 //! The tag of an entry that is referred to and is no type.
 ghost use Rattle.std.specs.Prelude.{◌≡◌, All, IfOk};
-ghost use Rattle.elf_sections.specs.Images.{file_of};
-ghost use Rattle.elf_sections.specs.Sections.{section_bytes};
-ghost use Rattle.elf_sections.specs.declared.fault.Kind.TheVariants.{Abbrev as AbbrevSection};
 ghost use Rattle.c_types.specs.Types.{types_of_unit_of};
 ghost use Rattle.unit_graph.specs.Sources.{IsReadable};
 ghost use Rattle.unit_graph.specs.Tags.{tag_in, entries_in, is_read, tag_at, tag_of};
 ghost use Rattle.unit_graph.specs.Unread.{lies_in, unread_by, no_entries_by};
 
 use crate::sources::UnitAt;
-use c_types::{TypeFault, types_of_unit};
+use c_types::{TypeFault, abbreviation_bytes, types_of_unit};
 use dwarf_abbrev::{AbbrevFault, Abbrevs};
-use elf_sections::{Image, Kind};
 use entry_tree::{Walk, context};
 use std::alloc::{AllocError, Global};
 
@@ -29,16 +25,6 @@ fn tag_in_walk(walk: Walk<'_, '_>, to: u128) -> Option<u64>
             }
             _ => return None,
         }
-    }
-}
-
-/// The bytes of `.debug_abbrev`; none where it is absent.
-fn abbreviation_bytes<'a>(image: &Image<'a>) -> &'a [u8]
-    ensures { result.now ≡ section_bytes AbbrevSection (file_of image.now) }
-{
-    match image.section(Kind::Abbrev) {
-        Some(bytes) => bytes,
-        None => &[],
     }
 }
 

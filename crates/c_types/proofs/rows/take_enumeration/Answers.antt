@@ -8,7 +8,7 @@ use Rattle.type_attributes.specs.Children.{children_of}
 use Rattle.type_attributes.specs.Faults.{noted}
 use Rattle.c_types.specs.Enumerations.{bare_row, enumeration_row}
 use Rattle.c_types.proofs.Stack.{row_declared, joined_two}
-use Rattle.c_types.proofs.Taken.{whole_taken}
+use Rattle.c_types.proofs.Taken.{whole_taken, begun_taken}
 use Rattle.c_types.proofs.rows.take_enumeration.Goals as goal
 use Rattle.dwarf_abbrev.specs.declared.constants.TheConstants.{DW_AT_declaration}
 
@@ -18,13 +18,8 @@ returns-then-not-is_declared g c =
     let row = enumeration_row (sections c.args.ctx.now.form) c.args.entry.now in
     let begun = c.in_ok-begin_to.ensures in
     let comes = c.open_enumeration.ensures in
-    record {
-      types = λ es. rw c.depth.ensures at (begun.types s row es comes);
-      least = λ es later. rw c.depth.ensures at (begun.least s row es later comes);
-      nested = begun.nested;
-      placed = begun.placed;
-      pointed = λ d. rw c.depth.ensures at (begun.pointed d);
-    }
+    begun_taken s _ _ _ row _ _ _ _ _ _ c.depth.ensures (λ es. begun.types s row es comes)
+    (λ es later. begun.least s row es later comes) begun.nested begun.placed begun.pointed
 
 pub returns : goal.returns
 returns g c =

@@ -1,6 +1,7 @@
 use Rattle.dwarf_forms.specs.Meanings.{sections}
 use Rattle.type_attributes.specs.Scopes.{scope}
 use Rattle.c_types.specs.Functions.{function_row}
+use Rattle.c_types.proofs.Taken.{begun_taken}
 use Rattle.c_types.proofs.rows.take_function.Goals as goal
 
 pub returns : goal.returns
@@ -9,10 +10,5 @@ returns g c =
     let row = function_row (sections c.args.ctx.now.form) c.args.entry.now in
     let begun = c.in_ok-begin_to.ensures in
     let comes = c.in_ok-open_function.ensures in
-    record {
-      types = λ es. rw c.depth.ensures at (begun.types s row es comes);
-      least = λ es later. rw c.depth.ensures at (begun.least s row es later comes);
-      nested = begun.nested;
-      placed = begun.placed;
-      pointed = λ d. rw c.depth.ensures at (begun.pointed d);
-    }
+    begun_taken s _ _ _ row _ _ _ _ _ _ c.depth.ensures (λ es. begun.types s row es comes)
+    (λ es later. begun.least s row es later comes) begun.nested begun.placed begun.pointed

@@ -3,7 +3,7 @@ use Rattle.std.specs.Set.{distinct_count}
 use Rattle.type_signature.proofs.Placed.{KeepsForwards-above}
 use Rattle.class_refine.proofs.Rounds.{round-goes_on, count-le_round}
 use Rattle.class_refine.proofs.Rounds.{IsCoarsestWith-from_count}
-use Rattle.class_refine.proofs.Rounds.{IsNumbering-within}
+use Rattle.class_refine.proofs.Rounds.{IsNumbering-within, IsRefining-within}
 use Rattle.c_model.specs.Graph.{references}
 use Rattle.std.proofs.lemmas.Map.Made.{distinct_count-le}
 use Rattle.class_refine.proofs.Costs.{passes-within, on_err}
@@ -83,21 +83,13 @@ loop-now-preserved g c =
 pub returns-in_err-next-clause-bound : goal.returns-in_err-next-clause-bound
 returns-in_err-next-clause-bound g c =
     let nodes = c.args.graph.now.nodes in
-    let i = c.loop-now.invariant.0.1 in
-    let covers : length c.loop-now.now ≡ length nodes =
-    i.above.placing.covers ∙ i.above.tells.shares.covers in
-    let few : c.loop-now.number ≤ length nodes =
-    (let h = distinct_count-le eqb c.loop-now.now in omega (arith, h, covers, i.few)) in
+    let few = IsRefining-within _ _ _ _ _ _ c.loop-now.invariant.0.1 in
     on_err _ (passes-within (length nodes + references nodes) c.loop-now.number (length nodes)
     c.loop-now.steps _ c.args.steps.now few c.loop-now.invariant.1 c.round.ensures.cost)
 
 pub returns-in_err-now-clause-bound : goal.returns-in_err-now-clause-bound
 returns-in_err-now-clause-bound g c =
     let nodes = c.args.graph.now.nodes in
-    let i = c.loop-now.invariant.0.1 in
-    let covers : length c.loop-now.now ≡ length nodes =
-    i.above.placing.covers ∙ i.above.tells.shares.covers in
-    let few : c.loop-now.number ≤ length nodes =
-    (let h = distinct_count-le eqb c.loop-now.now in omega (arith, h, covers, i.few)) in
+    let few = IsRefining-within _ _ _ _ _ _ c.loop-now.invariant.0.1 in
     on_err _ (passes-within (length nodes + references nodes) c.loop-now.number (length nodes)
     c.loop-now.steps _ c.args.steps.now few c.loop-now.invariant.1 c.round.ensures.cost)
