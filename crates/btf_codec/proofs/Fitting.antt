@@ -30,8 +30,8 @@ use Rattle.btf_codec.specs.declared.layout.PartLayout.TheVariants.{Variable}
 use Rattle.btf_codec.proofs.Below.{id_below, offset_below, past_join}
 use Rattle.btf_codec.proofs.KindTable.{kind_known, vlen_few}
 use Rattle.btf_codec.proofs.Rows.{never_sized, row_by, well_laid}
-use Rattle.btf_codec.proofs.Decoded.{fields_with, ids_sized, part_ids, part_names, shape_there}
-use Rattle.btf_codec.proofs.Decoded.{vlen_none}
+use Rattle.btf_codec.proofs.DecodedTypes.{fields_with, ids_sized, part_ids, part_names, shape_there}
+use Rattle.btf_codec.proofs.DecodedTypes.{vlen_none}
 use Rattle.btf_codec.proofs.Splitting.{width_some}
 
 pub all_true : (a b : Bool) → a ≡ true → b ≡ true → (a && b) ≡ true

@@ -25,7 +25,7 @@ use Rattle.btf_codec.specs.declared.fault.BtfFault.TheVariants.{BtfTruncated, Bt
 use Rattle.btf_codec.specs.declared.layout.KindLayout.{KindLayout}
 use Rattle.btf_codec.proofs.Below.{ids_below, no_fault_split}
 use Rattle.btf_codec.proofs.Gluing.{word_cut}
-use Rattle.btf_codec.proofs.Decoded.{type_formed, type_stands}
+use Rattle.btf_codec.proofs.DecodedTypes.{type_formed, type_stands}
 use Rattle.btf_codec.proofs.Splitting.{width_some}
 use Rattle.btf_codec.proofs.Wording.{AreBytes, word_small, words_again}
 

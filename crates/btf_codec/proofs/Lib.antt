@@ -16,7 +16,7 @@ pub mod Pasts
 pub mod Putting
 pub mod Rows
 pub mod Shapes
-pub mod Decoded
+pub mod DecodedTypes
 pub mod Splitting
 pub mod Strung
 pub mod Wording
