@@ -10,5 +10,6 @@ returns g c =
     let row = function_row (sections c.args.ctx.now.form) c.args.entry.now in
     let begun = c.in_ok-begin_to.ensures in
     let comes = c.in_ok-open_function.ensures in
-    begun_taken s c.args.entry.now _ _ row _ _ _ _ _ _ c.depth.ensures (λ es. begun.types s row es comes)
-    (λ es later. begun.least s row es later comes) begun.nested begun.placed begun.pointed
+    begun_taken s c.args.entry.now _ _ row _ _ _ _ _ _ c.depth.ensures
+    (λ es. begun.types s row es comes) (λ es later. begun.least s row es later comes) begun.nested
+    begun.placed begun.pointed
