@@ -93,7 +93,8 @@ module _ (g : Shape) (p : List ℕ) (covers : length p ≡ length g.nodes)
               let is : renamed_type (place_of g p) u ≡ t = cc in
               let at : get_or g.nodes (source_of g p x) u ≡ u =
               get_or_from_slice_get g.nodes (source_of g p x) u u a in
-              subst IsWellFormed is (retargeted_formed (renamed (place_of g p)) u (subst IsWellFormed at
+              subst IsWellFormed is (retargeted_formed (renamed (place_of g p)) u
+              (subst IsWellFormed at
               (formed (source_of g p x) u (slice_get_within g.nodes (source_of g p x) u a))))
 
 -- the refusals of a table
