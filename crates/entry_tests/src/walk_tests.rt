@@ -143,7 +143,7 @@ fn real_file(alloc: Global) -> Result<Vec<u8>, AllocError> {
 enum Outcome {
     NoImage,
     NoUnit,
-    UnitHeader(UnitFault),
+    Header(UnitFault),
     Table(AbbrevFault),
     Tree(WalkFault),
     Untold,
