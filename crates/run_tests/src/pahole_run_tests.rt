@@ -358,7 +358,7 @@ fn tells_of_a_made_input(rt: HostRuntime) -> Result<(), Fail> {
 #[test]
 fn reads_units_at_once(rt: HostRuntime) -> Result<(), Fail> {
     let alloc = rt.alloc();
-    let gate = gates::Held::new();
+    let gate = gates::HoldingGate::new();
     let lists = file_with(alloc, Order::Little, &[LIST_HEAD, LIST_HEAD])?;
     let mut files = Vec::new(alloc);
     add_file(alloc, &mut files, b"a", lists.as_slice(), &[])?;
