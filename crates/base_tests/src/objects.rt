@@ -2,12 +2,12 @@
 use std::alloc::{AllocError, Global};
 
 /// The place of a byte, and that byte with some that follow.
-pub type Piece = (usize, &'static [u8]);
+pub type PlacedBytes = (usize, &'static [u8]);
 
 /// An object: how many bytes it has, and those that are not 0.
 pub struct Object {
     pub len: usize,
-    pub pieces: &'static [Piece],
+    pub pieces: &'static [PlacedBytes],
 }
 
 /// Writes bytes from a place on, as far as there is room.
@@ -18,14 +18,18 @@ fn put(bytes: &mut [u8], at: usize, piece: &[u8]) {
 }
 
 /// Writes pieces, one after another.
-pub fn put_all(bytes: &mut [u8], pieces: &[Piece]) {
+pub fn put_all(bytes: &mut [u8], pieces: &[PlacedBytes]) {
     for (at, piece) in pieces {
         put(bytes, *at, piece);
     }
 }
 
 /// The bytes of an object, with some changed.
-pub fn built(alloc: Global, object: &Object, changes: &[Piece]) -> Result<Vec<u8>, AllocError> {
+pub fn built(
+    alloc: Global,
+    object: &Object,
+    changes: &[PlacedBytes],
+) -> Result<Vec<u8>, AllocError> {
     let mut bytes = vec![in alloc; 0u8; object.len]?;
     put_all(&mut bytes, object.pieces);
     put_all(&mut bytes, changes);

@@ -70,10 +70,10 @@ fn line(alloc: Global, one: &FuncEntry<'_>) -> Result<String, AllocError> {
 }
 
 /// The functions and the types of a unit.
-type Found<'a> = (UnitFuncs<'a>, UnitTypes<'a>);
+type UnitRead<'a> = (UnitFuncs<'a>, UnitTypes<'a>);
 
 /// The functions and the types of the first unit of a file, or the first refusal.
-fn functions_in<'a>(alloc: Global, file: &'a [u8]) -> Result<Found<'a>, TypeFault> {
+fn functions_in<'a>(alloc: Global, file: &'a [u8]) -> Result<UnitRead<'a>, TypeFault> {
     let Ok(image) = Image::read(file) else {
         return Err(TypeFault::Memory);
     };

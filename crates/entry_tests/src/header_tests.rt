@@ -11,9 +11,9 @@ use std::test::Fail;
 const ABBREV_AT: u64 = 0x0102_0304;
 
 /// A version, the bytes of its offsets, and the bytes behind the length of such a header.
-type Size = (u16, u32, u64);
+type HeaderSize = (u16, u32, u64);
 
-const SIZES: &[Size] = &[(4, 4, 7), (4, 8, 11), (5, 4, 8), (5, 8, 12)];
+const SIZES: &[HeaderSize] = &[(4, 4, 7), (4, 8, 11), (5, 4, 8), (5, 8, 12)];
 
 const ORDERS: &[Order] = &[Order::Little, Order::Big];
 
@@ -48,7 +48,7 @@ fn check_units(
 }
 
 /// A whole header of a version, with some bytes behind it.
-fn plain(size: Size, behind: u64) -> UnitHeader {
+fn plain(size: HeaderSize, behind: u64) -> UnitHeader {
     let (version, offset_bytes, fields) = size;
     UnitHeader {
         version,
@@ -112,7 +112,7 @@ fn check_cut_section(
     rt: &impl Abort,
     alloc: Global,
     order: Order,
-    size: Size,
+    size: HeaderSize,
 ) -> Result<(), AllocError> {
     let mut whole = Vec::new(alloc);
     put_header(&mut whole, order, plain(size, 0))?;
@@ -128,7 +128,7 @@ fn check_cut_unit(
     rt: &impl Abort,
     alloc: Global,
     order: Order,
-    size: Size,
+    size: HeaderSize,
 ) -> Result<(), AllocError> {
     for kept in 0..size.2 {
         let (version, offset_bytes, fields) = size;
@@ -194,7 +194,7 @@ fn headers_refused(rt: HostRuntime) -> Result<(), Fail> {
 }
 
 /// The sizes of two headers behind one another.
-const PAIRS: &[(Size, Size)] = &[
+const PAIRS: &[(HeaderSize, HeaderSize)] = &[
     ((4, 4, 7), (5, 4, 8)),
     ((5, 4, 8), (4, 4, 7)),
     ((4, 8, 11), (5, 4, 8)),

@@ -58,10 +58,10 @@ const REAL_STR: [u8; 179] =
 const REAL_LINE_STR: [u8; 14] = *b"\x2f\x74\x6d\x70\x2f\x72\x65\x61\x6c\x00\x75\x2e\x63\x00";
 
 /// An entry: its offset, depth, tag and name.
-type Named = (u64, u32, u64, &'static str);
+type NamedEntry = (u64, u32, u64, &'static str);
 
 /// The entries of that unit as `readelf --debug-dump=info` lists them.
-const REAL_ENTRIES: [Named; 30] = [
+const REAL_ENTRIES: [NamedEntry; 30] = [
     (12, 0, 0x11, "u.c"),
     (46, 1, 0x13, "node"),
     (59, 2, 0xd, "next"),
@@ -151,7 +151,7 @@ enum Outcome {
 
 /// What is told of each entry besides its place.
 #[derive(Clone, Copy)]
-enum Asked {
+enum AskedOf {
     Nothing,
     /// Its name, empty where it has none.
     Name,
@@ -163,7 +163,7 @@ enum Asked {
 
 /// An entry: its offset, depth and tag, and what is told of it.
 #[derive(Drop)]
-struct Told {
+struct ToldEntry {
     at: u64,
     depth: u32,
     tag: u64,
@@ -200,31 +200,36 @@ fn wanted_text(alloc: Global, entry: &Entry<'_, '_>) -> Option<String> {
 }
 
 /// What is asked of an entry.
-fn text_of(alloc: Global, ctx: &FormCtx<'_>, entry: &Entry<'_, '_>, asked: Asked) -> Option<String>
+fn text_of(
+    alloc: Global,
+    ctx: &FormCtx<'_>,
+    entry: &Entry<'_, '_>,
+    asked: AskedOf,
+) -> Option<String>
     requires { IsContext ctx.now }
 {
     match asked {
-        Asked::Nothing => Some(String::new(alloc)),
-        Asked::Name => name_text(alloc, ctx, entry),
-        Asked::Value(attribute) => value_text(alloc, entry, attribute),
-        Asked::Wanted => wanted_text(alloc, entry),
+        AskedOf::Nothing => Some(String::new(alloc)),
+        AskedOf::Name => name_text(alloc, ctx, entry),
+        AskedOf::Value(attribute) => value_text(alloc, entry, attribute),
+        AskedOf::Wanted => wanted_text(alloc, entry),
     }
 }
 
 /// Puts an entry behind others, if it can be told.
 fn push_told(
-    entries: &mut Vec<Told>,
+    entries: &mut Vec<ToldEntry>,
     alloc: Global,
     ctx: &FormCtx<'_>,
     entry: &Entry<'_, '_>,
-    asked: Asked,
+    asked: AskedOf,
 ) -> Option<()>
     requires { IsContext ctx.now }
 {
     let text = text_of(alloc, ctx, entry, asked)?;
     let (at, depth, tag) = (entry.at(), entry.depth(), entry.tag());
     entries
-        .push(Told {
+        .push(ToldEntry {
             at,
             depth,
             tag,
@@ -247,8 +252,8 @@ fn entries_of(
     ctx: &FormCtx<'_>,
     walk: &mut Walk<'_, '_>,
     most: u64,
-    asked: Asked,
-) -> Result<Vec<Told>, Outcome>
+    asked: AskedOf,
+) -> Result<Vec<ToldEntry>, Outcome>
     requires { IsContext ctx.now }
 {
     let mut entries = Vec::new(alloc);
@@ -267,14 +272,14 @@ fn entries_of(
 }
 
 /// What the root of a unit says, and the unit's entries.
-type Walked = (RootInfo, Vec<Told>);
+type Walked = (RootInfo, Vec<ToldEntry>);
 
 /// The root and the entries of a unit.
 fn walked_unit(
     alloc: Global,
     image: &Image<'_>,
     unit: &Unit,
-    asked: Asked,
+    asked: AskedOf,
 ) -> Result<Walked, Outcome>
     requires { IsUnitOf (bytes_of image.now) unit.now }
 {
@@ -299,7 +304,7 @@ fn walked_unit(
 }
 
 /// The root and the entries of the only unit of a file.
-fn walked(alloc: Global, file: &[u8], asked: Asked) -> Result<Walked, Outcome> {
+fn walked(alloc: Global, file: &[u8], asked: AskedOf) -> Result<Walked, Outcome> {
     let Ok(image) = Image::read(file) else {
         return Err(Outcome::NoImage);
     };
@@ -314,7 +319,7 @@ fn walked(alloc: Global, file: &[u8], asked: Asked) -> Result<Walked, Outcome> {
 }
 
 /// The entries are these.
-fn check_entries(rt: &impl Abort, found: &[Told], wanted: &[Named]) {
+fn check_entries(rt: &impl Abort, found: &[ToldEntry], wanted: &[NamedEntry]) {
     assert_eq!(rt; found.len(), wanted.len());
     for (one, want) in found.iter().zip(wanted) {
         assert_eq!(rt; (one.at, one.depth, one.tag, one.text.as_str()), *want);
@@ -326,9 +331,9 @@ fn check_walk(
     rt: &impl Abort,
     alloc: Global,
     file: &[u8],
-    wanted: &[Named],
+    wanted: &[NamedEntry],
 ) -> Result<(), Outcome> {
-    let (_, entries) = walked(alloc, file, Asked::Nothing)?;
+    let (_, entries) = walked(alloc, file, AskedOf::Nothing)?;
     check_entries(rt, &entries, wanted);
     Ok(())
 }
@@ -342,7 +347,7 @@ fn check_refused(
     want: Outcome,
 ) -> Result<(), AllocError> {
     let file = plain_file(alloc, info, abbrev)?;
-    assert_eq!(rt; walked(alloc, &file, Asked::Nothing).err(), Some(want));
+    assert_eq!(rt; walked(alloc, &file, AskedOf::Nothing).err(), Some(want));
     Ok(())
 }
 
@@ -501,14 +506,14 @@ fn deep_nesting(rt: HostRuntime) -> Result<(), Fail> {
 #[test]
 fn a_real_unit(rt: HostRuntime) -> Result<(), Fail> {
     let file = real_file(rt.alloc())?;
-    let (first, entries) = walked(rt.alloc(), &file, Asked::Name)?;
+    let (first, entries) = walked(rt.alloc(), &file, AskedOf::Name)?;
     assert_eq!(rt; (first.language, first.str_base), (Some(29), 8));
     check_entries(&rt, &entries, &REAL_ENTRIES);
     Ok(())
 }
 
 /// What is told of the entry at an offset.
-fn text_at(entries: &[Told], at: u64) -> &str {
+fn text_at(entries: &[ToldEntry], at: u64) -> &str {
     for one in entries {
         if one.at == at {
             return one.text.as_str();
@@ -522,7 +527,7 @@ fn text_at(entries: &[Told], at: u64) -> &str {
 fn the_values_of_a_real_unit(rt: HostRuntime) -> Result<(), Fail> {
     let file = real_file(rt.alloc())?;
     for (at, attribute, form, text) in REAL_VALUES {
-        let (_, entries) = walked(rt.alloc(), &file, Asked::Value(*attribute))?;
+        let (_, entries) = walked(rt.alloc(), &file, AskedOf::Value(*attribute))?;
         let wanted = format!(in rt.alloc(); "{form} {text}")?;
         assert_eq!(rt; text_at(&entries, *at), wanted.as_str());
     }
@@ -624,7 +629,7 @@ const CUT: &[(usize, WalkFault)] = &[
 fn entries_cut_off(rt: HostRuntime) -> Result<(), Fail> {
     for &(kept, want) in CUT {
         let file = sized_file(rt.alloc(), 4, 8, kept)?;
-        let found = walked(rt.alloc(), &file, Asked::Nothing).err();
+        let found = walked(rt.alloc(), &file, AskedOf::Nothing).err();
         assert_eq!(rt; found, Some(Outcome::Tree(want)), "{kept} bytes");
     }
     Ok(())
@@ -647,7 +652,7 @@ const WANTED: &[(usize, &str)] = &[
 #[test]
 fn wanted_attributes(rt: HostRuntime) -> Result<(), Fail> {
     let file = sized_file(rt.alloc(), 4, 8, 1000)?;
-    let (_, entries) = walked(rt.alloc(), &file, Asked::Wanted)?;
+    let (_, entries) = walked(rt.alloc(), &file, AskedOf::Wanted)?;
     for &(index, text) in WANTED {
         let found = entries.get(index).map_or("", |one| one.text.as_str());
         assert_eq!(rt; found, text);

@@ -1,6 +1,6 @@
 //! A table decided by both programs.
 use crate::plain::{Relation, View, opened};
-use crate::rows::Table;
+use crate::rows::CaseTypes;
 use std::alloc::{AllocError, Global};
 
 /// Whether numbers are equal exactly where a relation relates their places.
@@ -25,7 +25,7 @@ pub fn class_count(alloc: Global, numbers: &[u32]) -> Result<usize, AllocError> 
 
 /// What occurs in tables.
 #[derive(Clone, Copy, Default)]
-pub struct Tally {
+pub struct Occurrences {
     /// Pairs of different types that are related.
     pairs: u64,
     /// Forwards without a definition.
@@ -55,7 +55,7 @@ fn count(number: &mut u64) {
     *number = number.saturating_add(1);
 }
 
-impl Tally {
+impl Occurrences {
     /// How often something occurs.
     pub fn of(&self, occurs: Occurs) -> u64 {
         match occurs {
@@ -110,7 +110,7 @@ fn count_all(
     alloc: Global,
     view: &View<'_>,
     relation: &Relation,
-    tally: &mut Tally,
+    tally: &mut Occurrences,
 ) -> Result<(), AllocError> {
     for x in 0..view.len() {
         tally.take_pairs(relation, x);
@@ -125,7 +125,7 @@ fn agrees_opened(
     alloc: Global,
     view: &View<'_>,
     numbers: &[u32],
-    tally: &mut Tally,
+    tally: &mut Occurrences,
 ) -> Result<bool, AllocError> {
     let relation = view.coarsest(alloc)?;
     count_all(alloc, view, &relation, tally)?;
@@ -136,9 +136,9 @@ fn agrees_opened(
 /// it.
 pub fn agrees(
     alloc: Global,
-    table: &Table,
+    table: &CaseTypes,
     numbers: &[u32],
-    tally: &mut Tally,
+    tally: &mut Occurrences,
 ) -> Result<bool, AllocError> {
     let view = opened(alloc, table)?;
     agrees_opened(alloc, &view, numbers, tally)

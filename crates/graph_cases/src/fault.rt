@@ -6,7 +6,7 @@ use thiserror::Error;
 
 /// Why a case can't be decided.
 #[derive(Clone, Copy, Debug, Error)]
-pub enum Fault {
+pub enum CaseFault {
     /// A graph is none that types of files and bases make.
     #[error("a graph that is none of types")]
     Unfit,
@@ -22,20 +22,20 @@ pub enum Fault {
     Output,
 }
 
-impl From<AllocError> for Fault {
-    fn from(_e: AllocError) -> Fault {
-        Fault::Memory
+impl From<AllocError> for CaseFault {
+    fn from(_e: AllocError) -> CaseFault {
+        CaseFault::Memory
     }
 }
 
-impl<T: Drop> From<AllocFailed<T>> for Fault {
-    fn from(_e: AllocFailed<T>) -> Fault {
-        Fault::Memory
+impl<T: Drop> From<AllocFailed<T>> for CaseFault {
+    fn from(_e: AllocFailed<T>) -> CaseFault {
+        CaseFault::Memory
     }
 }
 
-impl From<io::Error> for Fault {
-    fn from(_e: io::Error) -> Fault {
-        Fault::Output
+impl From<io::Error> for CaseFault {
+    fn from(_e: io::Error) -> CaseFault {
+        CaseFault::Output
     }
 }

@@ -1,6 +1,6 @@
 //! Whether the graphs at the limits of size are as they should be.
-use crate::fault::Fault;
-use crate::merged::Found;
+use crate::fault::CaseFault;
+use crate::merged::RefinedGraph;
 use crate::sizes::{
     Large, all_differ, classes_of_fours, empty_rounds, long_name_table, merged_large,
     ring_has_two_classes, table_len,
@@ -11,7 +11,7 @@ use std::alloc::Global;
 use std::thread::Threads;
 
 /// The empty graph has no rounds.
-pub fn empty_holds<R: Print + Threads + Sync>(rt: &R, alloc: Global) -> Result<bool, Fault> {
+pub fn empty_holds<R: Print + Threads + Sync>(rt: &R, alloc: Global) -> Result<bool, CaseFault> {
     let rounds = empty_rounds(rt, alloc)?;
     match rounds {
         Some(number) => tell_number(rt, "empty graph", u64::from(number), " rounds")?,
@@ -21,13 +21,13 @@ pub fn empty_holds<R: Print + Threads + Sync>(rt: &R, alloc: Global) -> Result<b
 }
 
 /// A ring has two classes.
-pub fn ring_holds<R: Print + Threads + Sync>(rt: &R, alloc: Global) -> Result<bool, Fault> {
+pub fn ring_holds<R: Print + Threads + Sync>(rt: &R, alloc: Global) -> Result<bool, CaseFault> {
     let what = "ring of 1000 pointers among equal structures, two classes";
     tell_holds(rt, what, ring_has_two_classes(rt, alloc, 1000)?)
 }
 
 /// A large graph has so many classes by any number of workers.
-pub fn fours_hold<R: Print + Threads + Sync>(rt: &R, alloc: Global) -> Result<bool, Fault> {
+pub fn fours_hold<R: Print + Threads + Sync>(rt: &R, alloc: Global) -> Result<bool, CaseFault> {
     let fours = classes_of_fours(rt, alloc, 20_000)?;
     tell_number(
         rt,
@@ -39,7 +39,7 @@ pub fn fours_hold<R: Print + Threads + Sync>(rt: &R, alloc: Global) -> Result<bo
 }
 
 /// Whether no two types of a graph are of one class, and it has no table.
-fn are_apart<R: Print>(rt: &R, alloc: Global, ints: &Found<'_>) -> Result<bool, Fault> {
+fn are_apart<R: Print>(rt: &R, alloc: Global, ints: &RefinedGraph<'_>) -> Result<bool, CaseFault> {
     let apart = all_differ(alloc, ints.refined.classes.numbers())?;
     let apart = tell_holds(rt, "1048576 sizes of INT, all differ", apart)?;
     let too_many = Err(TableFault::TooManyTypes(1_048_576));
@@ -48,7 +48,7 @@ fn are_apart<R: Print>(rt: &R, alloc: Global, ints: &Found<'_>) -> Result<bool, 
 }
 
 /// A graph of more types than a table can have, no two of one class.
-pub fn ints_hold<R: Print + Threads + Sync>(rt: &R, alloc: Global) -> Result<bool, Fault> {
+pub fn ints_hold<R: Print + Threads + Sync>(rt: &R, alloc: Global) -> Result<bool, CaseFault> {
     let ints = merged_large(rt, alloc, Large::Ints, 1 << 20)?;
     are_apart(rt, alloc, &ints)
 }
@@ -60,6 +60,6 @@ pub fn name_holds<R: Print + Threads + Sync>(
     what: &str,
     bytes: usize,
     wanted: Result<usize, TableFault>,
-) -> Result<bool, Fault> {
+) -> Result<bool, CaseFault> {
     tell_found(rt, what, &long_name_table(rt, alloc, bytes)?, &wanted)
 }

@@ -1,6 +1,8 @@
 //! Made graphs: rows are drawn, and mostly repeated with their references moved, so that equal
 //! types and cycles occur. Definitions are now and then replaced by declarations.
-use crate::rows::{ENUM, ENUM64, FWD, INT, NONE, PTR, Row, STRUCT, TYPEDEF, Table, UNION, X, bare};
+use crate::rows::{
+    CaseType, CaseTypes, ENUM, ENUM64, FWD, INT, NONE, PTR, STRUCT, TYPEDEF, UNION, X, bare,
+};
 use small_graphs::rows::{POINTER, PartRow, TypeHead};
 use std::alloc::{AllocError, Global};
 
@@ -171,14 +173,14 @@ fn made_target(draws: &mut Draws, place: u64, step: u64, limit: u64) -> u32 {
 }
 
 /// A row at a place of a table, which refers to rows below `limit`.
-fn made_row(draws: &mut Draws, pattern: &Pattern, place: u64, limit: u64) -> Row {
+fn made_row(draws: &mut Draws, pattern: &Pattern, place: u64, limit: u64) -> CaseType {
     let head = made_head(draws, pattern);
     let count = target_count(&head);
     let mut targets = [NONE; 2];
     for (target, step) in targets.iter_mut().zip(&pattern.steps).take(count) {
         *target = made_target(draws, place, *step, limit);
     }
-    Row::new(head, targets.get(..count).unwrap_or(&[]))
+    CaseType::new(head, targets.get(..count).unwrap_or(&[]))
 }
 
 /// A drawn pattern.
@@ -211,7 +213,7 @@ fn made_rows(
     patterns: &[Pattern],
     base: u64,
     count: u64,
-) -> Result<Vec<Row>, AllocError> {
+) -> Result<Vec<CaseType>, AllocError> {
     let mut rows = Vec::new(alloc);
     for place in 0..count {
         let limit = if place < base { base } else { count };
@@ -223,11 +225,11 @@ fn made_rows(
 }
 
 /// A table of 3 to 12 rows, none to four of them of a base.
-pub fn made_table(alloc: Global, draws: &mut Draws) -> Result<Table, AllocError> {
+pub fn made_table(alloc: Global, draws: &mut Draws) -> Result<CaseTypes, AllocError> {
     let count = draws.below(10).saturating_add(3);
     let base = draws.below(5).min(count);
     let patterns = made_patterns(alloc, draws)?;
     let rows = made_rows(alloc, draws, &patterns, base, count)?;
     let base = usize::try_from(base).unwrap_or(0);
-    Ok(Table { base, rows })
+    Ok(CaseTypes { base, rows })
 }

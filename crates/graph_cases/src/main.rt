@@ -17,7 +17,7 @@ mod told;
 mod trials;
 mod worked;
 
-use fault::Fault;
+use fault::CaseFault;
 use limits::{empty_holds, fours_hold, ints_hold, name_holds, ring_holds};
 use packed::{labels_hold, lists_hold};
 use split_base::TableFault;
@@ -41,7 +41,7 @@ fn main(rt: HostRuntime) -> ExitCode {
 
 /// What is tried. Some say what is printed of them, and what is wanted.
 #[derive(Clone, Copy)]
-enum Part {
+enum Batch {
     Worked,
     Shapes,
     /// The graph of a base and a file, of at most so many nodes.
@@ -61,44 +61,48 @@ enum Part {
 const FEW: &str = "2 types of a base and 3 of a file, at most 4 nodes";
 
 /// All that is tried, in its order.
-const PARTS: &[Part] = &[
-    Part::Worked,
-    Part::Shapes,
-    Part::Joined(FEW, 4, Err(TableFault::NodesTooMany(5))),
-    Part::Joined("the same, at most 5 nodes", 5, Ok(true)),
-    Part::Made,
-    Part::Empty,
-    Part::Ring,
-    Part::Fours,
-    Part::Ints,
-    Part::LastName("a last name at 16777215", 16_777_213, Ok(2)),
-    Part::LastName("a last name at 16777216", 16_777_214, FAR),
-    Part::Labels,
-    Part::Lists,
+const PARTS: &[Batch] = &[
+    Batch::Worked,
+    Batch::Shapes,
+    Batch::Joined(FEW, 4, Err(TableFault::NodesTooMany(5))),
+    Batch::Joined("the same, at most 5 nodes", 5, Ok(true)),
+    Batch::Made,
+    Batch::Empty,
+    Batch::Ring,
+    Batch::Fours,
+    Batch::Ints,
+    Batch::LastName("a last name at 16777215", 16_777_213, Ok(2)),
+    Batch::LastName("a last name at 16777216", 16_777_214, FAR),
+    Batch::Labels,
+    Batch::Lists,
 ];
 
 /// Why a name that stands too far behind has no table.
 const FAR: Result<usize, TableFault> = Err(TableFault::NamesTooLong(16_777_216));
 
 /// Whether a part is as it should be.
-fn part_holds<R: Print + Threads + Sync>(rt: &R, alloc: Global, part: Part) -> Result<bool, Fault> {
+fn part_holds<R: Print + Threads + Sync>(
+    rt: &R,
+    alloc: Global,
+    part: Batch,
+) -> Result<bool, CaseFault> {
     match part {
-        Part::Worked => worked_agree(rt, alloc),
-        Part::Shapes => shapes_agree(rt, alloc),
-        Part::Joined(what, most, wanted) => join_holds(rt, alloc, what, most, wanted),
-        Part::Made => made_agree(rt, alloc),
-        Part::Empty => empty_holds(rt, alloc),
-        Part::Ring => ring_holds(rt, alloc),
-        Part::Fours => fours_hold(rt, alloc),
-        Part::Ints => ints_hold(rt, alloc),
-        Part::LastName(what, bytes, wanted) => name_holds(rt, alloc, what, bytes, wanted),
-        Part::Labels => labels_hold(rt, alloc),
-        Part::Lists => lists_hold(rt, alloc),
+        Batch::Worked => worked_agree(rt, alloc),
+        Batch::Shapes => shapes_agree(rt, alloc),
+        Batch::Joined(what, most, wanted) => join_holds(rt, alloc, what, most, wanted),
+        Batch::Made => made_agree(rt, alloc),
+        Batch::Empty => empty_holds(rt, alloc),
+        Batch::Ring => ring_holds(rt, alloc),
+        Batch::Fours => fours_hold(rt, alloc),
+        Batch::Ints => ints_hold(rt, alloc),
+        Batch::LastName(what, bytes, wanted) => name_holds(rt, alloc, what, bytes, wanted),
+        Batch::Labels => labels_hold(rt, alloc),
+        Batch::Lists => lists_hold(rt, alloc),
     }
 }
 
 /// Whether all graphs are as they should be.
-fn all_hold<R: Print + Threads + Sync>(rt: &R, alloc: Global) -> Result<bool, Fault> {
+fn all_hold<R: Print + Threads + Sync>(rt: &R, alloc: Global) -> Result<bool, CaseFault> {
     let mut hold = true;
     for part in PARTS {
         hold &= part_holds(rt, alloc, *part)?;
@@ -113,6 +117,6 @@ fn join_holds<R: Print>(
     what: &str,
     most: u32,
     wanted: Result<bool, TableFault>,
-) -> Result<bool, Fault> {
+) -> Result<bool, CaseFault> {
     tell_found(rt, what, &joined(alloc, most)?, &wanted)
 }

@@ -5,8 +5,8 @@ ghost use Rattle.c_model.specs.Graph.{references};
 ghost use Rattle.c_model.specs.Partition.{IsCoarsest};
 ghost use Rattle.c_model.specs.Forwards.{IsIndexOf, HasFittingForwards};
 
-use crate::fault::Fault;
-use crate::rows::{Table, types_of};
+use crate::fault::CaseFault;
+use crate::rows::{CaseTypes, types_of};
 use c_model::laws::nothing_open_is_plain;
 use c_model::{CType, Classes, Graph, TypeGraph};
 use class_halves::{classes_by_halves, split_by_halves};
@@ -23,7 +23,7 @@ use std::thread::Threads;
 
 /// A graph and its coarsest partition.
 #[derive(Drop)]
-pub struct Found<'a> {
+pub struct RefinedGraph<'a> {
     pub graph: Graph<'a>,
     pub refined: Refined,
 }
@@ -56,33 +56,33 @@ fn followed_by<'a>(types: Vec<CType<'a>>, own: Vec<CType<'a>>) -> Result<Vec<CTy
 }
 
 /// The graph of these types, the first `base` of them those of a base, where its forwards fit.
-fn fitting_graph<'a>(base: u32, nodes: Vec<CType<'a>>) -> Result<Graph<'a>, Fault>
+fn fitting_graph<'a>(base: u32, nodes: Vec<CType<'a>>) -> Result<Graph<'a>, CaseFault>
     ensures base { IfOk result (λ g. g.base ≡ base) }
     ensures nodes { IfOk result (λ g. g.nodes ≡ nodes.entry.items) }
     ensures fitting { IfOk result (λ g. HasFittingForwards g) }
 {
     let Some(graph) = graph_from(base, nodes) else {
-        return Err(Fault::Unfit);
+        return Err(CaseFault::Unfit);
     };
     if !is_fitting(&graph) {
-        return Err(Fault::Unfit);
+        return Err(CaseFault::Unfit);
     }
     Ok(graph)
 }
 
 /// The graph of a base alone.
-fn base_graph<'a>(types: Vec<CType<'a>>) -> Result<Graph<'a>, Fault>
+fn base_graph<'a>(types: Vec<CType<'a>>) -> Result<Graph<'a>, CaseFault>
     ensures { IfOk result (λ g. HasFittingForwards g) }
 {
     let Ok(count) = u32::try_from(types.len()) else {
-        return Err(Fault::Unfit);
+        return Err(CaseFault::Unfit);
     };
     let graph = fitting_graph(count, types)?;
     Ok(graph)
 }
 
 /// The graph of a base and of types behind it.
-fn joined<'a>(alone: Graph<'a>, own: Vec<CType<'a>>) -> Result<Graph<'a>, Fault>
+fn joined<'a>(alone: Graph<'a>, own: Vec<CType<'a>>) -> Result<Graph<'a>, CaseFault>
     ensures base { IfOk result (λ g. take g.base g.nodes ≡ alone.entry.nodes) }
     ensures fitting { IfOk result (λ g. HasFittingForwards g) }
 {
@@ -107,7 +107,7 @@ fn are_same_classes(numbers: &[u32], wanted: &[u32]) -> bool {
 
 /// A way to find classes by halves.
 #[derive(Clone, Copy)]
-enum Way {
+enum HalvesWay {
     /// Split from labels on.
     Split,
     /// Behind a guess, by so many workers.
@@ -116,11 +116,11 @@ enum Way {
 
 /// The ways that are tried of a graph of so many nodes. A large one is found by several numbers of
 /// workers, and of one that is too large no way is tried.
-fn ways_for(nodes: u32) -> &'static [Way] {
+fn ways_for(nodes: u32) -> &'static [HalvesWay] {
     if nodes <= COMPARED_AT_MOST {
-        &[Way::Split, Way::Guessed(2)]
+        &[HalvesWay::Split, HalvesWay::Guessed(2)]
     } else if nodes <= SHARED_AT_MOST {
-        &[Way::Guessed(1), Way::Guessed(7)]
+        &[HalvesWay::Guessed(1), HalvesWay::Guessed(7)]
     } else {
         &[]
     }
@@ -131,7 +131,7 @@ fn ways_for(nodes: u32) -> &'static [Way] {
 fn found_by<R: Threads + Sync, L: Ledger>(
     rt: &R,
     alloc: Global,
-    way: Way,
+    way: HalvesWay,
     graph: &PackedGraph<'_>,
     forwards: &FwdIndex,
     steps: &mut Steps<L>,
@@ -142,8 +142,10 @@ fn found_by<R: Threads + Sync, L: Ledger>(
         → steps.new ≤ steps.old + 2 * (references graph.now.nodes * d)) }
 {
     match way {
-        Way::Split => split_by_halves(alloc, graph, forwards, steps),
-        Way::Guessed(workers) => classes_by_halves(rt, alloc, workers, graph, forwards, steps),
+        HalvesWay::Split => split_by_halves(alloc, graph, forwards, steps),
+        HalvesWay::Guessed(workers) => classes_by_halves(
+            rt, alloc, workers, graph, forwards, steps,
+        ),
     }
 }
 
@@ -151,7 +153,7 @@ fn found_by<R: Threads + Sync, L: Ledger>(
 fn ways_agree<R: Threads + Sync, L: Ledger>(
     rt: &R,
     alloc: Global,
-    ways: &[Way],
+    ways: &[HalvesWay],
     graph: &PackedGraph<'_>,
     forwards: &FwdIndex,
     wanted: &[u32],
@@ -196,13 +198,13 @@ fn classes_with<R: Threads + Sync, L: Ledger>(
     graph: &Graph<'_>,
     forwards: &FwdIndex,
     steps: &mut Steps<L>,
-) -> Result<Refined, Fault>
+) -> Result<Refined, CaseFault>
     requires index { IsIndexOf graph.now forwards.now }
     requires fitting { HasFittingForwards graph.now }
 {
     let refined = classes(rt, alloc, graph, forwards, steps)?;
     if !all_agree(rt, alloc, graph, forwards, refined.classes.numbers(), steps)? {
-        return Err(Fault::Differs);
+        return Err(CaseFault::Differs);
     }
     Ok(refined)
 }
@@ -214,13 +216,13 @@ fn found_over<'a, R: Threads + Sync, L: Ledger>(
     graph: Graph<'a>,
     kept: &Classes,
     steps: &mut Steps<L>,
-) -> Result<Found<'a>, Fault>
+) -> Result<RefinedGraph<'a>, CaseFault>
     requires kept { IsCoarsest (take graph.base graph.nodes) kept.now }
     requires fitting { HasFittingForwards graph }
 {
     let forwards = FwdIndex::build(alloc, &graph, kept)?;
     let refined = classes_with(rt, alloc, &graph, &forwards, steps)?;
-    Ok(Found { graph, refined })
+    Ok(RefinedGraph { graph, refined })
 }
 
 /// The coarsest partition of a base's graph and of types behind it.
@@ -230,7 +232,7 @@ fn merged_behind<'a, R: Threads + Sync, L: Ledger>(
     alone: Graph<'a>,
     own: Vec<CType<'a>>,
     steps: &mut Steps<L>,
-) -> Result<Found<'a>, Fault>
+) -> Result<RefinedGraph<'a>, CaseFault>
     requires { HasFittingForwards alone }
 {
     let kept = plain_classes(rt, alloc, &alone, steps)?;
@@ -241,10 +243,10 @@ fn merged_behind<'a, R: Threads + Sync, L: Ledger>(
 pub fn merged_table<R: Threads + Sync>(
     rt: &R,
     alloc: Global,
-    table: &Table,
-) -> Result<Found<'static>, Fault> {
+    table: &CaseTypes,
+) -> Result<RefinedGraph<'static>, CaseFault> {
     let Some((base, own)) = table.rows.as_slice().split_at_checked(table.base) else {
-        return Err(Fault::Unfit);
+        return Err(CaseFault::Unfit);
     };
     let base = types_of(alloc, base)?;
     merged(rt, alloc, base, types_of(alloc, own)?)
@@ -256,7 +258,7 @@ pub fn merged<'a, R: Threads + Sync>(
     alloc: Global,
     base: Vec<CType<'a>>,
     own: Vec<CType<'a>>,
-) -> Result<Found<'a>, Fault> {
+) -> Result<RefinedGraph<'a>, CaseFault> {
     merged_over::<R, Brand>(rt, alloc, base, own, Blank::new(1))
 }
 
@@ -267,7 +269,7 @@ fn merged_over<'a, R: Threads + Sync, L: Ledger>(
     base: Vec<CType<'a>>,
     own: Vec<CType<'a>>,
     blank: Blank,
-) -> Result<Found<'a>, Fault>
+) -> Result<RefinedGraph<'a>, CaseFault>
     requires name { blank.name ≡ L.name }
     requires parts { blank.parts ≡ L.parts }
     requires some { 0 < L.parts }

@@ -1,5 +1,5 @@
 //! Packed lists of types: labels that differ in one thing alone, and lists that follow one another.
-use crate::fault::Fault;
+use crate::fault::CaseFault;
 use crate::rows::{STRUCT, UNION};
 use crate::told::tell_holds;
 use c_model::Ref;
@@ -116,7 +116,7 @@ fn labels_are_told(alloc: Global) -> Result<bool, AllocError> {
 }
 
 /// Labels that differ in one thing are told apart.
-pub fn labels_hold<R: Print>(rt: &R, alloc: Global) -> Result<bool, Fault> {
+pub fn labels_hold<R: Print>(rt: &R, alloc: Global) -> Result<bool, CaseFault> {
     let what = "labels that differ in one thing are told apart";
     tell_holds(rt, what, labels_are_told(alloc)?)
 }
@@ -147,7 +147,7 @@ const LISTS: &[&[TypeRow]] = &[&[], &[], FIRST, &[], SECOND, &[]];
 const CROSSED: &[Ref] = &[Ref::Node(1), Ref::Node(0), Ref::Node(3), Ref::Node(2)];
 
 /// Whether lists that follow one another are one list, with the references moved.
-pub fn lists_hold<R: Print>(rt: &R, alloc: Global) -> Result<bool, Fault> {
+pub fn lists_hold<R: Print>(rt: &R, alloc: Global) -> Result<bool, CaseFault> {
     let what = "lists that follow one another are one, references moved";
     let follow = are_joined(alloc, LISTS, &[0, 0, 1, 1], CROSSED)?;
     tell_holds(rt, what, follow)

@@ -1,7 +1,7 @@
 //! The coarsest agreeing partition of a small graph, straight from its definition: all pairs are
 //! related at first, and a pair that has no licence is taken away, until none is. It works on the
 //! rows of a table alone.
-use crate::rows::{ENUM, ENUM64, FWD, Row, STRUCT, Table, UNION};
+use crate::rows::{CaseType, CaseTypes, ENUM, ENUM64, FWD, STRUCT, UNION};
 use c_model::Ref;
 use small_graphs::rows::{PartRow, TypeHead};
 use std::alloc::{AllocError, Global};
@@ -139,7 +139,7 @@ fn are_one_below(relation: &Relation, rows: &[usize], limit: usize) -> bool {
 /// The rows of a table, and of each row that is an open forward its definitions.
 #[derive(Drop)]
 pub struct View<'t> {
-    rows: &'t [Row],
+    rows: &'t [CaseType],
     base: usize,
     pub definitions: Vec<Vec<usize>>,
 }
@@ -270,7 +270,7 @@ impl View<'_> {
 }
 
 /// The greatest relation of the rows of a table's base alone each pair of which has a licence.
-fn kept_of(alloc: Global, table: &Table) -> Result<Relation, AllocError> {
+fn kept_of(alloc: Global, table: &CaseTypes) -> Result<Relation, AllocError> {
     let alone = View {
         rows: table.rows.get(..table.base).unwrap_or(&[]),
         base: table.base,
@@ -280,7 +280,7 @@ fn kept_of(alloc: Global, table: &Table) -> Result<Relation, AllocError> {
 }
 
 /// A table with its open forwards.
-pub fn opened<'t>(alloc: Global, table: &'t Table) -> Result<View<'t>, AllocError> {
+pub fn opened<'t>(alloc: Global, table: &'t CaseTypes) -> Result<View<'t>, AllocError> {
     let kept = kept_of(alloc, table)?;
     let mut view = View {
         rows: table.rows.as_slice(),

@@ -32,7 +32,7 @@ pub const X_AND_Y: &[PartRow] = &[(b"x", 0), (b"y", 32)];
 
 /// A type of a table, which refers to three types at most.
 #[derive(Clone, Copy)]
-pub struct Row {
+pub struct CaseType {
     pub head: TypeHead,
     targets: [Ref; 3],
     count: usize,
@@ -47,14 +47,14 @@ fn reference(number: u32) -> Ref {
     }
 }
 
-impl Row {
+impl CaseType {
     /// A type that refers to the nodes of these numbers.
-    pub fn new(head: TypeHead, numbers: &[u32]) -> Row {
+    pub fn new(head: TypeHead, numbers: &[u32]) -> CaseType {
         let mut targets = [Ref::Void; 3];
         for (target, number) in targets.iter_mut().zip(numbers) {
             *target = reference(*number);
         }
-        Row {
+        CaseType {
             head,
             targets,
             count: numbers.len(),
@@ -69,9 +69,9 @@ impl Row {
 
 /// A graph: its types, the first `base` of which are those of a base.
 #[derive(Drop)]
-pub struct Table {
+pub struct CaseTypes {
     pub base: usize,
-    pub rows: Vec<Row>,
+    pub rows: Vec<CaseType>,
 }
 
 /// What a type without parts says of itself.
@@ -80,7 +80,7 @@ pub fn bare(kind: u8, name: &'static [u8], size: u32) -> TypeHead {
 }
 
 /// The types of these rows.
-pub fn types_of(alloc: Global, rows: &[Row]) -> Result<Vec<CType<'static>>, AllocError> {
+pub fn types_of(alloc: Global, rows: &[CaseType]) -> Result<Vec<CType<'static>>, AllocError> {
     let mut types = Vec::new(alloc);
     for row in rows {
         types.push(type_of(alloc, &row.head, row.targets())?)?;
@@ -89,7 +89,11 @@ pub fn types_of(alloc: Global, rows: &[Row]) -> Result<Vec<CType<'static>>, Allo
 }
 
 /// Appends a row that refers to the nodes of these numbers.
-pub fn push_row(rows: &mut Vec<Row>, head: TypeHead, numbers: &[u32]) -> Result<(), AllocError> {
-    rows.push(Row::new(head, numbers))?;
+pub fn push_row(
+    rows: &mut Vec<CaseType>,
+    head: TypeHead,
+    numbers: &[u32],
+) -> Result<(), AllocError> {
+    rows.push(CaseType::new(head, numbers))?;
     Ok(())
 }

@@ -1,6 +1,6 @@
 //! Graphs in shapes that are hard to split: rings, chains and trees, references of one node at many
 //! positions, and declarations whose definitions part late.
-use crate::rows::{FWD, NONE, Row, STRUCT, Table, X, X_AND_Y, bare, push_row};
+use crate::rows::{CaseType, CaseTypes, FWD, NONE, STRUCT, X, X_AND_Y, bare, push_row};
 use small_graphs::rows::{POINTER, parted};
 use std::alloc::{AllocError, Global};
 
@@ -162,13 +162,13 @@ const TWICE: &[Pair] = &[
 ];
 
 /// The number of the next row.
-fn next_row(rows: &[Row]) -> u32 {
+fn next_row(rows: &[CaseType]) -> u32 {
     u32::try_from(rows.len()).unwrap_or(NONE)
 }
 
 /// Appends a structure for each letter of a word. Each refers to the next, and the last one to
 /// `end`.
-fn push_word(rows: &mut Vec<Row>, word: &str, end: u32) -> Result<(), AllocError> {
+fn push_word(rows: &mut Vec<CaseType>, word: &str, end: u32) -> Result<(), AllocError> {
     let mut left = word.len();
     for letter in word.bytes() {
         left = left.saturating_sub(1);
@@ -181,7 +181,11 @@ fn push_word(rows: &mut Vec<Row>, word: &str, end: u32) -> Result<(), AllocError
 }
 
 /// Appends words, the last structure of each referring to the first where they are closed.
-fn push_words(rows: &mut Vec<Row>, words: &[&'static str], closed: bool) -> Result<(), AllocError> {
+fn push_words(
+    rows: &mut Vec<CaseType>,
+    words: &[&'static str],
+    closed: bool,
+) -> Result<(), AllocError> {
     for word in words {
         let end = if closed { next_row(rows) } else { NONE };
         push_word(rows, word, end)?;
@@ -201,7 +205,7 @@ fn first_rows(alloc: Global, words: &[&'static str]) -> Result<Vec<u32>, AllocEr
 }
 
 /// Appends a declaration of a tag, a pointer to it, and its definitions, which refer to these rows.
-fn push_tag(rows: &mut Vec<Row>, tag: &'static str, heads: &[u32]) -> Result<(), AllocError> {
+fn push_tag(rows: &mut Vec<CaseType>, tag: &'static str, heads: &[u32]) -> Result<(), AllocError> {
     let declared = next_row(rows);
     push_row(rows, bare(FWD, tag.as_bytes(), 0), &[])?;
     push_row(rows, POINTER, &[declared])?;
@@ -215,7 +219,7 @@ fn push_tag(rows: &mut Vec<Row>, tag: &'static str, heads: &[u32]) -> Result<(),
 /// Appends chains, and tags whose definitions refer to their first structures.
 fn push_tags(
     alloc: Global,
-    rows: &mut Vec<Row>,
+    rows: &mut Vec<CaseType>,
     tags: &[&'static str],
     ends: &[&'static str],
 ) -> Result<(), AllocError> {
@@ -228,12 +232,12 @@ fn push_tags(
 }
 
 /// Appends a structure of two members.
-fn push_pair(rows: &mut Vec<Row>, size: u32, members: [u32; 2]) -> Result<(), AllocError> {
+fn push_pair(rows: &mut Vec<CaseType>, size: u32, members: [u32; 2]) -> Result<(), AllocError> {
     push_row(rows, parted(STRUCT, b"p", size, X_AND_Y), &members)
 }
 
 /// Appends structures of two members.
-fn push_pairs(rows: &mut Vec<Row>, pairs: &[Pair]) -> Result<(), AllocError> {
+fn push_pairs(rows: &mut Vec<CaseType>, pairs: &[Pair]) -> Result<(), AllocError> {
     for (size, members) in pairs {
         push_pair(rows, *size, *members)?;
     }
@@ -241,7 +245,7 @@ fn push_pairs(rows: &mut Vec<Row>, pairs: &[Pair]) -> Result<(), AllocError> {
 }
 
 /// Appends structures of two members, which are void.
-fn push_leaves(rows: &mut Vec<Row>, sizes: &[u32]) -> Result<(), AllocError> {
+fn push_leaves(rows: &mut Vec<CaseType>, sizes: &[u32]) -> Result<(), AllocError> {
     for size in sizes {
         push_pair(rows, *size, [NONE, NONE])?;
     }
@@ -249,13 +253,21 @@ fn push_leaves(rows: &mut Vec<Row>, sizes: &[u32]) -> Result<(), AllocError> {
 }
 
 /// Appends structures of two members, and leaves behind them.
-fn push_all_pairs(rows: &mut Vec<Row>, pairs: &[Pair], leaves: &[u32]) -> Result<(), AllocError> {
+fn push_all_pairs(
+    rows: &mut Vec<CaseType>,
+    pairs: &[Pair],
+    leaves: &[u32],
+) -> Result<(), AllocError> {
     push_pairs(rows, pairs)?;
     push_leaves(rows, leaves)
 }
 
 /// Appends the rows of a shape to no rows.
-fn push_shape(alloc: Global, rows: &mut Vec<Row>, shape: &GraphShape) -> Result<(), AllocError> {
+fn push_shape(
+    alloc: Global,
+    rows: &mut Vec<CaseType>,
+    shape: &GraphShape,
+) -> Result<(), AllocError> {
     match shape {
         GraphShape::Rings(words) => push_words(rows, words, true),
         GraphShape::Chains(words) => push_words(rows, words, false),
@@ -265,8 +277,8 @@ fn push_shape(alloc: Global, rows: &mut Vec<Row>, shape: &GraphShape) -> Result<
 }
 
 /// A graph of a shape.
-pub fn shaped(alloc: Global, shape: &GraphShape) -> Result<Table, AllocError> {
+pub fn shaped(alloc: Global, shape: &GraphShape) -> Result<CaseTypes, AllocError> {
     let mut rows = Vec::new(alloc);
     push_shape(alloc, &mut rows, shape)?;
-    Ok(Table { base: 0, rows })
+    Ok(CaseTypes { base: 0, rows })
 }

@@ -1,8 +1,8 @@
 //! Graphs at the limits of size.
 use crate::compared::class_count;
-use crate::fault::Fault;
-use crate::merged::{Found, merged};
-use crate::rows::{FWD, INT, Row, bare};
+use crate::fault::CaseFault;
+use crate::merged::{RefinedGraph, merged};
+use crate::rows::{CaseType, FWD, INT, bare};
 use crate::tables::built;
 use c_model::{CType, Label, Parts, Refs};
 use class_refine::Refined;
@@ -24,7 +24,7 @@ fn rounds_of_nothing(refined: &Refined) -> Option<u32> {
 }
 
 /// The number of rounds of the empty graph, which has no classes.
-pub fn empty_rounds<R: Threads + Sync>(rt: &R, alloc: Global) -> Result<Option<u32>, Fault> {
+pub fn empty_rounds<R: Threads + Sync>(rt: &R, alloc: Global) -> Result<Option<u32>, CaseFault> {
     let found = merged(rt, alloc, Vec::new(alloc), Vec::new(alloc))?;
     Ok(rounds_of_nothing(&found.refined))
 }
@@ -44,24 +44,24 @@ pub enum Large {
 const DECLARED: u32 = 20;
 
 /// A type of fours.
-fn four_row(x: u32) -> Row {
+fn four_row(x: u32) -> CaseType {
     let place = x % 4;
     let first = x - place;
     let declared = first < 4 * DECLARED;
     match place {
-        0 => Row::new(STRUCTURE, &[first.saturating_add(1)]),
-        1 if declared => Row::new(POINTER, &[first.saturating_add(2)]),
-        2 if declared => Row::new(bare(FWD, b"ring", 0), &[]),
-        1 | 2 => Row::new(POINTER, &[first]),
-        _ => Row::new(bare(INT, b"int", first), &[]),
+        0 => CaseType::new(STRUCTURE, &[first.saturating_add(1)]),
+        1 if declared => CaseType::new(POINTER, &[first.saturating_add(2)]),
+        2 if declared => CaseType::new(bare(FWD, b"ring", 0), &[]),
+        1 | 2 => CaseType::new(POINTER, &[first]),
+        _ => CaseType::new(bare(INT, b"int", first), &[]),
     }
 }
 
 /// The type in a place of a large graph.
-fn large_row(large: Large, x: u32) -> Row {
+fn large_row(large: Large, x: u32) -> CaseType {
     match large {
         Large::Fours => four_row(x),
-        Large::Ints => Row::new(bare(INT, b"int", x), &[]),
+        Large::Ints => CaseType::new(bare(INT, b"int", x), &[]),
     }
 }
 
@@ -81,7 +81,7 @@ pub fn merged_large<R: Threads + Sync>(
     alloc: Global,
     large: Large,
     count: u32,
-) -> Result<Found<'static>, Fault> {
+) -> Result<RefinedGraph<'static>, CaseFault> {
     merged(
         rt,
         alloc,
@@ -96,7 +96,7 @@ fn are_classes<R: Threads + Sync>(
     alloc: Global,
     types: Vec<CType<'static>>,
     wanted: &[u32],
-) -> Result<bool, Fault> {
+) -> Result<bool, CaseFault> {
     let found = merged(rt, alloc, Vec::new(alloc), types)?;
     Ok(is_one_relation(found.refined.classes.numbers(), wanted))
 }
@@ -106,7 +106,7 @@ pub fn ring_has_two_classes<R: Threads + Sync>(
     rt: &R,
     alloc: Global,
     pointers: u32,
-) -> Result<bool, Fault> {
+) -> Result<bool, CaseFault> {
     let count = pointers.saturating_mul(2);
     let wanted = ring_classes(alloc, count)?;
     are_classes(rt, alloc, ring(alloc, count)?, &wanted)
@@ -117,7 +117,7 @@ pub fn classes_of_fours<R: Threads + Sync>(
     rt: &R,
     alloc: Global,
     fours: u32,
-) -> Result<usize, Fault> {
+) -> Result<usize, CaseFault> {
     let found = merged_large(rt, alloc, Large::Fours, fours.saturating_mul(4))?;
     Ok(class_count(alloc, found.refined.classes.numbers())?)
 }
@@ -143,7 +143,10 @@ pub fn all_differ(alloc: Global, numbers: &[u32]) -> Result<bool, AllocError> {
 }
 
 /// The number of types of a graph's table, or why there is none.
-pub fn table_len(alloc: Global, found: &Found<'_>) -> Result<Result<usize, TableFault>, Fault> {
+pub fn table_len(
+    alloc: Global,
+    found: &RefinedGraph<'_>,
+) -> Result<Result<usize, TableFault>, CaseFault> {
     match built(alloc, &found.graph, &found.refined.classes, None)? {
         Ok(table) => Ok(Ok(table.types.items().len())),
         Err(fault) => Ok(Err(fault)),
@@ -163,7 +166,7 @@ fn table_of_types<R: Threads + Sync>(
     rt: &R,
     alloc: Global,
     types: Vec<CType<'_>>,
-) -> Result<Result<usize, TableFault>, Fault> {
+) -> Result<Result<usize, TableFault>, CaseFault> {
     let found = merged(rt, alloc, Vec::new(alloc), types)?;
     let table = table_len(alloc, &found)?;
     Ok(table)
@@ -174,7 +177,7 @@ pub fn long_name_table<R: Threads + Sync>(
     rt: &R,
     alloc: Global,
     bytes: usize,
-) -> Result<Result<usize, TableFault>, Fault> {
+) -> Result<Result<usize, TableFault>, CaseFault> {
     let name = vec![in alloc; b'n'; bytes]?;
     let table = table_of_types(rt, alloc, two_ints(alloc, name.as_slice())?)?;
     Ok(table)

@@ -2,9 +2,9 @@
 ghost use Rattle.std.specs.Prelude.{◌≡◌, ◌<◌, ◌^◌, IfSome, length};
 ghost use Rattle.c_model.specs.Graph.{RefersWithin};
 
-use crate::fault::Fault;
-use crate::rows::Row;
-use crate::worked::{DECLARED, DEFINED, DEFINED_OVER_DECLARED, Entry, Worked};
+use crate::fault::CaseFault;
+use crate::rows::CaseType;
+use crate::worked::{DECLARED, DEFINED, DEFINED_OVER_DECLARED, Worked, WorkedType};
 use btf_codec::{Table, TableOut};
 use c_model::{CType, Classes, Graph, Nodes};
 use dw_base::Order;
@@ -20,12 +20,12 @@ pub fn built<'a>(
     graph: &Graph<'a>,
     classes: &Classes,
     base_names: Option<&'a [u8]>,
-) -> Result<Result<TableOut<'a>, TableFault>, Fault> {
+) -> Result<Result<TableOut<'a>, TableFault>, CaseFault> {
     if classes.numbers().len() != graph.nodes().len()
         || !are_formed(graph.nodes())
         || !is_base(base_names)
     {
-        return Err(Fault::Unfit);
+        return Err(CaseFault::Unfit);
     }
     Ok(build(alloc, graph, classes, base_names))
 }
@@ -34,16 +34,16 @@ pub fn built<'a>(
 fn push_listed(
     alloc: Global,
     types: &mut Vec<CType<'static>>,
-    entries: &[Entry],
+    entries: &[WorkedType],
 ) -> Result<(), AllocError> {
     for (head, numbers) in entries {
-        types.push(type_of(alloc, head, Row::new(**head, numbers).targets())?)?;
+        types.push(type_of(alloc, head, CaseType::new(**head, numbers).targets())?)?;
     }
     Ok(())
 }
 
 /// The types of these entries.
-fn listed(alloc: Global, entries: &[Entry]) -> Result<Vec<CType<'static>>, AllocError> {
+fn listed(alloc: Global, entries: &[WorkedType]) -> Result<Vec<CType<'static>>, AllocError> {
     let mut types: Vec<CType<'static>> = Vec::new(alloc);
     push_listed(alloc, &mut types, entries)?;
     Ok(types)
@@ -110,12 +110,12 @@ fn base_table(types: Vec<CType<'static>>) -> Option<Table<'static>>
 
 /// Whether the graph of a declaring base and a defining file, of at most so many nodes, is what it
 /// should be; or why there is none.
-pub fn joined(alloc: Global, most: u32) -> Result<Result<bool, TableFault>, Fault> {
+pub fn joined(alloc: Global, most: u32) -> Result<Result<bool, TableFault>, CaseFault> {
     let Some(file) = graph_from(0, listed(alloc, DEFINED)?) else {
-        return Err(Fault::Unfit);
+        return Err(CaseFault::Unfit);
     };
     match base_table(listed(alloc, DECLARED)?) {
         Some(base) => Ok(joined_over(alloc, &base, most, file)?),
-        None => Err(Fault::Unfit),
+        None => Err(CaseFault::Unfit),
     }
 }

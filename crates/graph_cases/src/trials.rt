@@ -1,9 +1,9 @@
 //! The graphs that both programs decide: worked ones, shapes, and made ones.
-use crate::compared::{Occurs, Tally, agrees, class_count};
-use crate::fault::Fault;
+use crate::compared::{Occurrences, Occurs, agrees, class_count};
+use crate::fault::CaseFault;
 use crate::made::{Draws, made_table};
-use crate::merged::{Found, merged_table};
-use crate::rows::Table;
+use crate::merged::{RefinedGraph, merged_table};
+use crate::rows::CaseTypes;
 use crate::shapes::{GraphShape, SHAPES, Shaped, shaped};
 use crate::tables::{built, is_table, written};
 use crate::told::{tell, tell_number};
@@ -23,14 +23,14 @@ fn tell_verdict<R: Print>(
     count: u64,
     differ: u64,
     none: &str,
-) -> Result<bool, Fault> {
+) -> Result<bool, CaseFault> {
     let agree = differ == 0;
     tell_number(rt, what, count, if agree { none } else { ", some differ" })?;
     Ok(agree)
 }
 
 /// 1 for a graph that is not as it should be, which is named, else 0.
-fn note<R: Print>(rt: &R, name: &str, agrees: bool) -> Result<u64, Fault> {
+fn note<R: Print>(rt: &R, name: &str, agrees: bool) -> Result<u64, CaseFault> {
     if agrees {
         return Ok(0);
     }
@@ -41,17 +41,21 @@ fn note<R: Print>(rt: &R, name: &str, agrees: bool) -> Result<u64, Fault> {
 /// The table of a graph's classes over the strings of a base.
 fn table_over<'a>(
     alloc: Global,
-    found: &Found<'a>,
+    found: &RefinedGraph<'a>,
     base_names: Option<&'a [u8]>,
-) -> Result<TableOut<'a>, Fault> {
+) -> Result<TableOut<'a>, CaseFault> {
     match built(alloc, &found.graph, &found.refined.classes, base_names)? {
         Ok(table) => Ok(table),
-        Err(fault) => Err(Fault::Table(fault)),
+        Err(fault) => Err(CaseFault::Table(fault)),
     }
 }
 
 /// Whether the classes and the table of a graph are those that are written beside it.
-fn is_as_written(alloc: Global, found: &Found<'static>, worked: &Worked) -> Result<bool, Fault> {
+fn is_as_written(
+    alloc: Global,
+    found: &RefinedGraph<'static>,
+    worked: &Worked,
+) -> Result<bool, CaseFault> {
     if !is_one_relation(found.refined.classes.numbers(), worked.classes) {
         return Ok(false);
     }
@@ -62,7 +66,7 @@ fn is_as_written(alloc: Global, found: &Found<'static>, worked: &Worked) -> Resu
 
 /// What is wanted of a graph beside that both programs find one relation.
 #[derive(Clone, Copy)]
-enum Wanted<'w> {
+enum Expected<'w> {
     Nothing,
     /// So many classes.
     Classes(usize),
@@ -71,13 +75,17 @@ enum Wanted<'w> {
 }
 
 /// Whether a graph is as it is wanted.
-fn is_wanted(alloc: Global, found: &Found<'static>, wanted: Wanted<'_>) -> Result<bool, Fault> {
+fn is_wanted(
+    alloc: Global,
+    found: &RefinedGraph<'static>,
+    wanted: Expected<'_>,
+) -> Result<bool, CaseFault> {
     match wanted {
-        Wanted::Nothing => Ok(true),
-        Wanted::Classes(count) => {
+        Expected::Nothing => Ok(true),
+        Expected::Classes(count) => {
             Ok(class_count(alloc, found.refined.classes.numbers())? == count)
         }
-        Wanted::Written(worked) => is_as_written(alloc, found, worked),
+        Expected::Written(worked) => is_as_written(alloc, found, worked),
     }
 }
 
@@ -85,11 +93,11 @@ fn is_wanted(alloc: Global, found: &Found<'static>, wanted: Wanted<'_>) -> Resul
 /// are wanted.
 fn is_decided(
     alloc: Global,
-    table: &Table,
-    found: &Found<'static>,
-    wanted: Wanted<'_>,
-    tally: &mut Tally,
-) -> Result<bool, Fault> {
+    table: &CaseTypes,
+    found: &RefinedGraph<'static>,
+    wanted: Expected<'_>,
+    tally: &mut Occurrences,
+) -> Result<bool, CaseFault> {
     if !agrees(alloc, table, found.refined.classes.numbers(), tally)? {
         return Ok(false);
     }
@@ -100,10 +108,10 @@ fn is_decided(
 fn both_agree<R: Threads + Sync>(
     rt: &R,
     alloc: Global,
-    table: &Table,
-    wanted: Wanted<'_>,
-    tally: &mut Tally,
-) -> Result<bool, Fault> {
+    table: &CaseTypes,
+    wanted: Expected<'_>,
+    tally: &mut Occurrences,
+) -> Result<bool, CaseFault> {
     let found = merged_table(rt, alloc, table)?;
     is_decided(alloc, table, &found, wanted, tally)
 }
@@ -114,10 +122,10 @@ fn worked_agrees<R: Threads + Sync>(
     rt: &R,
     alloc: Global,
     worked: &Worked,
-    tally: &mut Tally,
-) -> Result<bool, Fault> {
+    tally: &mut Occurrences,
+) -> Result<bool, CaseFault> {
     let table = table_of(alloc, worked.base, worked.types)?;
-    both_agree(rt, alloc, &table, Wanted::Written(worked), tally)
+    both_agree(rt, alloc, &table, Expected::Written(worked), tally)
 }
 
 /// How many of these graphs have other classes or another table than are written beside them. Names
@@ -126,9 +134,9 @@ fn differing<R: Print + Threads + Sync>(
     rt: &R,
     alloc: Global,
     graphs: &[Worked],
-) -> Result<u64, Fault> {
+) -> Result<u64, CaseFault> {
     let mut differ = 0u64;
-    let mut tally = Tally::default();
+    let mut tally = Occurrences::default();
     for worked in graphs {
         let agrees = worked_agrees(rt, alloc, worked, &mut tally)?;
         differ = differ.saturating_add(note(rt, worked.name, agrees)?);
@@ -137,7 +145,7 @@ fn differing<R: Print + Threads + Sync>(
 }
 
 /// The worked graphs: classes and tables are what is written beside them.
-pub fn worked_agree<R: Print + Threads + Sync>(rt: &R, alloc: Global) -> Result<bool, Fault> {
+pub fn worked_agree<R: Print + Threads + Sync>(rt: &R, alloc: Global) -> Result<bool, CaseFault> {
     let mut count = 0usize;
     let mut differ = 0u64;
     for graphs in [plain_graphs(), forward_graphs(), based_graphs()] {
@@ -154,10 +162,10 @@ fn shape_agrees<R: Threads + Sync>(
     alloc: Global,
     shape: &GraphShape,
     classes: usize,
-    tally: &mut Tally,
-) -> Result<bool, Fault> {
+    tally: &mut Occurrences,
+) -> Result<bool, CaseFault> {
     let table = shaped(alloc, shape)?;
-    both_agree(rt, alloc, &table, Wanted::Classes(classes), tally)
+    both_agree(rt, alloc, &table, Expected::Classes(classes), tally)
 }
 
 /// How many of these shapes have other classes than both programs find, or another number of them.
@@ -166,9 +174,9 @@ fn shapes_differing<R: Print + Threads + Sync>(
     rt: &R,
     alloc: Global,
     shapes: &[Shaped],
-) -> Result<u64, Fault> {
+) -> Result<u64, CaseFault> {
     let mut differ = 0u64;
-    let mut tally = Tally::default();
+    let mut tally = Occurrences::default();
     for (name, shape, classes) in shapes {
         let agrees = shape_agrees(rt, alloc, shape, *classes, &mut tally)?;
         differ = differ.saturating_add(note(rt, name, agrees)?);
@@ -177,7 +185,7 @@ fn shapes_differing<R: Print + Threads + Sync>(
 }
 
 /// The shapes: both programs find one relation, with as many classes as are written beside each.
-pub fn shapes_agree<R: Print + Threads + Sync>(rt: &R, alloc: Global) -> Result<bool, Fault> {
+pub fn shapes_agree<R: Print + Threads + Sync>(rt: &R, alloc: Global) -> Result<bool, CaseFault> {
     let differ = shapes_differing(rt, alloc, SHAPES)?;
     let what = "shapes with their numbers of classes";
     tell_verdict(rt, what, SHAPES.len() as u64, differ, ", as expected")
@@ -188,10 +196,10 @@ fn made_agrees<R: Threads + Sync>(
     rt: &R,
     alloc: Global,
     draws: &mut Draws,
-    tally: &mut Tally,
-) -> Result<bool, Fault> {
+    tally: &mut Occurrences,
+) -> Result<bool, CaseFault> {
     let table = made_table(alloc, draws)?;
-    both_agree(rt, alloc, &table, Wanted::Nothing, tally)
+    both_agree(rt, alloc, &table, Expected::Nothing, tally)
 }
 
 /// For how many of so many made graphs both programs find different relations. Tells their numbers.
@@ -199,8 +207,8 @@ fn made_differing<R: Print + Threads + Sync>(
     rt: &R,
     alloc: Global,
     count: u64,
-    tally: &mut Tally,
-) -> Result<u64, Fault> {
+    tally: &mut Occurrences,
+) -> Result<u64, CaseFault> {
     let mut draws = Draws::new(2026);
     let mut differ = 0u64;
     for number in 0..count {
@@ -213,8 +221,8 @@ fn made_differing<R: Print + Threads + Sync>(
 }
 
 /// The made graphs: both programs find one relation.
-pub fn made_agree<R: Print + Threads + Sync>(rt: &R, alloc: Global) -> Result<bool, Fault> {
-    let mut tally = Tally::default();
+pub fn made_agree<R: Print + Threads + Sync>(rt: &R, alloc: Global) -> Result<bool, CaseFault> {
+    let mut tally = Occurrences::default();
     let differ = made_differing(rt, alloc, MADE, &mut tally)?;
     let agree = tell_verdict(rt, "made graphs", MADE, differ, ", none differs")?;
     tell_tally(rt, &tally)?;
@@ -238,7 +246,7 @@ const OCCURS: &[(&str, Occurs)] = &[
 ];
 
 /// Tells what occurs in tables.
-fn tell_tally<R: Print>(rt: &R, tally: &Tally) -> Result<(), Fault> {
+fn tell_tally<R: Print>(rt: &R, tally: &Occurrences) -> Result<(), CaseFault> {
     for (what, occurs) in OCCURS {
         tell_number(rt, what, tally.of(*occurs), "")?;
     }

@@ -1,11 +1,11 @@
 //! Graphs whose coarsest partition is known from C's rules for compatible types, and whose table
 //! follows from it, by hand.
-use crate::rows::{ARRAY, ENUM, FWD, INT, STRUCT, TYPEDEF, Table, UNION, X, X_AND_Y, push_row};
+use crate::rows::{ARRAY, CaseTypes, ENUM, FWD, INT, STRUCT, TYPEDEF, UNION, X, X_AND_Y, push_row};
 use small_graphs::rows::{POINTER, PartRow, TypeHead};
 use std::alloc::{AllocError, Global};
 
 /// What a type says of itself, and the numbers of the types that it refers to.
-pub type Entry = (&'static TypeHead, &'static [u32]);
+pub type WorkedType = (&'static TypeHead, &'static [u32]);
 
 /// A graph, its classes and its table.
 #[derive(Clone, Copy)]
@@ -16,22 +16,26 @@ pub struct Worked {
     /// The strings of the base.
     pub base_names: Option<&'static [u8]>,
     /// The types of the graph, those of the base first.
-    pub types: &'static [Entry],
+    pub types: &'static [WorkedType],
     /// For each type the number of its class.
     pub classes: &'static [u32],
     /// The types of the table that are not of the base. They refer to types by ids less one.
-    pub own: &'static [Entry],
+    pub own: &'static [WorkedType],
     /// The own strings of the table.
     pub names: &'static [u8],
 }
 
 /// The rows of these types, the first `base` of them of a base.
-pub fn table_of(alloc: Global, base: usize, entries: &[Entry]) -> Result<Table, AllocError> {
+pub fn table_of(
+    alloc: Global,
+    base: usize,
+    entries: &[WorkedType],
+) -> Result<CaseTypes, AllocError> {
     let mut rows = Vec::new(alloc);
     for (head, numbers) in entries {
         push_row(&mut rows, **head, numbers)?;
     }
-    Ok(Table { base, rows })
+    Ok(CaseTypes { base, rows })
 }
 
 /// C's `int`.
@@ -226,13 +230,13 @@ const LH: TypeHead = TypeHead {
 };
 
 /// A base that declares a structure.
-pub const DECLARED: &[Entry] = &[(&SOME_FOO, &[]), (&POINTER, &[0])];
+pub const DECLARED: &[WorkedType] = &[(&SOME_FOO, &[]), (&POINTER, &[0])];
 
 /// A file that defines it. Its types are numbered from 0.
-pub const DEFINED: &[Entry] = &[(&NUMBER, &[]), (&FOO_OF_X, &[0]), (&POINTER, &[1])];
+pub const DEFINED: &[WorkedType] = &[(&NUMBER, &[]), (&FOO_OF_X, &[0]), (&POINTER, &[1])];
 
 /// The graph of both.
-pub const DEFINED_OVER_DECLARED: &[Entry] = &[
+pub const DEFINED_OVER_DECLARED: &[WorkedType] = &[
     (&SOME_FOO, &[]),
     (&POINTER, &[0]),
     (&NUMBER, &[]),

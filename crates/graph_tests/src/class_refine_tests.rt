@@ -3,7 +3,7 @@
 ghost use Rattle.std.specs.Prelude.{◌≡◌, ◌<◌};
 ghost use Rattle.c_model.specs.Forwards.{IsIndexOf, HasFittingForwards};
 
-use crate::rows::{Row, forwards_of, types_of};
+use crate::rows::{GraphRow, forwards_of, types_of};
 use c_model::Ref::{Node, Void};
 use c_model::kinds::{
     BTF_KIND_ENUM, BTF_KIND_FWD, BTF_KIND_INT, BTF_KIND_PTR, BTF_KIND_STRUCT, BTF_KIND_UNION,
@@ -29,7 +29,7 @@ const FIRST: &[PartRow] = &[(b"", 0)];
 const SECOND: &[PartRow] = &[(b"", 1)];
 
 /// Structures that refer to each other, first through declarations, then defined.
-const THROUGH_DECLARATIONS: &[Row] = &[
+const THROUGH_DECLARATIONS: &[GraphRow] = &[
     (BTF_KIND_STRUCT, b"A", 8, FIRST, &[Node(1)]),
     (BTF_KIND_PTR, b"", 0, &[], &[Node(2)]),
     (BTF_KIND_FWD, b"B", 0, &[], &[]),
@@ -46,7 +46,7 @@ const THROUGH_DECLARATIONS: &[Row] = &[
 const HALVES: &[PartRow] = &[(b"", 0), (b"", 32)];
 
 /// A declaration with two definitions that differ.
-const TWO_DEFINITIONS: &[Row] = &[
+const TWO_DEFINITIONS: &[GraphRow] = &[
     (BTF_KIND_INT, b"int", 4, &[], &[]),
     (BTF_KIND_STRUCT, b"B", 8, FIRST, &[Node(0)]),
     (BTF_KIND_PTR, b"", 0, &[], &[Node(1)]),
@@ -64,7 +64,7 @@ const TWO_DEFINITIONS: &[Row] = &[
 const LINKS: &[PartRow] = &[(b"", 0), (b"", 64)];
 
 /// The same structure with its pointer in two units, and pointers to themselves.
-const IN_TWO_UNITS: &[Row] = &[
+const IN_TWO_UNITS: &[GraphRow] = &[
     (BTF_KIND_STRUCT, b"list_head", 8, LINKS, &[Node(1), Node(1)]),
     (BTF_KIND_PTR, b"", 0, &[], &[Node(0)]),
     (BTF_KIND_STRUCT, b"list_head", 8, LINKS, &[Node(3), Node(3)]),
@@ -75,7 +75,7 @@ const IN_TWO_UNITS: &[Row] = &[
 
 /// An enumeration declared and defined, one more of that name, and a structure declared beside a
 /// union.
-const ENUMERATIONS_AND_UNIONS: &[Row] = &[
+const ENUMERATIONS_AND_UNIONS: &[GraphRow] = &[
     (BTF_KIND_ENUM, b"e", 4, &[], &[]),
     (BTF_KIND_ENUM, b"e", 4, FIRST, &[]),
     (BTF_KIND_FWD, b"t", 0, &[], &[]),
@@ -89,9 +89,9 @@ const ENUMERATIONS_AND_UNIONS: &[Row] = &[
 ];
 
 /// Types, and numbers that relate those of one class.
-type Known = (&'static [Row], &'static [u32]);
+type KnownClasses = (&'static [GraphRow], &'static [u32]);
 
-const KNOWN: &[Known] = &[
+const KNOWN: &[KnownClasses] = &[
     (THROUGH_DECLARATIONS, &[0, 1, 2, 2, 3, 0, 0, 1, 2, 3]),
     (TWO_DEFINITIONS, &[0, 1, 2, 3, 0, 4, 5, 6, 7, 8, 9]),
     (IN_TWO_UNITS, &[0, 1, 0, 1, 2, 2]),
@@ -166,7 +166,7 @@ fn relates<R: Threads + Sync>(
 fn relates_rows<R: Threads + Sync>(
     rt: &R,
     alloc: Global,
-    rows: &[Row],
+    rows: &[GraphRow],
     want: &[u32],
 ) -> Result<bool, AllocError> {
     relates(rt, alloc, types_of(alloc, rows)?, want)
@@ -176,7 +176,7 @@ fn relates_rows<R: Threads + Sync>(
 fn right_count<R: Threads + Sync>(
     rt: &R,
     alloc: Global,
-    known: &[Known],
+    known: &[KnownClasses],
 ) -> Result<usize, AllocError> {
     let mut count = 0usize;
     for graph in known {

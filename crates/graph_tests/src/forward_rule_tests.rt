@@ -1,7 +1,7 @@
 //! A declared structure and its definition, as in C's `struct t; struct t { .. };`.
 ghost use Rattle.std.specs.Prelude.{◌≡◌, ◌<◌, length};
 
-use crate::rows::{Row, forwards_of, types_of};
+use crate::rows::{GraphRow, forwards_of, types_of};
 use c_model::kinds::{BTF_KIND_FWD, BTF_KIND_PTR, BTF_KIND_STRUCT};
 use c_model::{Graph, Ref};
 use forward_rule::FwdIndex;
@@ -10,22 +10,22 @@ use std::alloc::{AllocError, Global};
 use std::test::Fail;
 
 /// A forward, a pointer to it, and a structure of that name.
-const DECLARED_AND_DEFINED: &[Row] = &[
+const DECLARED_AND_DEFINED: &[GraphRow] = &[
     (BTF_KIND_FWD, b"t", 0, &[], &[]),
     (BTF_KIND_PTR, b"", 0, &[], &[Ref::Node(0)]),
     (BTF_KIND_STRUCT, b"t", 4, &[], &[]),
 ];
 
 /// Of each node whether it is a forward, and its definitions, where it is open.
-type Wanted = (bool, &'static [u32]);
+type WantedForward = (bool, &'static [u32]);
 
-const OPENED: &[Wanted] = &[(true, &[2]), (false, &[]), (false, &[])];
+const OPENED: &[WantedForward] = &[(true, &[2]), (false, &[]), (false, &[])];
 
 /// The same where no forward is open.
-const CLOSED: &[Wanted] = &[(true, &[]), (false, &[]), (false, &[])];
+const CLOSED: &[WantedForward] = &[(true, &[]), (false, &[]), (false, &[])];
 
 /// Whether a node is as it is wanted.
-fn is_as_wanted(graph: &Graph<'_>, index: &FwdIndex, x: u32, wanted: &Wanted) -> bool
+fn is_as_wanted(graph: &Graph<'_>, index: &FwdIndex, x: u32, wanted: &WantedForward) -> bool
     requires node { x < length graph.now.nodes }
     requires index { x < length index.now }
 {
@@ -35,7 +35,7 @@ fn is_as_wanted(graph: &Graph<'_>, index: &FwdIndex, x: u32, wanted: &Wanted) ->
 }
 
 /// Whether all nodes are as they are wanted.
-fn are_as_wanted(graph: &Graph<'_>, index: &FwdIndex, wanted: &[Wanted]) -> bool
+fn are_as_wanted(graph: &Graph<'_>, index: &FwdIndex, wanted: &[WantedForward]) -> bool
     requires { length index.now ≡ length graph.now.nodes }
 {
     let mut x = 0u32;

@@ -9,7 +9,7 @@ use std::alloc::{AllocError, Global};
 
 /// A type: its kind, as `c_model::kinds` numbers it, its name, its size in bytes, its parts, and
 /// what it refers to.
-pub type Row = (
+pub type GraphRow = (
     u8,
     &'static [u8],
     u32,
@@ -18,7 +18,7 @@ pub type Row = (
 );
 
 /// The types of these rows.
-pub fn types_of(alloc: Global, rows: &[Row]) -> Result<Vec<CType<'static>>, AllocError> {
+pub fn types_of(alloc: Global, rows: &[GraphRow]) -> Result<Vec<CType<'static>>, AllocError> {
     let mut types = Vec::new(alloc);
     for (kind, name, size, pieces, targets) in rows {
         types.push(type_of(alloc, &parted(*kind, name, *size, pieces), targets)?)?;

@@ -128,6 +128,13 @@ after w back = record { type_part = w.type_part ++ back; name_part = w.name_part
 abbrev pub attribute : List ℕ → List ℕ
 attribute name = codes "__attribute__((btf_type_tag(\"" ++ (name ++ codes "\")))")
 
+-- the declaration of a type with a qualifier: before the name where the type is a pointer, else
+-- before the type part
+abbrev pub qualified : (Ref → List ℕ → Written) → List CType → List ℕ → Ref → List ℕ → Written
+qualified rest types word r d =
+    if leads_to_pointer types r then rest r (word ++ spaced d)
+    else before (word ++ codes " ") (rest r d)
+
 -- the declaration of a type with a type tag: before the name where the type is a pointer, else
 -- behind the type part
 abbrev pub tagged : (Ref → List ℕ → Written) → List CType → List ℕ → Ref → List ℕ → Written
@@ -146,9 +153,7 @@ decl_by rest types list Pointer t d =
     rest (target_at t.targets 0) (if leads_to_list types (target_at t.targets 0)
     then codes "(*" ++ (d ++ codes ")") else codes "*" ++ d)
 decl_by rest types list Qualifier t d =
-    if leads_to_pointer types (target_at t.targets 0)
-    then rest (target_at t.targets 0) (qualifier_word t.label.kind ++ spaced d)
-    else before (qualifier_word t.label.kind ++ codes " ") (rest (target_at t.targets 0) d)
+    qualified rest types (qualifier_word t.label.kind) (target_at t.targets 0) d
 decl_by rest types list Array t d =
     rest (target_at t.targets 0) (d ++ (codes "[" ++ (bound t.label.extra ++ codes "]")))
 decl_by rest types list Function t d =

@@ -7,7 +7,8 @@ ghost use Rattle.layout_printer.specs.Declarations.{Written, around, attribute, 
 ghost use Rattle.layout_printer.specs.Declarations.{decl_at, decl_by, decl_in, ended, hidden};
 ghost use Rattle.layout_printer.specs.Declarations.{leads, list_at, parameter_at, parameter_decl};
 ghost use Rattle.layout_printer.specs.Declarations.{parameter_text, parameters, part_count};
-ghost use Rattle.layout_printer.specs.Declarations.{shape_of, spaced, tagged};
+ghost use Rattle.layout_printer.specs.Declarations.{qualified, shape_of, spaced, tag_name};
+ghost use Rattle.layout_printer.specs.Declarations.{tag_word, tagged};
 
 use crate::lookups::{target_at, type_of};
 use crate::pieces::{LinePiece, put, put_if};
@@ -16,7 +17,7 @@ use crate::shapes::{
     qualifier_word, shape_of, tag_name, tag_word,
 };
 use c_model::kinds::BTF_KIND_FUNC_PROTO;
-use c_model::{CType, Ref};
+use c_model::{CType, Label, Ref};
 use std::alloc::{AllocError, Global};
 
 /// How many types a declaration follows, and so each parameter in it.
@@ -159,16 +160,7 @@ fn write_type(
             Ok(None)
         }
         Shape::Tagged => {
-            let word = tag_word(&t.label);
-            let tag = tag_name(t.label.name.bytes());
-            put(
-                &mut draft.front,
-                &[
-                    LinePiece::Text(word),
-                    LinePiece::Text(b" "),
-                    LinePiece::Text(tag),
-                ],
-            )?;
+            put_tag(&mut draft.front, &t.label)?;
             Ok(None)
         }
         Shape::Other => {
@@ -184,15 +176,7 @@ fn write_type(
             Ok(Some(target))
         }
         Shape::Qualifier => {
-            let word = qualifier_word(t.label.kind);
-            if leads_to_pointer(types, target) {
-                draft.name = qualified_name(alloc, word, &draft.name)?;
-            } else {
-                put(
-                    &mut draft.front,
-                    &[LinePiece::Text(word), LinePiece::Text(b" ")],
-                )?;
-            }
+            qualify(alloc, types, qualifier_word(t.label.kind), target, draft)?;
             Ok(Some(target))
         }
         Shape::Array => {
@@ -200,17 +184,67 @@ fn write_type(
             Ok(Some(target))
         }
         Shape::Function => {
-            put(
-                &mut draft.name,
-                &[
-                    LinePiece::Text(b"("),
-                    LinePiece::Text(list),
-                    LinePiece::Text(b")"),
-                ],
-            )?;
+            put_list(&mut draft.name, list)?;
             Ok(Some(target))
         }
     }
+}
+
+/// Appends a tag with its word before it: `struct`, `union` or `enum`.
+fn put_tag(out: &mut Vec<u8>, label: &Label<'_>) -> Result<(), AllocError>
+    ensures { OnOk result (out.new.items
+        ≡ out.old.items ++ (tag_word label.now ++ 32 ∷ tag_name label.now.name)) }
+{
+    let word = tag_word(label);
+    let tag = tag_name(label.name.bytes());
+    put(
+        out,
+        &[
+            LinePiece::Text(word),
+            LinePiece::Text(b" "),
+            LinePiece::Text(tag),
+        ],
+    )
+}
+
+/// Appends the text of the parameters of a function, in parentheses.
+fn put_list(out: &mut Vec<u8>, list: &[u8]) -> Result<(), AllocError>
+    ensures { OnOk result (out.new.items
+        ≡ out.old.items ++ (codes "(" ++ (list.now ++ codes ")"))) }
+{
+    put(
+        out,
+        &[
+            LinePiece::Text(b"("),
+            LinePiece::Text(list),
+            LinePiece::Text(b")"),
+        ],
+    )
+}
+
+/// Writes a qualifier of a type: before the name where that is a pointer, else before the type
+/// part.
+fn qualify(
+    alloc: Global,
+    types: &[CType<'_>],
+    word: &[u8],
+    target: Ref,
+    draft: &mut Draft,
+) -> Result<(), AllocError>
+    ensures { OnOk result ((rest : Ref → List ℕ → Written) →
+        around draft.new.front.items (rest target draft.new.name.items) draft.new.back.items
+        ≡ around draft.old.front.items
+        (qualified rest types.now word.now target draft.old.name.items) draft.old.back.items) }
+{
+    if leads_to_pointer(types, target) {
+        draft.name = qualified_name(alloc, word, &draft.name)?;
+    } else {
+        put(
+            &mut draft.front,
+            &[LinePiece::Text(word), LinePiece::Text(b" ")],
+        )?;
+    }
+    Ok(())
 }
 
 /// Writes a type tag of a type: before the name where that is a pointer, else behind the type part.

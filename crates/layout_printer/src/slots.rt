@@ -1,6 +1,7 @@
 //! What a layout says.
 ghost use Rattle.std.specs.Prelude.{◌≡◌};
 ghost use Rattle.layout_printer.specs.Text.{byte_holes};
+ghost use Rattle.layout_printer.specs.declared.slots.LayoutFault.TheVariants.{Memory};
 
 use dw_base::Listed;
 use std::alloc::{AllocError, AllocFailed};
@@ -55,9 +56,6 @@ pub enum LayoutFault {
 }
 
 impl From<AllocError> for LayoutFault {
-    ghost use Rattle.std.specs.Prelude.{◌≡◌};
-    ghost use Rattle.layout_printer.specs.declared.slots.LayoutFault.TheVariants.{Memory};
-
     ghost from_gives = { λ _ e. e ≡ Memory };
 
     fn from(_e: AllocError) -> LayoutFault {
@@ -66,9 +64,6 @@ impl From<AllocError> for LayoutFault {
 }
 
 impl<T: Drop> From<AllocFailed<T>> for LayoutFault {
-    ghost use Rattle.std.specs.Prelude.{◌≡◌};
-    ghost use Rattle.layout_printer.specs.declared.slots.LayoutFault.TheVariants.{Memory};
-
     ghost from_gives = { λ _ e. e ≡ Memory };
 
     fn from(_e: AllocFailed<T>) -> LayoutFault {

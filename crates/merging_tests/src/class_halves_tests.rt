@@ -3,7 +3,7 @@
 ghost use Rattle.std.specs.Prelude.{◌≡◌, ◌<◌, ◌≤◌, ◌∷◌, [], length, IfOk, OnOk};
 ghost use Rattle.c_model.specs.Forwards.{HasFittingForwards};
 
-use crate::rows::{Named, Row, btf, graph_of};
+use crate::rows::{FilePart, FileType, btf, graph_of};
 use c_model::{Classes, Graph, Nodes, Numbers};
 use class_halves::{Incoming, Members, classes_by_halves, split_by_halves};
 use dw_base::Steps;
@@ -17,14 +17,14 @@ use std::thread::Threads;
 
 /// A node that refers to itself at both positions, one that refers to it at both, one that refers
 /// to two nodes, and one that refers to none. All are structures of two members.
-const FOUR_NODES: &[Row] = &[
+const FOUR_NODES: &[FileType] = &[
     (4, b"s", 8, MEMBERS, &[1, 1]),
     (4, b"s", 8, MEMBERS, &[1, 1]),
     (4, b"s", 8, MEMBERS, &[4, 1]),
     (4, b"s", 8, MEMBERS, &[0, 0]),
 ];
 
-const MEMBERS: &[Named] = &[(b"", 0), (b"", 32)];
+const MEMBERS: &[FilePart] = &[(b"", 0), (b"", 32)];
 
 /// Whether four nodes have three classes, of which the first has two nodes.
 fn are_three(classes: &[u32]) -> bool {

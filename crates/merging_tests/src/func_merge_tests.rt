@@ -5,7 +5,7 @@ ghost use Rattle.c_model.specs.Kinds.{IsWellFormed};
 
 use crate::fitting::{are_named, are_protos};
 use crate::functions::{Function, GLOBAL, LOCAL, entries, has_funcs};
-use crate::rows::{Row, btf, graph_of, table_of};
+use crate::rows::{FileType, btf, graph_of, table_of};
 use btf_codec::Table;
 use c_model::Graph;
 use func_merge::{Chosen, choose_over};
@@ -21,24 +21,24 @@ use std::thread::Threads;
 #[derive(Clone, Copy)]
 struct Case {
     /// The types of the base; there is none where it has none.
-    base: &'static [Row],
+    base: &'static [FileType],
     /// The most nodes.
     most: u32,
     /// The types of the files, with the prototypes behind the first `plain`.
-    types: &'static [Row],
+    types: &'static [FileType],
     plain: u32,
     rows: &'static [Function],
     wanted: Result<&'static [Function], TableFault>,
 }
 
-const INT: Row = (1, b"int", 4, &[], &[]);
+const INT: FileType = (1, b"int", 4, &[], &[]);
 
 const F: &[u8] = b"f";
 
 const G: &[u8] = b"g";
 
 /// Two prototypes that return `int`, and one that returns nothing.
-const PROTOS: &[Row] = &[
+const PROTOS: &[FileType] = &[
     INT,
     (13, b"", 0, &[], &[1]),
     (13, b"", 0, &[], &[1]),
@@ -46,7 +46,7 @@ const PROTOS: &[Row] = &[
 ];
 
 /// Two prototypes that return pointers to `foo`, where it is defined and where it is only declared.
-const POINTERS: &[Row] = &[
+const POINTERS: &[FileType] = &[
     (4, b"foo", 4, &[], &[]),
     (7, b"foo", 0, &[], &[]),
     (2, b"", 0, &[], &[1]),
@@ -58,7 +58,7 @@ const POINTERS: &[Row] = &[
 const OF_POINTERS: &[Function] = &[(F, GLOBAL, 4), (F, GLOBAL, 5)];
 
 /// A prototype that returns `int`.
-const ONE: &[Row] = &[INT, (13, b"", 0, &[], &[1])];
+const ONE: &[FileType] = &[INT, (13, b"", 0, &[], &[1])];
 
 /// A case without a base, of entries of three prototypes.
 const BY_PROTOS: Case = Case {

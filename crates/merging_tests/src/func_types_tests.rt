@@ -5,17 +5,17 @@ ghost use Rattle.c_model.specs.Graph.{RefersWithin};
 
 use crate::fitting::are_protos;
 use crate::functions::{Function, GLOBAL, LOCAL, entries, has_funcs};
-use crate::rows::{Named, Row, btf, graph_of};
+use crate::rows::{FilePart, FileType, btf, graph_of};
 use c_model::{Classes, Graph, Numbers};
 use func_types::{Func, Funcs, Protos, chosen};
 use std::alloc::{AllocError, Global};
 use std::test::Fail;
 
 /// A parameter.
-const PART: Named = (b"x", 0);
+const PART: FilePart = (b"x", 0);
 
 /// `int`, and prototypes that return it.
-const TYPES: [Row; 5] = [
+const TYPES: [FileType; 5] = [
     (1, b"int", 4, &[], &[]),
     (13, b"", 0, &[PART], &[1, 0]),
     (13, b"", 0, &[PART, PART], &[1, 0, 0]),

@@ -11,15 +11,15 @@ use std::alloc::{AllocError, Global};
 use std::test::Fail;
 
 /// A part's name and its value.
-pub type Named = (&'static [u8], u32);
+pub type FilePart = (&'static [u8], u32);
 
 /// A type: its kind, its name, its size in bytes, its parts, and the ids that it refers to. Ids
 /// count from 1; 0 is void.
-pub type Row = (u8, &'static [u8], u32, &'static [Named], &'static [u32]);
+pub type FileType = (u8, &'static [u8], u32, &'static [FilePart], &'static [u32]);
 
 /// What a BTF file has behind its header.
 #[derive(Drop)]
-struct Sections {
+struct TableSections {
     types: Vec<u8>,
     names: Vec<u8>,
 }
@@ -29,7 +29,7 @@ fn put_word(bytes: &mut Vec<u8>, word: u32) -> Result<(), AllocError> {
 }
 
 /// Puts a name behind others, and its offset behind the words of types.
-fn put_name(sections: &mut Sections, name: &[u8]) -> Result<(), AllocError> {
+fn put_name(sections: &mut TableSections, name: &[u8]) -> Result<(), AllocError> {
     let at = u32::try_from(sections.names.len()).unwrap_or(0);
     put_word(&mut sections.types, at)?;
     sections.names.extend_from_slice(name)?;
@@ -39,7 +39,7 @@ fn put_name(sections: &mut Sections, name: &[u8]) -> Result<(), AllocError> {
 
 /// Puts the words of a type behind others. The kinds are INT, PTR, STRUCT, FWD, TYPEDEF and
 /// FUNC_PROTO.
-fn put_type(sections: &mut Sections, row: &Row) -> Result<(), AllocError> {
+fn put_type(sections: &mut TableSections, row: &FileType) -> Result<(), AllocError> {
     let (kind, name, size, parts, targets) = *row;
     let count = u32::try_from(parts.len()).unwrap_or(0);
     let first = targets.first().copied().unwrap_or(0);
@@ -66,9 +66,9 @@ fn bits_of(size: u32) -> u32 {
 /// Puts the words of members or parameters behind others. The first target of a FUNC_PROTO is what
 /// it returns.
 fn put_parts(
-    sections: &mut Sections,
+    sections: &mut TableSections,
     kind: u8,
-    parts: &[Named],
+    parts: &[FilePart],
     targets: &[u32],
 ) -> Result<(), AllocError> {
     let before = usize::from(kind == 13);
@@ -82,8 +82,8 @@ fn put_parts(
     Ok(())
 }
 
-fn sections_of(alloc: Global, rows: &[Row]) -> Result<Sections, AllocError> {
-    let mut sections = Sections {
+fn sections_of(alloc: Global, rows: &[FileType]) -> Result<TableSections, AllocError> {
+    let mut sections = TableSections {
         types: Vec::new(alloc),
         names: Vec::new(alloc),
     };
@@ -108,7 +108,7 @@ fn joined(alloc: Global, types: &[u8], names: &[u8]) -> Result<Vec<u8>, AllocErr
 }
 
 /// A BTF file of these types.
-pub fn btf(alloc: Global, rows: &[Row]) -> Result<Vec<u8>, AllocError> {
+pub fn btf(alloc: Global, rows: &[FileType]) -> Result<Vec<u8>, AllocError> {
     let sections = sections_of(alloc, rows)?;
     joined(alloc, &sections.types, &sections.names)
 }
@@ -137,7 +137,7 @@ pub fn graph_of<'a>(alloc: Global, base: u32, bytes: &'a [u8]) -> Result<Graph<'
 }
 
 /// Whether the parts have these names and values.
-fn has_parts(parts: &[Part<'_>], wanted: &[Named]) -> bool {
+fn has_parts(parts: &[Part<'_>], wanted: &[FilePart]) -> bool {
     for (part, (name, value)) in parts.iter().zip(wanted) {
         if part.name.bytes() != *name || part.value != u64::from(*value) {
             return false;
@@ -161,7 +161,7 @@ fn refers_to(targets: &[Ref], ids: &[u32]) -> bool {
 }
 
 /// Whether a type is that of a row.
-fn is_of(t: &CType<'_>, row: &Row) -> bool {
+fn is_of(t: &CType<'_>, row: &FileType) -> bool {
     let (kind, name, size, parts, targets) = *row;
     let label = &t.label;
     let extra = if kind == 1 { bits_of(size) } else { 0 };
@@ -174,7 +174,7 @@ fn is_of(t: &CType<'_>, row: &Row) -> bool {
 }
 
 /// Whether the types are those of these rows.
-pub fn are_of(types: &[CType<'_>], rows: &[Row]) -> bool {
+pub fn are_of(types: &[CType<'_>], rows: &[FileType]) -> bool {
     for (t, row) in types.iter().zip(rows) {
         if !is_of(t, row) {
             return false;

@@ -1,16 +1,16 @@
 //! A base that declares a structure and points to it, beside a file that defines it, as in C's
 //! `struct foo; struct foo *p;` and `struct foo { int x; } *q;`.
-use crate::rows::{Row, btf, graph_of, table_of};
+use crate::rows::{FileType, btf, graph_of, table_of};
 use c_model::{Graph, Ref};
 use split_base::{TableFault, with_base};
 use std::alloc::Global;
 use std::test::Fail;
 
 /// A forward `foo` and a pointer to it.
-const DECLARES: &[Row] = &[(7, b"foo", 0, &[], &[]), (2, b"", 0, &[], &[1])];
+const DECLARES: &[FileType] = &[(7, b"foo", 0, &[], &[]), (2, b"", 0, &[], &[1])];
 
 /// `int`, a structure `foo` of a member `x`, and a pointer to it.
-const DEFINES: &[Row] = &[
+const DEFINES: &[FileType] = &[
     (1, b"int", 4, &[], &[]),
     (4, b"foo", 4, &[(b"x", 0)], &[1]),
     (2, b"", 0, &[], &[2]),

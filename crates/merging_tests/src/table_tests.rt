@@ -2,7 +2,7 @@
 ghost use Rattle.std.specs.Prelude.{◌≡◌, All, length};
 ghost use Rattle.c_model.specs.Kinds.{IsWellFormed};
 
-use crate::rows::{Named, Row, are_of, btf, graph_of};
+use crate::rows::{FilePart, FileType, are_of, btf, graph_of};
 use btf_codec::TableOut;
 use c_model::{Classes, Graph, Numbers};
 use small_graphs::fitting::is_base;
@@ -16,21 +16,21 @@ struct Case {
     base: u32,
     /// The strings of the base.
     names: Option<&'static [u8]>,
-    nodes: &'static [Row],
+    nodes: &'static [FileType],
     classes: &'static [u32],
     /// The own types.
-    own: &'static [Row],
+    own: &'static [FileType],
     /// The own strings.
     strings: &'static [u8],
 }
 
-const X: Named = (b"x", 0);
+const X: FilePart = (b"x", 0);
 
-const Y: Named = (b"y", 32);
+const Y: FilePart = (b"y", 32);
 
-const B: Named = (b"b", 0);
+const B: FilePart = (b"b", 0);
 
-const LINKS: &[Named] = &[(b"next", 0), (b"prev", 64)];
+const LINKS: &[FilePart] = &[(b"next", 0), (b"prev", 64)];
 
 const CASES: &[Case] = &[
     // One type for each class.
@@ -143,7 +143,7 @@ const CASES: &[Case] = &[
 ];
 
 /// Whether the own types and the own strings are these.
-fn has_own(table: &TableOut<'_>, own: &[Row], strings: &[u8]) -> bool {
+fn has_own(table: &TableOut<'_>, own: &[FileType], strings: &[u8]) -> bool {
     match table.types.items().get(table.base as usize..) {
         Some(types) => are_of(types, own) && table.strings.bytes() == strings,
         None => false,

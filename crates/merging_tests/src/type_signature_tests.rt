@@ -1,7 +1,7 @@
 //! Two units that each describe a pointer to itself.
 ghost use Rattle.std.specs.Prelude.{◌≡◌, ◌<◌, length};
 
-use crate::rows::{Row, btf, graph_of};
+use crate::rows::{FileType, btf, graph_of};
 use c_model::{Classes, Graph};
 use dw_base::Steps;
 use forward_rule::FwdIndex;
@@ -12,7 +12,7 @@ use std::test::Fail;
 use type_signature::{NodeKey, Numbering, key, key_uncounted, label_classes};
 
 /// Two pointers to themselves.
-const POINTERS: &[Row] = &[(2, b"", 0, &[], &[1]), (2, b"", 0, &[], &[2])];
+const POINTERS: &[FileType] = &[(2, b"", 0, &[], &[1]), (2, b"", 0, &[], &[2])];
 
 /// The keys of both nodes, in these classes.
 fn keys_of<L: Ledger>(

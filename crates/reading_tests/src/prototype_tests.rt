@@ -102,7 +102,7 @@ const OUT: &[u8] = b"\x01\x03p\0\x0d\0\0\0\0\x03q\0\x15\0\0\0\0\0";
 
 /// Why there are no functions.
 #[derive(Clone, Copy)]
-enum Why {
+enum WhyNoFunctions {
     /// There are too many nodes, so many with the first unit that has them.
     Nodes(u64),
     /// The unit of this number, of the second file, is refused by a parameter at 46.
@@ -112,15 +112,15 @@ enum Why {
 }
 
 /// The fault that a reason stands for.
-fn fault_of(why: Why) -> FuncFault {
+fn fault_of(why: WhyNoFunctions) -> FuncFault {
     match why {
-        Why::Nodes(nodes) => FuncFault::NodesTooMany(nodes),
-        Why::Unit(unit) => FuncFault::Unit {
+        WhyNoFunctions::Nodes(nodes) => FuncFault::NodesTooMany(nodes),
+        WhyNoFunctions::Unit(unit) => FuncFault::Unit {
             file: 1,
             unit,
             fault: TypeFault::MissingType(46),
         },
-        Why::Out(at) => FuncFault::TypeRefOut {
+        WhyNoFunctions::Out(at) => FuncFault::TypeRefOut {
             file: 1,
             from: at,
             to: u128::from(at),
@@ -130,7 +130,7 @@ fn fault_of(why: Why) -> FuncFault {
 }
 
 /// Whether what came of units is what is wanted.
-fn is_wanted(found: &Result<String, FuncFault>, wanted: Result<&str, Why>) -> bool {
+fn is_wanted(found: &Result<String, FuncFault>, wanted: Result<&str, WhyNoFunctions>) -> bool {
     match (found, wanted) {
         (Ok(line), Ok(wanted)) => line.as_str() == wanted,
         (Err(fault), Err(why)) => *fault == fault_of(why),
@@ -139,7 +139,7 @@ fn is_wanted(found: &Result<String, FuncFault>, wanted: Result<&str, Why>) -> bo
 }
 
 /// The units of two files, the most nodes, and what comes of them.
-const PROTOTYPES: &[(&[&[u8]], &[&[u8]], u32, Result<&str, Why>)] = &[
+const PROTOTYPES: &[(&[&[u8]], &[&[u8]], u32, Result<&str, WhyNoFunctions>)] = &[
     (&[], &[], 0, Ok("")),
     (
         &[FIRST, SECOND],
@@ -147,16 +147,16 @@ const PROTOTYPES: &[(&[&[u8]], &[&[u8]], u32, Result<&str, Why>)] = &[
         9,
         Ok("f true 3:13,1,0; g false 4:13,void,0; h false 5:13,void,2; "),
     ),
-    (&[FIRST, SECOND], &[OTHER], 8, Err(Why::Nodes(9))),
-    (&[SECOND], &[OUT], 99, Err(Why::Out(13))),
-    (&[SECOND], &[OUT], 6, Err(Why::Nodes(7))),
+    (&[FIRST, SECOND], &[OTHER], 8, Err(WhyNoFunctions::Nodes(9))),
+    (&[SECOND], &[OUT], 99, Err(WhyNoFunctions::Out(13))),
+    (&[SECOND], &[OUT], 6, Err(WhyNoFunctions::Nodes(7))),
     (
         &[FIRST, SECOND],
         &[OTHER, UNTYPED, UNTYPED],
         99,
-        Err(Why::Unit(3)),
+        Err(WhyNoFunctions::Unit(3)),
     ),
-    (&[OUT], &[OTHER, UNTYPED], 0, Err(Why::Unit(2))),
+    (&[OUT], &[OTHER, UNTYPED], 0, Err(WhyNoFunctions::Unit(2))),
 ];
 
 #[test]

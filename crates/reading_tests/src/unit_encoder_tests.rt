@@ -106,11 +106,11 @@ fn one_file(alloc: Global, units: &[&[u8]]) -> Result<Vec<Vec<u8>>, AllocError> 
 }
 
 /// What is wanted: the graph in a line, or why there is none.
-type Wanted = Result<&'static str, Why>;
+type WantedGraph = Result<&'static str, WhyNoGraph>;
 
 /// Why units have no graph.
 #[derive(Clone, Copy)]
-enum Why {
+enum WhyNoGraph {
     /// There are too many nodes, so many with the first unit that has them.
     Nodes(u64),
     /// A reference of a file, from an offset to another, names an entry of this tag, or none (0).
@@ -120,16 +120,16 @@ enum Why {
 }
 
 /// The fault that a reason stands for.
-fn fault_of(why: Why) -> EncodeFault {
+fn fault_of(why: WhyNoGraph) -> EncodeFault {
     match why {
-        Why::Nodes(nodes) => EncodeFault::NodesTooMany(nodes),
-        Why::Out(file, from, to, tag) => EncodeFault::TypeRefOut {
+        WhyNoGraph::Nodes(nodes) => EncodeFault::NodesTooMany(nodes),
+        WhyNoGraph::Out(file, from, to, tag) => EncodeFault::TypeRefOut {
             file,
             from,
             to,
             tag,
         },
-        Why::Unit(unit, fault) => EncodeFault::Unit {
+        WhyNoGraph::Unit(unit, fault) => EncodeFault::Unit {
             file: 0,
             unit,
             fault,
@@ -138,7 +138,7 @@ fn fault_of(why: Why) -> EncodeFault {
 }
 
 /// Whether what came of units is what is wanted.
-fn is_wanted(found: &Result<String, EncodeFault>, wanted: Wanted) -> bool {
+fn is_wanted(found: &Result<String, EncodeFault>, wanted: WantedGraph) -> bool {
     match (found, wanted) {
         (Ok(line), Ok(wanted)) => line.as_str() == wanted,
         (Err(fault), Err(why)) => *fault == fault_of(why),
@@ -179,58 +179,62 @@ const ROOT: &[u8] = b"\x01\0";
 const LATE: &[u8] = b"\x01\x02i\0\x04\x05\x02i\0\x04\x05\x07\x08\0\0";
 
 /// The units of one file, the most nodes, and what comes of them.
-const GRAPHS: &[(&[&[u8]], u32, Wanted)] = &[
+const GRAPHS: &[(&[&[u8]], u32, WantedGraph)] = &[
     (&[], 0, Ok("")),
     (&[ROOT], 0, Ok("")),
     (&[FORWARD], 8, Ok("2:0,1 1:16777248 ")),
     (&[BACKWARD], 8, Ok("1:16777248 2:0,0 ")),
     (&[ITSELF, ITSELF], 2, Ok("2:0,0 2:0,1 ")),
-    (&[ITSELF, ITSELF], 1, Err(Why::Nodes(2))),
+    (&[ITSELF, ITSELF], 1, Err(WhyNoGraph::Nodes(2))),
     (&[INT, OVER], 8, Ok("1:16777248 2:0,0 ")),
     (&[OVER, INT], 8, Ok("2:0,0 1:16777248 ")),
     (&[AHEAD, INT], 8, Ok("2:0,1 1:16777248 ")),
     (&[ARRAY], 3, Ok("1:16777248 3:30,0,2 1:32 ")),
-    (&[ARRAY], 2, Err(Why::Nodes(3))),
+    (&[ARRAY], 2, Err(WhyNoGraph::Nodes(3))),
     (
         &[ARRAY, ARRAY],
         6,
         Ok("1:16777248 3:30,0,2 1:32 1:16777248 3:30,3,5 1:32 "),
     ),
-    (&[TO_ROOT], 8, Err(Why::Out(0, 13, 12, 0x11))),
-    (&[TO_FUNCTION], 8, Err(Why::Out(0, 14, 13, 0x2e))),
-    (&[AHEAD, TO_FUNCTION], 8, Err(Why::Out(0, 13, 32, 0x2e))),
-    (&[TO_MIDDLE], 8, Err(Why::Out(0, 18, 14, 0))),
+    (&[TO_ROOT], 8, Err(WhyNoGraph::Out(0, 13, 12, 0x11))),
+    (&[TO_FUNCTION], 8, Err(WhyNoGraph::Out(0, 14, 13, 0x2e))),
+    (
+        &[AHEAD, TO_FUNCTION],
+        8,
+        Err(WhyNoGraph::Out(0, 13, 32, 0x2e)),
+    ),
+    (&[TO_MIDDLE], 8, Err(WhyNoGraph::Out(0, 18, 14, 0))),
     (
         &[FAR],
         8,
-        Err(Why::Out(0, 13, 18_446_744_073_709_551_615, 0)),
+        Err(WhyNoGraph::Out(0, 13, 18_446_744_073_709_551_615, 0)),
     ),
     (
         &[ITSELF, FAR],
         8,
-        Err(Why::Out(0, 32, 18_446_744_073_709_551_634, 0)),
+        Err(WhyNoGraph::Out(0, 32, 18_446_744_073_709_551_634, 0)),
     ),
-    (&[OTHER, OVER_OTHER], 8, Err(Why::Out(0, 33, 14, 0))),
-    (&[TO_ROOT, FAR], 1, Err(Why::Nodes(2))),
+    (&[OTHER, OVER_OTHER], 8, Err(WhyNoGraph::Out(0, 33, 14, 0))),
+    (&[TO_ROOT, FAR], 1, Err(WhyNoGraph::Nodes(2))),
     (
         &[ITSELF, UNTYPED],
         0,
-        Err(Why::Unit(1, TypeFault::MissingType(33))),
+        Err(WhyNoGraph::Unit(1, TypeFault::MissingType(33))),
     ),
     (
         &[UNTYPED, UNTYPED],
         0,
-        Err(Why::Unit(0, TypeFault::MissingType(14))),
+        Err(WhyNoGraph::Unit(0, TypeFault::MissingType(14))),
     ),
     (
         &[LATE, UNTYPED],
         0,
-        Err(Why::Unit(0, TypeFault::MissingType(24))),
+        Err(WhyNoGraph::Unit(0, TypeFault::MissingType(24))),
     ),
     (
         &[UNTYPED, LATE],
         0,
-        Err(Why::Unit(0, TypeFault::MissingType(14))),
+        Err(WhyNoGraph::Unit(0, TypeFault::MissingType(14))),
     ),
 ];
 
@@ -252,12 +256,12 @@ const TWO: &[u8] = b"\x01\x02i\0\x04\x05\x03\x12\0\0\0\0";
 const PAST: &[u8] = b"\x01\x04\x12\0\0\0\0";
 
 /// The number of a file and its unit, those of another, and what comes of them.
-const FILES: &[(u32, &[u8], u32, &[u8], Wanted)] = &[
+const FILES: &[(u32, &[u8], u32, &[u8], WantedGraph)] = &[
     (0, INT, 1, OVER, Ok("1:16777248 2:0,1 ")),
     (1, INT, 0, OVER, Ok("1:16777248 2:0,1 ")),
     (0, TWO, 0, PAST, Ok("1:16777248 2:0,1 2:0,1 ")),
-    (0, TWO, 1, PAST, Err(Why::Out(1, 13, 18, 0))),
-    (1, PAST, 0, TWO, Err(Why::Out(1, 13, 18, 0))),
+    (0, TWO, 1, PAST, Err(WhyNoGraph::Out(1, 13, 18, 0))),
+    (1, PAST, 0, TWO, Err(WhyNoGraph::Out(1, 13, 18, 0))),
     (0, ITSELF, 0, ITSELF, Ok("2:0,1 2:0,1 ")),
 ];
 
@@ -295,7 +299,7 @@ const BOTH: &[u8] =
     b"\x09\x1d\x0cA\0\x08\x0db\0\x1b\0\0\0\0\0\x03\x20\0\0\0\x0cB\0\x08\x0da\0\x2d\0\0\0\0\0\x03\x0e\0\0\0\0";
 
 /// Units, the digits of those that the gate is told, and what comes of them.
-const COMPILED: &[(&[&[u8]], u64, Wanted)] = &[
+const COMPILED: &[(&[&[u8]], u64, WantedGraph)] = &[
     (
         &[LIST_HEAD, LIST_HEAD],
         12,
@@ -309,9 +313,9 @@ const COMPILED: &[(&[&[u8]], u64, Wanted)] = &[
     (
         &[LONG_INT, NAMELESS, LONG_INT, LONG_INT, NAMELESS, LONG_INT],
         12,
-        Err(Why::Unit(1, TypeFault::MissingName(36))),
+        Err(WhyNoGraph::Unit(1, TypeFault::MissingName(36))),
     ),
-    (&[TYPEDEF_OF_ROOT], 1, Err(Why::Out(0, 14, 12, 0x11))),
+    (&[TYPEDEF_OF_ROOT], 1, Err(WhyNoGraph::Out(0, 14, 12, 0x11))),
 ];
 
 #[test]
@@ -386,7 +390,7 @@ fn abbreviations(alloc: Global) -> Result<(Vec<u8>, Vec<u8>), AllocError> {
 
 /// Where the units of a first file and of a second one have their abbreviations, and what comes of
 /// them.
-const TABLES: &[(&[u64], &[u64], Wanted)] = &[
+const TABLES: &[(&[u64], &[u64], WantedGraph)] = &[
     (&[0, 0, 0], &[], Ok("1:16777248 1:16777248 1:16777248 ")),
     (&[0, 17, 17, 0], &[], Ok("1:16777248 4:0 4:0 1:16777248 ")),
     (&[0, 0], &[0, 0], Ok("1:16777248 1:16777248 4:0 4:0 ")),
@@ -394,7 +398,7 @@ const TABLES: &[(&[u64], &[u64], Wanted)] = &[
     (
         &[0, 0, 999, 0],
         &[0],
-        Err(Why::Unit(2, TypeFault::Abbrev(AbbrevFault::AbbrevTruncated(999)))),
+        Err(WhyNoGraph::Unit(2, TypeFault::Abbrev(AbbrevFault::AbbrevTruncated(999)))),
     ),
 ];
 

@@ -1,7 +1,7 @@
 //! Runs of a case whose file `a` is cut off, at each length of a range.
 use crate::case::Case;
 use crate::runs::{copies_of, is_whole, run_with};
-use crate::stops::Tally;
+use crate::stops::RunCount;
 use std::alloc::{AllocError, Global};
 use std::thread::Threads;
 use world_io::Stops;
@@ -60,7 +60,7 @@ pub fn cut_each<R: Threads + Sync>(
     alloc: Global,
     case: &Case,
     cut: &Cut<'_>,
-    tally: &mut Tally,
+    tally: &mut RunCount,
 ) -> Result<(), AllocError> {
     for length in cut.least..cut.greatest.saturating_add(1) {
         let short = cut_to(alloc, case, length, cut.complaint)?;

@@ -18,7 +18,7 @@ use runs::{is_whole, run_with};
 use std::alloc::{AllocError, Global};
 use std::process::ExitCode;
 use std::thread::Threads;
-use stops::{Tally, stop_each};
+use stops::{RunCount, stop_each};
 use world_io::{HostWorld, Stops, World};
 
 fn main(rt: HostRuntime) -> ExitCode {
@@ -39,7 +39,7 @@ fn main(rt: HostRuntime) -> ExitCode {
 
 /// How a line of a list is run.
 #[derive(Clone, Copy)]
-enum Way {
+enum RunWay {
     /// It names a case, which is run as it is.
     Whole,
     /// It names a case, which is run with each call of the world stopped.
@@ -52,7 +52,7 @@ enum Way {
 #[derive(Clone, Copy)]
 struct List {
     file: &'static str,
-    way: Way,
+    way: RunWay,
     /// What its runs are called.
     runs: &'static str,
 }
@@ -60,17 +60,17 @@ struct List {
 const LISTS: &[List] = &[
     List {
         file: "list",
-        way: Way::Whole,
+        way: RunWay::Whole,
         runs: "cases",
     },
     List {
         file: "stopped",
-        way: Way::Stopped,
+        way: RunWay::Stopped,
         runs: "runs with a call stopped",
     },
     List {
         file: "cuts",
-        way: Way::Cut,
+        way: RunWay::Cut,
         runs: "runs of files cut off",
     },
 ];
@@ -81,7 +81,7 @@ fn run_lists<R: Threads + Sync, W: World>(
     alloc: Global,
     host: &mut W,
     wrong: &mut Vec<String>,
-) -> Result<Vec<Tally>, AllocError> {
+) -> Result<Vec<RunCount>, AllocError> {
     let mut tallies = Vec::new(alloc);
     for &list in LISTS {
         tallies.push(run_list(rt, alloc, host, list, wrong)?)?;
@@ -96,8 +96,8 @@ fn run_list<R: Threads + Sync, W: World>(
     host: &mut W,
     list: List,
     wrong: &mut Vec<String>,
-) -> Result<Tally, AllocError> {
-    let mut tally = Tally::new();
+) -> Result<RunCount, AllocError> {
+    let mut tally = RunCount::new();
     for line in lines_of(alloc, host, list.file)?.iter() {
         let before = tally.differ;
         run_line(rt, alloc, host, list.way, line.as_str(), &mut tally)?;
@@ -113,14 +113,14 @@ fn run_line<R: Threads + Sync, W: World>(
     rt: &R,
     alloc: Global,
     host: &mut W,
-    way: Way,
+    way: RunWay,
     line: &str,
-    tally: &mut Tally,
+    tally: &mut RunCount,
 ) -> Result<(), AllocError> {
     match way {
-        Way::Whole => run_whole(rt, alloc, &case_of(alloc, host, line)?, tally),
-        Way::Stopped => stop_each(rt, alloc, &case_of(alloc, host, line)?, tally),
-        Way::Cut => match cut_of(line) {
+        RunWay::Whole => run_whole(rt, alloc, &case_of(alloc, host, line)?, tally),
+        RunWay::Stopped => stop_each(rt, alloc, &case_of(alloc, host, line)?, tally),
+        RunWay::Cut => match cut_of(line) {
             Some(cut) => cut_each(rt, alloc, &case_of(alloc, host, cut.case)?, &cut, tally),
             None => Ok(()),
         },
@@ -132,7 +132,7 @@ fn run_whole<R: Threads + Sync>(
     rt: &R,
     alloc: Global,
     case: &Case,
-    tally: &mut Tally,
+    tally: &mut RunCount,
 ) -> Result<(), AllocError> {
     let stops = Stops::new(Vec::from_slice(alloc, case.stops.items())?);
     let ran = run_with(rt, alloc, case, stops)?;

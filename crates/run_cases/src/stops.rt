@@ -11,15 +11,15 @@ const CALLS: u64 = 64;
 
 /// How often a case was run, and how many of these runs went wrong.
 #[derive(Clone, Copy)]
-pub struct Tally {
+pub struct RunCount {
     pub runs: u64,
     pub differ: u64,
 }
 
-impl Tally {
+impl RunCount {
     /// Nothing was run yet.
-    pub fn new() -> Tally {
-        Tally { runs: 0, differ: 0 }
+    pub fn new() -> RunCount {
+        RunCount { runs: 0, differ: 0 }
     }
 
     /// Counts a run.
@@ -36,7 +36,7 @@ pub fn stop_each<R: Threads + Sync>(
     rt: &R,
     alloc: Global,
     case: &Case,
-    tally: &mut Tally,
+    tally: &mut RunCount,
 ) -> Result<(), AllocError> {
     for call in 0..CALLS {
         if !stop_call(rt, alloc, case, call, tally)? {
@@ -53,7 +53,7 @@ fn stop_call<R: Threads + Sync>(
     alloc: Global,
     case: &Case,
     call: u64,
-    tally: &mut Tally,
+    tally: &mut RunCount,
 ) -> Result<bool, AllocError> {
     let mut is_there = false;
     for takes in 0..most_bytes(case).saturating_add(2) {

@@ -387,12 +387,12 @@ const NO_ELF: [(usize, u8); 1] = [(3, 0)];
 
 /// What is changed in the file `a`, the byte order of `b`, how many bytes fewer than `a` has a file
 /// may have, what is changed in `b`, and the complaint.
-type Refusal = (Changes, Order, u64, Changes, &'static str);
+type RefusedFiles = (Changes, Order, u64, Changes, &'static str);
 
 /// Places in a file, and the bytes that stand there instead.
 type Changes = &'static [(usize, u8)];
 
-const REFUSALS: &[Refusal] = &[
+const REFUSALS: &[RefusedFiles] = &[
     (
         &NO_ELF,
         Order::Little,

@@ -1,7 +1,7 @@
 //! Texts of small tables: worked rows, and each form of a declaration written out by hand; sizes,
 //! places of members, and long chains of typedefs.
 use crate::fitting::is_structure;
-use crate::rows::{Row, Rows, push, push_typedefs, table_of, types_of};
+use crate::rows::{TableRow, TableRows, push, push_typedefs, table_of, types_of};
 use btf_codec::Table;
 use c_model::{CType, Ref};
 use dw_base::Bytes;
@@ -14,9 +14,9 @@ use std::alloc::{AllocError, Global};
 use std::test::Fail;
 
 /// A structure without a name, and a typedef of it.
-const REGISTRY: Rows = &[
-    Row(1, b"char", false, 1, 8, &[], &[]),
-    Row(
+const REGISTRY: TableRows = &[
+    TableRow(1, b"char", false, 1, 8, &[], &[]),
+    TableRow(
         4,
         b"",
         true,
@@ -32,13 +32,13 @@ const REGISTRY: Rows = &[
         ],
         &[1, 3, 4, 6, 7, 7],
     ),
-    Row(1, b"long long int", false, 8, 0, &[], &[]),
-    Row(2, b"", false, 0, 0, &[], &[5]),
-    Row(7, b"node", false, 0, 0, &[], &[]),
-    Row(3, b"", false, 0, 40, &[], &[1, 9]),
-    Row(1, b"unsigned int", false, 4, 0, &[], &[]),
-    Row(8, b"registry", false, 0, 0, &[], &[2]),
-    Row(1, b"__ARRAY_SIZE_TYPE__", false, 4, 0, &[], &[]),
+    TableRow(1, b"long long int", false, 8, 0, &[], &[]),
+    TableRow(2, b"", false, 0, 0, &[], &[5]),
+    TableRow(7, b"node", false, 0, 0, &[], &[]),
+    TableRow(3, b"", false, 0, 40, &[], &[1, 9]),
+    TableRow(1, b"unsigned int", false, 4, 0, &[], &[]),
+    TableRow(8, b"registry", false, 0, 0, &[], &[2]),
+    TableRow(1, b"__ARRAY_SIZE_TYPE__", false, 4, 0, &[], &[]),
 ];
 
 /// The text of that typedef.
@@ -62,8 +62,8 @@ const REGISTRY_TEXT: &[u8] = b"typedef struct {\n\
     } registry;\n";
 
 /// A structure with pointers to itself.
-const LIST_HEAD: Rows = &[
-    Row(
+const LIST_HEAD: TableRows = &[
+    TableRow(
         4,
         b"list_head",
         false,
@@ -72,7 +72,7 @@ const LIST_HEAD: Rows = &[
         &[(b"next", 0), (b"prev", 0x40)],
         &[2, 2],
     ),
-    Row(2, b"", false, 0, 0, &[], &[1]),
+    TableRow(2, b"", false, 0, 0, &[], &[1]),
 ];
 
 /// Its text.
@@ -85,37 +85,37 @@ const LIST_HEAD_TEXT: &[u8] = b"struct list_head {\n\
     };\n";
 
 /// A union with a member of each form.
-const FORMS: Rows = &[
-    Row(1, b"char", false, 1, 0, &[], &[]),
-    Row(10, b"", false, 0, 0, &[], &[1]),
-    Row(2, b"", false, 0, 0, &[], &[2]),
-    Row(10, b"", false, 0, 0, &[], &[3]),
-    Row(9, b"", false, 0, 0, &[], &[6]),
-    Row(1, b"int", false, 4, 0, &[], &[]),
-    Row(3, b"", false, 0, 2, &[], &[3, 6]),
-    Row(3, b"", false, 0, 0, &[], &[6, 6]),
-    Row(2, b"", false, 0, 0, &[], &[7]),
-    Row(4, b"", false, 4, 0, &[], &[]),
-    Row(5, b"u", false, 8, 0, &[], &[]),
-    Row(6, b"e", false, 4, 0, &[], &[]),
-    Row(7, b"w", true, 0, 0, &[], &[]),
-    Row(2, b"", false, 0, 0, &[], &[13]),
-    Row(13, b"", false, 0, 0, &[], &[0]),
-    Row(2, b"", false, 0, 0, &[], &[15]),
-    Row(13, b"", false, 0, 0, &[(b"n", 0), (b"", 0)], &[3, 6, 0]),
-    Row(2, b"", false, 0, 0, &[], &[17]),
-    Row(13, b"", false, 0, 0, &[(b"cb", 0), (b"", 0)], &[6, 18, 14]),
-    Row(2, b"", false, 0, 0, &[], &[19]),
-    Row(18, b"user", false, 0, 0, &[], &[1]),
-    Row(2, b"", false, 0, 0, &[], &[21]),
-    Row(11, b"", false, 0, 0, &[], &[3]),
-    Row(8, b"t", false, 0, 0, &[], &[6]),
-    Row(16, b"double", false, 8, 0, &[], &[]),
-    Row(2, b"", false, 0, 0, &[], &[0]),
-    Row(14, b"v", false, 0, 0, &[], &[6]),
-    Row(19, b"", false, 8, 0, &[], &[]),
-    Row(2, b"", false, 0, 0, &[], &[29]),
-    Row(
+const FORMS: TableRows = &[
+    TableRow(1, b"char", false, 1, 0, &[], &[]),
+    TableRow(10, b"", false, 0, 0, &[], &[1]),
+    TableRow(2, b"", false, 0, 0, &[], &[2]),
+    TableRow(10, b"", false, 0, 0, &[], &[3]),
+    TableRow(9, b"", false, 0, 0, &[], &[6]),
+    TableRow(1, b"int", false, 4, 0, &[], &[]),
+    TableRow(3, b"", false, 0, 2, &[], &[3, 6]),
+    TableRow(3, b"", false, 0, 0, &[], &[6, 6]),
+    TableRow(2, b"", false, 0, 0, &[], &[7]),
+    TableRow(4, b"", false, 4, 0, &[], &[]),
+    TableRow(5, b"u", false, 8, 0, &[], &[]),
+    TableRow(6, b"e", false, 4, 0, &[], &[]),
+    TableRow(7, b"w", true, 0, 0, &[], &[]),
+    TableRow(2, b"", false, 0, 0, &[], &[13]),
+    TableRow(13, b"", false, 0, 0, &[], &[0]),
+    TableRow(2, b"", false, 0, 0, &[], &[15]),
+    TableRow(13, b"", false, 0, 0, &[(b"n", 0), (b"", 0)], &[3, 6, 0]),
+    TableRow(2, b"", false, 0, 0, &[], &[17]),
+    TableRow(13, b"", false, 0, 0, &[(b"cb", 0), (b"", 0)], &[6, 18, 14]),
+    TableRow(2, b"", false, 0, 0, &[], &[19]),
+    TableRow(18, b"user", false, 0, 0, &[], &[1]),
+    TableRow(2, b"", false, 0, 0, &[], &[21]),
+    TableRow(11, b"", false, 0, 0, &[], &[3]),
+    TableRow(8, b"t", false, 0, 0, &[], &[6]),
+    TableRow(16, b"double", false, 8, 0, &[], &[]),
+    TableRow(2, b"", false, 0, 0, &[], &[0]),
+    TableRow(14, b"v", false, 0, 0, &[], &[6]),
+    TableRow(19, b"", false, 8, 0, &[], &[]),
+    TableRow(2, b"", false, 0, 0, &[], &[29]),
+    TableRow(
         5,
         b"forms",
         false,
@@ -181,34 +181,34 @@ const FORMS_TEXT: &[u8] = b"union forms {\n\
     };\n";
 
 /// A union whose members have tags of types.
-const TAGGED: Rows = &[
-    Row(1, b"int", false, 4, 0, &[], &[]),
-    Row(18, b"user", false, 0, 0, &[], &[1]),
-    Row(2, b"", false, 0, 0, &[], &[2]),
-    Row(18, b"q", false, 0, 0, &[], &[1]),
-    Row(18, b"p", false, 0, 0, &[], &[4]),
-    Row(2, b"", false, 0, 0, &[], &[5]),
-    Row(2, b"", false, 0, 0, &[], &[1]),
-    Row(18, b"user", false, 0, 0, &[], &[7]),
-    Row(2, b"", false, 0, 0, &[], &[8]),
-    Row(10, b"", false, 0, 0, &[], &[2]),
-    Row(2, b"", false, 0, 0, &[], &[10]),
-    Row(10, b"", false, 0, 0, &[], &[1]),
-    Row(18, b"user", false, 0, 0, &[], &[12]),
-    Row(2, b"", false, 0, 0, &[], &[13]),
-    Row(3, b"", false, 0, 2, &[], &[1, 1]),
-    Row(18, b"user", false, 0, 0, &[], &[15]),
-    Row(2, b"", false, 0, 0, &[], &[16]),
-    Row(13, b"", false, 0, 0, &[], &[0]),
-    Row(18, b"user", false, 0, 0, &[], &[18]),
-    Row(2, b"", false, 0, 0, &[], &[19]),
-    Row(13, b"", false, 0, 0, &[(b"x", 0)], &[0, 3]),
-    Row(2, b"", false, 0, 0, &[], &[21]),
-    Row(18, b"p", false, 0, 0, &[], &[8]),
-    Row(2, b"", false, 0, 0, &[], &[23]),
-    Row(18, b"user", false, 0, 0, &[], &[0]),
-    Row(2, b"", false, 0, 0, &[], &[25]),
-    Row(
+const TAGGED: TableRows = &[
+    TableRow(1, b"int", false, 4, 0, &[], &[]),
+    TableRow(18, b"user", false, 0, 0, &[], &[1]),
+    TableRow(2, b"", false, 0, 0, &[], &[2]),
+    TableRow(18, b"q", false, 0, 0, &[], &[1]),
+    TableRow(18, b"p", false, 0, 0, &[], &[4]),
+    TableRow(2, b"", false, 0, 0, &[], &[5]),
+    TableRow(2, b"", false, 0, 0, &[], &[1]),
+    TableRow(18, b"user", false, 0, 0, &[], &[7]),
+    TableRow(2, b"", false, 0, 0, &[], &[8]),
+    TableRow(10, b"", false, 0, 0, &[], &[2]),
+    TableRow(2, b"", false, 0, 0, &[], &[10]),
+    TableRow(10, b"", false, 0, 0, &[], &[1]),
+    TableRow(18, b"user", false, 0, 0, &[], &[12]),
+    TableRow(2, b"", false, 0, 0, &[], &[13]),
+    TableRow(3, b"", false, 0, 2, &[], &[1, 1]),
+    TableRow(18, b"user", false, 0, 0, &[], &[15]),
+    TableRow(2, b"", false, 0, 0, &[], &[16]),
+    TableRow(13, b"", false, 0, 0, &[], &[0]),
+    TableRow(18, b"user", false, 0, 0, &[], &[18]),
+    TableRow(2, b"", false, 0, 0, &[], &[19]),
+    TableRow(13, b"", false, 0, 0, &[(b"x", 0)], &[0, 3]),
+    TableRow(2, b"", false, 0, 0, &[], &[21]),
+    TableRow(18, b"p", false, 0, 0, &[], &[8]),
+    TableRow(2, b"", false, 0, 0, &[], &[23]),
+    TableRow(18, b"user", false, 0, 0, &[], &[0]),
+    TableRow(2, b"", false, 0, 0, &[], &[25]),
+    TableRow(
         5,
         b"tagged",
         false,
@@ -250,9 +250,9 @@ const TAGGED_TEXT: &[u8] = b"union tagged {\n\
     };\n";
 
 /// A structure of bit fields, with holes between them.
-const BITS: Rows = &[
-    Row(1, b"int", false, 4, 0, &[], &[]),
-    Row(
+const BITS: TableRows = &[
+    TableRow(1, b"int", false, 4, 0, &[], &[]),
+    TableRow(
         4,
         b"bits",
         true,
@@ -301,11 +301,11 @@ const BITS_TEXT: &[u8] = b"struct bits {\n\
     };\n";
 
 /// A structure whose members pass cache lines.
-const WIDE: Rows = &[
-    Row(1, b"int", false, 4, 0, &[], &[]),
-    Row(1, b"char", false, 1, 0, &[], &[]),
-    Row(3, b"", false, 0, 126, &[], &[2, 1]),
-    Row(
+const WIDE: TableRows = &[
+    TableRow(1, b"int", false, 4, 0, &[], &[]),
+    TableRow(1, b"char", false, 1, 0, &[], &[]),
+    TableRow(3, b"", false, 0, 126, &[], &[2, 1]),
+    TableRow(
         4,
         b"s",
         false,
@@ -350,7 +350,14 @@ const WIDE_BY_128: &[u8] = b"struct s {\n\
 
 /// What it is, the rows of its table, the type's id, that of its structure, how many bytes a cache
 /// line has, and its text; where nothing is said of cache lines, its line of sizes.
-type Printed = (&'static str, Rows, u32, u32, Option<u32>, &'static [u8]);
+type Printed = (
+    &'static str,
+    TableRows,
+    u32,
+    u32,
+    Option<u32>,
+    &'static [u8],
+);
 
 const PRINTED: [Printed; 9] = [
     (
@@ -393,7 +400,7 @@ const PRINTED: [Printed; 9] = [
 ];
 
 /// The table of rows.
-fn table_by(alloc: Global, rows: &[Row<'static, '_>]) -> Result<Table<'static>, AllocError> {
+fn table_by(alloc: Global, rows: &[TableRow<'static, '_>]) -> Result<Table<'static>, AllocError> {
     Ok(table_of(0, types_of(alloc, rows)?))
 }
 
@@ -431,7 +438,7 @@ fn text_in(
 /// The same of the table of rows.
 fn text_by(
     alloc: Global,
-    rows: Rows,
+    rows: TableRows,
     id: u32,
     structure: u32,
     line: Option<u32>,
@@ -454,7 +461,7 @@ fn first_other_text(alloc: Global) -> Result<Option<&'static str>, Fail> {
 type MemberPlace = (u64, u64, bool, u64);
 
 /// An `int`.
-const INT: Row<'static, 'static> = Row(1, b"int", false, 4, 0, &[], &[]);
+const INT: TableRow<'static, 'static> = TableRow(1, b"int", false, 4, 0, &[], &[]);
 
 /// A structure of two members of `int`: its flag, its size, the offset words of its members, the
 /// places of these, and the padding.
@@ -528,7 +535,7 @@ fn placed_members(alloc: Global, row: &Placed) -> Result<Result<TypeLayout, Layo
     push(
         alloc,
         &mut types,
-        Row(4, b"s", flag, size, 0, &members, &[1, 1]),
+        TableRow(4, b"s", flag, size, 0, &members, &[1, 1]),
     )?;
     placed(alloc, &table_of(0, types), 2)
 }
@@ -567,10 +574,10 @@ fn first_other_layout(alloc: Global, rows: &[Placed]) -> Result<Option<usize>, F
 }
 
 /// A structure with a pointer, and a member of a type that has no size.
-const UNSIZED: Rows = &[
-    Row(4, b"s", false, 4, 0, &[(b"p", 0), (b"x", 64)], &[3, 2]),
-    Row(7, b"t", false, 0, 0, &[], &[]),
-    Row(2, b"", false, 0, 0, &[], &[2]),
+const UNSIZED: TableRows = &[
+    TableRow(4, b"s", false, 4, 0, &[(b"p", 0), (b"x", 64)], &[3, 2]),
+    TableRow(7, b"t", false, 0, 0, &[], &[]),
+    TableRow(2, b"", false, 0, 0, &[], &[2]),
 ];
 
 /// Whether that structure has no layout, since this type has no size.
@@ -589,42 +596,48 @@ fn texts_and_layouts(rt: HostRuntime) -> Result<(), Fail> {
 }
 
 /// The types of a table, each with its size.
-const SIZED: &[(Row<'static, 'static>, Option<u64>)] = &[
-    (Row(1, b"int", false, 4, 32, &[], &[]), Some(4)),
-    (Row(2, b"", false, 0, 0, &[], &[7]), Some(8)),
-    (Row(3, b"", false, 0, 10, &[], &[1, 1]), Some(40)),
-    (Row(4, b"s", false, 12, 0, &[], &[]), Some(12)),
-    (Row(5, b"u", false, 6, 0, &[], &[]), Some(6)),
-    (Row(6, b"e", false, 2, 0, &[], &[]), Some(2)),
-    (Row(7, b"f", false, 0, 0, &[], &[]), None),
-    (Row(8, b"t", false, 0, 0, &[], &[9]), Some(40)),
-    (Row(9, b"", false, 0, 0, &[], &[3]), Some(40)),
-    (Row(10, b"", false, 0, 0, &[], &[11]), Some(8)),
-    (Row(11, b"", false, 0, 0, &[], &[2]), Some(8)),
-    (Row(12, b"call", false, 0, 1, &[], &[13]), None),
-    (Row(13, b"", false, 0, 0, &[], &[1]), None),
-    (Row(14, b"v", false, 0, 1, &[], &[4]), Some(12)),
-    (Row(15, b".data", false, 16, 0, &[], &[]), Some(16)),
-    (Row(16, b"double", false, 8, 0, &[], &[]), Some(8)),
-    (Row(17, b"tag", false, 0, 0, &[], &[4]), None),
-    (Row(18, b"user", false, 0, 0, &[], &[5]), Some(6)),
-    (Row(19, b"wide", false, 8, 0, &[], &[]), Some(8)),
+const SIZED: &[(TableRow<'static, 'static>, Option<u64>)] = &[
+    (TableRow(1, b"int", false, 4, 32, &[], &[]), Some(4)),
+    (TableRow(2, b"", false, 0, 0, &[], &[7]), Some(8)),
+    (TableRow(3, b"", false, 0, 10, &[], &[1, 1]), Some(40)),
+    (TableRow(4, b"s", false, 12, 0, &[], &[]), Some(12)),
+    (TableRow(5, b"u", false, 6, 0, &[], &[]), Some(6)),
+    (TableRow(6, b"e", false, 2, 0, &[], &[]), Some(2)),
+    (TableRow(7, b"f", false, 0, 0, &[], &[]), None),
+    (TableRow(8, b"t", false, 0, 0, &[], &[9]), Some(40)),
+    (TableRow(9, b"", false, 0, 0, &[], &[3]), Some(40)),
+    (TableRow(10, b"", false, 0, 0, &[], &[11]), Some(8)),
+    (TableRow(11, b"", false, 0, 0, &[], &[2]), Some(8)),
+    (TableRow(12, b"call", false, 0, 1, &[], &[13]), None),
+    (TableRow(13, b"", false, 0, 0, &[], &[1]), None),
+    (TableRow(14, b"v", false, 0, 1, &[], &[4]), Some(12)),
+    (TableRow(15, b".data", false, 16, 0, &[], &[]), Some(16)),
+    (TableRow(16, b"double", false, 8, 0, &[], &[]), Some(8)),
+    (TableRow(17, b"tag", false, 0, 0, &[], &[4]), None),
+    (TableRow(18, b"user", false, 0, 0, &[], &[5]), Some(6)),
+    (TableRow(19, b"wide", false, 8, 0, &[], &[]), Some(8)),
     // Two cycles, and what leads into one.
-    (Row(8, b"a", false, 0, 0, &[], &[21]), None),
-    (Row(10, b"", false, 0, 0, &[], &[20]), None),
-    (Row(3, b"", false, 0, 0, &[], &[20, 1]), None),
-    (Row(8, b"b", false, 0, 0, &[], &[22]), None),
-    (Row(8, b"c", false, 0, 0, &[], &[24]), None),
+    (TableRow(8, b"a", false, 0, 0, &[], &[21]), None),
+    (TableRow(10, b"", false, 0, 0, &[], &[20]), None),
+    (TableRow(3, b"", false, 0, 0, &[], &[20, 1]), None),
+    (TableRow(8, b"b", false, 0, 0, &[], &[22]), None),
+    (TableRow(8, b"c", false, 0, 0, &[], &[24]), None),
     // Arrays up to 2^60 bytes and past them.
-    (Row(3, b"", false, 0, 1 << 31, &[], &[1, 1]), Some(1 << 33)),
-    (Row(3, b"", false, 0, 1 << 27, &[], &[25, 1]), Some(1 << 60)),
-    (Row(3, b"", false, 0, 2, &[], &[26, 1]), None),
-    (Row(3, b"", false, 0, 0, &[], &[27, 1]), None),
-    (Row(3, b"", false, 0, 0, &[], &[26, 1]), Some(0)),
+    (
+        TableRow(3, b"", false, 0, 1 << 31, &[], &[1, 1]),
+        Some(1 << 33),
+    ),
+    (
+        TableRow(3, b"", false, 0, 1 << 27, &[], &[25, 1]),
+        Some(1 << 60),
+    ),
+    (TableRow(3, b"", false, 0, 2, &[], &[26, 1]), None),
+    (TableRow(3, b"", false, 0, 0, &[], &[27, 1]), None),
+    (TableRow(3, b"", false, 0, 0, &[], &[26, 1]), Some(0)),
     // Void, no target, and none that is there.
-    (Row(10, b"", false, 0, 0, &[], &[0]), None),
-    (Row(3, b"", false, 0, 1, &[], &[]), None),
-    (Row(8, b"d", false, 0, 0, &[], &[3000]), None),
+    (TableRow(10, b"", false, 0, 0, &[], &[0]), None),
+    (TableRow(3, b"", false, 0, 1, &[], &[]), None),
+    (TableRow(8, b"d", false, 0, 0, &[], &[3000]), None),
 ];
 
 /// These types.
@@ -685,7 +698,7 @@ fn push_structures<'a>(
     types: &mut Vec<CType<'a>>,
     members: &[PartRow<'a>],
 ) -> Result<(), AllocError> {
-    let structure = Row(4, b"t", false, 400, 0, members, &[100_001; 100]);
+    let structure = TableRow(4, b"t", false, 400, 0, members, &[100_001; 100]);
     for _ in 0..1_000 {
         push(alloc, types, structure)?;
     }
@@ -693,7 +706,7 @@ fn push_structures<'a>(
 }
 
 /// A type, 100,000 typedefs of it behind each other, and 1,000 structures with members of the last.
-fn long_chain<'a>(alloc: Global, first: Row<'a, '_>) -> Result<Table<'a>, AllocError> {
+fn long_chain<'a>(alloc: Global, first: TableRow<'a, '_>) -> Result<Table<'a>, AllocError> {
     let members = members(alloc)?;
     let mut types = Vec::new(alloc);
     push(alloc, &mut types, first)?;
@@ -731,9 +744,9 @@ fn is_whole(placed: Result<TypeLayout, LayoutFault>) -> Result<bool, Fail> {
 
 /// An `int`, and a typedef of the last typedef of a long chain, and whether all structures behind
 /// the chain have a layout.
-const FIRST: &[(Row<'static, 'static>, bool)] = &[
-    (Row(1, b"t", false, 4, 0, &[], &[0]), true),
-    (Row(8, b"t", false, 0, 0, &[], &[100_001]), false),
+const FIRST: &[(TableRow<'static, 'static>, bool)] = &[
+    (TableRow(1, b"t", false, 4, 0, &[], &[0]), true),
+    (TableRow(8, b"t", false, 0, 0, &[], &[100_001]), false),
 ];
 
 /// The first type behind which it is otherwise, by its place in the list.

@@ -8,7 +8,7 @@ use std::alloc::{AllocError, Global};
 /// A type by its kind, its name, its flag, its size, its extra word, its parts, and the ids of its
 /// targets, where 0 is void.
 #[derive(Clone, Copy)]
-pub struct Row<'a, 'r>(
+pub struct TableRow<'a, 'r>(
     pub u8,
     pub &'a [u8],
     pub bool,
@@ -19,7 +19,7 @@ pub struct Row<'a, 'r>(
 );
 
 /// The rows of a table.
-pub type Rows = &'static [Row<'static, 'static>];
+pub type TableRows = &'static [TableRow<'static, 'static>];
 
 /// What an id refers to.
 fn ref_of(id: u32) -> Ref {
@@ -39,8 +39,8 @@ fn refs_of(alloc: Global, ids: &[u32]) -> Result<Refs, AllocError> {
 }
 
 /// The type of a row.
-fn type_of<'a>(alloc: Global, row: Row<'a, '_>) -> Result<CType<'a>, AllocError> {
-    let Row(kind, name, flag, size, extra, parts, targets) = row;
+fn type_of<'a>(alloc: Global, row: TableRow<'a, '_>) -> Result<CType<'a>, AllocError> {
+    let TableRow(kind, name, flag, size, extra, parts, targets) = row;
     let label = Label {
         kind,
         name: Name::new(name),
@@ -59,7 +59,7 @@ fn type_of<'a>(alloc: Global, row: Row<'a, '_>) -> Result<CType<'a>, AllocError>
 pub fn push<'a>(
     alloc: Global,
     types: &mut Vec<CType<'a>>,
-    row: Row<'a, '_>,
+    row: TableRow<'a, '_>,
 ) -> Result<(), AllocError> {
     types.push(type_of(alloc, row)?)?;
     Ok(())
@@ -73,13 +73,16 @@ pub fn push_typedefs(
     end: u32,
 ) -> Result<(), AllocError> {
     for id in first..end {
-        push(alloc, types, Row(8, b"t", false, 0, 0, &[], &[id]))?;
+        push(alloc, types, TableRow(8, b"t", false, 0, 0, &[], &[id]))?;
     }
     Ok(())
 }
 
 /// The types of rows.
-pub fn types_of<'a>(alloc: Global, rows: &[Row<'a, '_>]) -> Result<Vec<CType<'a>>, AllocError> {
+pub fn types_of<'a>(
+    alloc: Global,
+    rows: &[TableRow<'a, '_>],
+) -> Result<Vec<CType<'a>>, AllocError> {
     let mut types = Vec::new(alloc);
     for row in rows {
         push(alloc, &mut types, *row)?;

@@ -2,7 +2,7 @@
 //! 4 bytes */ int y; };`, 12 bytes, and `typedef struct { int z; } t;`.
 mod long;
 
-use crate::rows::{Row, Rows, table_of, types_of};
+use crate::rows::{TableRow, TableRows, table_of, types_of};
 use btf_codec::Table;
 use command_line::Text;
 use dw_base::Bytes;
@@ -16,46 +16,46 @@ use std::test::Fail;
 const TWO: &[(&[u8], u64)] = &[(b"m", 0), (b"m", 64)];
 
 /// The small table.
-const SMALL: Rows = &[
-    Row(1, b"int", false, 4, 0, &[], &[]),
-    Row(4, b"a", false, 12, 0, &[(b"x", 0), (b"y", 64)], &[1, 1]),
-    Row(4, b"", false, 4, 0, &[(b"z", 0)], &[1]),
-    Row(8, b"t", false, 0, 0, &[], &[3]),
+const SMALL: TableRows = &[
+    TableRow(1, b"int", false, 4, 0, &[], &[]),
+    TableRow(4, b"a", false, 12, 0, &[(b"x", 0), (b"y", 64)], &[1, 1]),
+    TableRow(4, b"", false, 4, 0, &[(b"z", 0)], &[1]),
+    TableRow(8, b"t", false, 0, 0, &[], &[3]),
 ];
 
 /// The small table, whose member `z` has no type.
-const LACKING: Rows = &[
-    Row(1, b"int", false, 4, 0, &[], &[]),
-    Row(4, b"a", false, 12, 0, &[(b"x", 0), (b"y", 64)], &[1, 1]),
-    Row(4, b"", false, 4, 0, &[(b"z", 0)], &[0]),
-    Row(8, b"t", false, 0, 0, &[], &[3]),
+const LACKING: TableRows = &[
+    TableRow(1, b"int", false, 4, 0, &[], &[]),
+    TableRow(4, b"a", false, 12, 0, &[(b"x", 0), (b"y", 64)], &[1, 1]),
+    TableRow(4, b"", false, 4, 0, &[(b"z", 0)], &[0]),
+    TableRow(8, b"t", false, 0, 0, &[], &[3]),
 ];
 
 /// A table with a type of every kind, of which those with the ids 2, 4, 7, 22, 23 and 25 can be
 /// shown.
-const EVERY_KIND: Rows = &[
-    Row(1, b"int", false, 4, 0, &[], &[0, 0, 0]),
-    Row(4, b"a", false, 12, 0, TWO, &[1, 1, 0]),
-    Row(4, b"", false, 4, 0, &[(b"m", 0)], &[1, 0, 0]),
-    Row(8, b"t", false, 0, 0, &[], &[3, 0, 0]),
-    Row(2, b"", false, 0, 0, &[], &[2, 0, 0]),
-    Row(3, b"", false, 0, 0, &[], &[1, 1, 0]),
-    Row(5, b"a", false, 16, 0, TWO, &[5, 6, 0]),
-    Row(6, b"e", false, 4, 0, &[], &[0, 0, 0]),
-    Row(7, b"f", false, 0, 0, &[], &[0, 0, 0]),
-    Row(9, b"", false, 0, 0, &[], &[1, 0, 0]),
-    Row(10, b"", false, 0, 0, &[], &[1, 0, 0]),
-    Row(11, b"", false, 0, 0, &[], &[5, 0, 0]),
-    Row(12, b"call", false, 0, 0, &[], &[14, 0, 0]),
-    Row(13, b"", false, 0, 0, &[], &[0, 0, 0]),
-    Row(14, b"v", false, 0, 0, &[], &[1, 0, 0]),
-    Row(15, b".data", false, 4, 0, &[], &[0, 0, 0]),
-    Row(16, b"double", false, 8, 0, &[], &[0, 0, 0]),
-    Row(17, b"note", false, 0, 0, &[], &[2, 0, 0]),
-    Row(18, b"user", false, 0, 0, &[], &[1, 0, 0]),
-    Row(19, b"w", false, 8, 0, &[], &[0, 0, 0]),
-    Row(8, b"a", false, 0, 0, &[], &[2, 0, 0]),
-    Row(
+const EVERY_KIND: TableRows = &[
+    TableRow(1, b"int", false, 4, 0, &[], &[0, 0, 0]),
+    TableRow(4, b"a", false, 12, 0, TWO, &[1, 1, 0]),
+    TableRow(4, b"", false, 4, 0, &[(b"m", 0)], &[1, 0, 0]),
+    TableRow(8, b"t", false, 0, 0, &[], &[3, 0, 0]),
+    TableRow(2, b"", false, 0, 0, &[], &[2, 0, 0]),
+    TableRow(3, b"", false, 0, 0, &[], &[1, 1, 0]),
+    TableRow(5, b"a", false, 16, 0, TWO, &[5, 6, 0]),
+    TableRow(6, b"e", false, 4, 0, &[], &[0, 0, 0]),
+    TableRow(7, b"f", false, 0, 0, &[], &[0, 0, 0]),
+    TableRow(9, b"", false, 0, 0, &[], &[1, 0, 0]),
+    TableRow(10, b"", false, 0, 0, &[], &[1, 0, 0]),
+    TableRow(11, b"", false, 0, 0, &[], &[5, 0, 0]),
+    TableRow(12, b"call", false, 0, 0, &[], &[14, 0, 0]),
+    TableRow(13, b"", false, 0, 0, &[], &[0, 0, 0]),
+    TableRow(14, b"v", false, 0, 0, &[], &[1, 0, 0]),
+    TableRow(15, b".data", false, 4, 0, &[], &[0, 0, 0]),
+    TableRow(16, b"double", false, 8, 0, &[], &[0, 0, 0]),
+    TableRow(17, b"note", false, 0, 0, &[], &[2, 0, 0]),
+    TableRow(18, b"user", false, 0, 0, &[], &[1, 0, 0]),
+    TableRow(19, b"w", false, 8, 0, &[], &[0, 0, 0]),
+    TableRow(8, b"a", false, 0, 0, &[], &[2, 0, 0]),
+    TableRow(
         4,
         b"two",
         false,
@@ -64,9 +64,9 @@ const EVERY_KIND: Rows = &[
         &[(b"m", 0), (b"m", 64), (b"m", 128)],
         &[1, 1, 1],
     ),
-    Row(8, b"u", false, 0, 0, &[], &[24, 0, 0]),
-    Row(5, b"", false, 4, 0, &[(b"m", 0)], &[1, 0, 0]),
-    Row(8, b"t", false, 0, 0, &[], &[24, 0, 0]),
+    TableRow(8, b"u", false, 0, 0, &[], &[24, 0, 0]),
+    TableRow(5, b"", false, 4, 0, &[(b"m", 0)], &[1, 0, 0]),
+    TableRow(8, b"t", false, 0, 0, &[], &[24, 0, 0]),
 ];
 
 fn name(alloc: Global, text: &str) -> Result<Text, AllocError> {
@@ -122,7 +122,7 @@ fn is_answer(shown: &Result<Bytes, ShowFault>, wanted: Result<&[u8], ShowFault>)
 
 /// A table, of which so many types are a base's, names, the least number of holes, and what is
 /// shown, or why nothing is.
-type Case = (Rows, u32, Words, u32, Result<&'static [u8], ShowFault>);
+type Case = (TableRows, u32, Words, u32, Result<&'static [u8], ShowFault>);
 
 /// What is shown in lines of sizes.
 const LINES: &[Case] = &[

@@ -1,4 +1,7 @@
 //! Why types are not shown.
+ghost use Rattle.std.specs.Prelude.{◌≡◌};
+ghost use Rattle.shown_types.specs.declared.fault.ShowFault.TheVariants.{Memory};
+
 use layout_printer::LayoutFault;
 use std::alloc::{AllocError, AllocFailed};
 use thiserror::Error;
@@ -17,9 +20,6 @@ pub enum ShowFault {
 }
 
 impl From<AllocError> for ShowFault {
-    ghost use Rattle.std.specs.Prelude.{◌≡◌};
-    ghost use Rattle.shown_types.specs.declared.fault.ShowFault.TheVariants.{Memory};
-
     ghost from_gives = { λ _ e. e ≡ Memory };
 
     fn from(_e: AllocError) -> ShowFault {
@@ -28,9 +28,6 @@ impl From<AllocError> for ShowFault {
 }
 
 impl<T: Drop> From<AllocFailed<T>> for ShowFault {
-    ghost use Rattle.std.specs.Prelude.{◌≡◌};
-    ghost use Rattle.shown_types.specs.declared.fault.ShowFault.TheVariants.{Memory};
-
     ghost from_gives = { λ _ e. e ≡ Memory };
 
     fn from(_e: AllocFailed<T>) -> ShowFault {

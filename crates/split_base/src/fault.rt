@@ -1,5 +1,8 @@
 //! Why types make no table.
-use std::alloc::{AllocError, AllocFailed};
+ghost use Rattle.std.specs.Prelude.{◌≡◌};
+ghost use Rattle.split_base.specs.declared.fault.TableFault.TheVariants.{Memory};
+
+use std::alloc::AllocError;
 use thiserror::Error;
 
 /// Why types make no table.
@@ -22,23 +25,9 @@ pub enum TableFault {
 }
 
 impl From<AllocError> for TableFault {
-    ghost use Rattle.std.specs.Prelude.{◌≡◌};
-    ghost use Rattle.split_base.specs.declared.fault.TableFault.TheVariants.{Memory};
-
     ghost from_gives = { λ _ e. e ≡ Memory };
 
     fn from(_e: AllocError) -> TableFault {
-        TableFault::Memory
-    }
-}
-
-impl<T: Drop> From<AllocFailed<T>> for TableFault {
-    ghost use Rattle.std.specs.Prelude.{◌≡◌};
-    ghost use Rattle.split_base.specs.declared.fault.TableFault.TheVariants.{Memory};
-
-    ghost from_gives = { λ _ e. e ≡ Memory };
-
-    fn from(_e: AllocFailed<T>) -> TableFault {
         TableFault::Memory
     }
 }

@@ -40,14 +40,14 @@ fn out(file: u32, to: u128) -> Out {
 
 /// A file, the number of its node of indices, targets, and what they refer to among four nodes, or
 /// the file and the offset that name none.
-type Linked = (
+type LinkedTargets = (
     u32,
     u64,
     &'static [Target],
     Result<&'static [Ref], (u32, u128)>,
 );
 
-const LINKED: &[Linked] = &[
+const LINKED: &[LinkedTargets] = &[
     (0, 4, &[], Ok(&[])),
     (0, 4, &[Target::Void, TO_11], Ok(&[Ref::Void, Ref::Node(0)])),
     (1, 4, &[TO_11], Ok(&[Ref::Node(2)])),

@@ -273,10 +273,10 @@ const TYPE_OF_ROOT_ABBREVIATIONS: &[u8] = &[
 const INT: &[&[u8]] = &[b"\x01\x1d", b"\x02int\0\x04\x05", b"\0"];
 
 /// `.debug_str` and `.debug_line_str`.
-type Strings = (&'static [u8], &'static [u8]);
+type StringSections = (&'static [u8], &'static [u8]);
 
 /// Where all names stand in `.debug_info`.
-const INLINE: Strings = (&[], &[]);
+const INLINE: StringSections = (&[], &[]);
 
 /// Some units and what they are, `.debug_abbrev`, the strings, and a heading for each unit and a
 /// line for each of its types, or the first refusal.
@@ -284,7 +284,7 @@ type Case = (
     &'static str,
     Units,
     &'static [u8],
-    Strings,
+    StringSections,
     Result<&'static [&'static str], TypeFault>,
 );
 
@@ -445,7 +445,7 @@ fn found_in(
     order: Order,
     units: &[&[&[u8]]],
     abbrev: &[u8],
-    strings: Strings,
+    strings: StringSections,
 ) -> Result<Result<Vec<String>, TypeFault>, Fail> {
     let info = info_of(alloc, order, units)?;
     let sections = Sections {

@@ -2,7 +2,7 @@
 //! moment, since each type and each name is passed once; no name goes over all types, and no member
 //! along its chain.
 use super::{is_answer, name, shown};
-use crate::rows::{Row, push, push_typedefs, table_of};
+use crate::rows::{TableRow, push, push_typedefs, table_of};
 use btf_codec::Table;
 use c_model::CType;
 use command_line::Text;
@@ -32,8 +32,12 @@ fn numbered(alloc: Global, count: usize, step: usize) -> Result<Vec<Text>, Fail>
 /// Adds an `int`, and a structure without a name of 12 bytes and a hole.
 fn push_first(alloc: Global, types: &mut Vec<CType<'_>>) -> Result<(), AllocError> {
     let members = [(b"x".as_slice(), 0), (b"y".as_slice(), 64)];
-    push(alloc, types, Row(1, b"int", false, 4, 0, &[], &[]))?;
-    push(alloc, types, Row(4, b"", false, 12, 0, &members, &[1, 1]))
+    push(alloc, types, TableRow(1, b"int", false, 4, 0, &[], &[]))?;
+    push(
+        alloc,
+        types,
+        TableRow(4, b"", false, 12, 0, &members, &[1, 1]),
+    )
 }
 
 /// Adds a structure of 12 bytes for each name. Its member is of the type of an id.
@@ -48,7 +52,7 @@ fn push_structures<'a>(
         push(
             alloc,
             types,
-            Row(4, bytes, false, 12, 0, &[(b"m", 0)], &[id]),
+            TableRow(4, bytes, false, 12, 0, &[(b"m", 0)], &[id]),
         )?;
     }
     Ok(())
@@ -62,7 +66,7 @@ fn push_named_typedefs<'a>(
 ) -> Result<(), AllocError> {
     for name in names {
         let bytes = name.as_str().as_bytes();
-        push(alloc, types, Row(8, bytes, false, 0, 0, &[], &[2]))?;
+        push(alloc, types, TableRow(8, bytes, false, 0, 0, &[], &[2]))?;
     }
     Ok(())
 }
@@ -75,7 +79,7 @@ fn push_behind_a_chain<'a>(
     names: &'a [Text],
     first: u32,
 ) -> Result<(), AllocError> {
-    push(alloc, types, Row(8, b"t", false, 0, 0, &[], &[first]))?;
+    push(alloc, types, TableRow(8, b"t", false, 0, 0, &[], &[first]))?;
     push_typedefs(alloc, types, 3, END - 1)?;
     push_structures(alloc, types, names, END - 1)
 }
@@ -99,7 +103,7 @@ fn long_table<'a>(
 }
 
 /// So many names, of which the k-th is the one with the number k times this step, and one more.
-type Asked = (usize, usize, Option<&'static str>);
+type AskedNames = (usize, usize, Option<&'static str>);
 
 /// The first line, and the endings of further ones: for each list of endings those of all names, of
 /// which the k-th is the one with the number k times this step.
@@ -107,7 +111,12 @@ type Lines = (&'static [u8], usize, &'static [&'static [&'static str]]);
 
 /// The step of a table's names, what the first of its chain of typedefs is of, if it has a chain,
 /// the names that are asked for, or all, and what is shown, or why nothing is.
-type Long = (usize, Option<u32>, Option<Asked>, Result<Lines, ShowFault>);
+type Long = (
+    usize,
+    Option<u32>,
+    Option<AskedNames>,
+    Result<Lines, ShowFault>,
+);
 
 /// The ending of a structure's line, and that of a typedef's.
 const OF_BOTH: &[&[&str]] = &[&["\t12\t0\n", "\t12\t1\n"]];
@@ -180,7 +189,7 @@ const LONG: &[Long] = &[
 ];
 
 /// The names that are asked for.
-fn asked_names(alloc: Global, asked: &Asked) -> Result<Vec<Text>, Fail> {
+fn asked_names(alloc: Global, asked: &AskedNames) -> Result<Vec<Text>, Fail> {
     let (count, step, more) = *asked;
     let mut names = numbered(alloc, count, step)?;
     if let Some(more) = more {
@@ -193,7 +202,7 @@ fn asked_names(alloc: Global, asked: &Asked) -> Result<Vec<Text>, Fail> {
 fn shown_of(
     alloc: Global,
     table: &Table<'_>,
-    asked: &Option<Asked>,
+    asked: &Option<AskedNames>,
 ) -> Result<Result<Bytes, ShowFault>, Fail> {
     let style = Style {
         sizes: true,
