@@ -1,6 +1,6 @@
-"""times.py WATCHED STOP: samples the processes below the process WATCHED until the file STOP is there, and then prints a table: for each
-crate the processor time of its proof, of its tests' proof and of its edits, as `rt ci` starts them, in seconds. Where the system has no
-/proc it prints nothing."""
+"""times.py WATCHED STOP: samples the processes below the process WATCHED until the file STOP is there, and then prints two tables of
+processor times in seconds: for each crate those of its proof, of its tests' proof, of the proof that its edits begin with, and of its edits,
+as `rt ci` starts them, and then the edits that took longest. Where the system has no /proc it prints nothing."""
 import os
 import re
 import sys
@@ -8,7 +8,8 @@ import time
 
 TICK = os.sysconf("SC_CLK_TCK")
 EVERY = 0.5
-COLUMNS = ("proof", "tests", "edits")
+COLUMNS = ("proof", "tests", "seed", "edits")
+DEAREST = 20
 
 
 def processes():
@@ -32,14 +33,18 @@ def words(process):
 
 
 def kind(process):
-    """The crate that a process proves, and for what; None where it proves none."""
+    """The crate that a process proves, for what, and which edit it tries, counted from 0; None where it proves none."""
     said = words(process)
     if "--crate-name" not in said[:-1] or len(said) < 2 or said[1] not in ("build", "check"):
         return None
     crate = said[said.index("--crate-name") + 1]
     # a program is proved by a check that keeps what it proved (-o), an edit by one that keeps nothing
-    is_edit = said[1] == "check" and "-o" not in said
-    return crate, "edits" if is_edit else "tests" if "--test" in said else "proof"
+    if said[1] == "build" or "-o" in said:
+        return crate, "tests" if "--test" in said else "proof", None
+    # an edit is tried over what was proved before it, in a folder of its number
+    over = said[said.index("--incremental") + 1] if "--incremental" in said[:-1] else ""
+    number = over.rpartition("/")[2]
+    return crate, "seed" if number == "seed" else "edits", int(number) if number.isdigit() else None
 
 
 def below(parents, process):
@@ -63,14 +68,31 @@ def sample(watched, found, known):
 
 def table(found):
     rows = {}
-    for (_, (crate, what)), spent in found.items():
+    for (_, (crate, what, _)), spent in found.items():
         row = rows.setdefault(crate, dict.fromkeys(COLUMNS, 0.0))
         row[what] += spent
-    lines = ["| Crate | Proof | Its tests' proof | Edits | Together |", "|---|---|---|---|---|"]
+    lines = ["| Crate | Proof | Its tests' proof | Proof before its edits | Edits | Together |", "|---|---|---|---|---|---|"]
     for crate, row in sorted(rows.items(), key=lambda item: -sum(item[1].values())):
         cells = [*(row[column] for column in COLUMNS), sum(row.values())]
         lines.append(f"| {crate} | " + " | ".join(f"{cell:,.0f}" for cell in cells) + " |")
     return lines
+
+
+def edits_of(crate):
+    """The edits of a crate, in the order in which `rt ci` counts them."""
+    folder = os.path.join("crates", crate, "must-fail")
+    return sorted(name for name in os.listdir(folder) if name.endswith(".edit")) if os.path.isdir(folder) else []
+
+
+def dearest(found):
+    spent_on = {}
+    for (_, (crate, _, number)), spent in found.items():
+        names = edits_of(crate)
+        if number is not None and number < len(names):
+            edit = f"{crate}/{names[number].removesuffix('.edit')}"
+            spent_on[edit] = spent_on.get(edit, 0.0) + spent
+    most = sorted(spent_on.items(), key=lambda item: -item[1])[:DEAREST]
+    return ["", "| Edit | Seconds |", "|---|---|", *(f"| {edit} | {spent:,.0f} |" for edit, spent in most)] if most else []
 
 
 def main():
@@ -82,7 +104,7 @@ def main():
         sample(watched, found, known)
         time.sleep(EVERY)
     if found:
-        print("\n".join(table(found)))
+        print("\n".join([*table(found), *dearest(found)]))
 
 
 main()
