@@ -61,7 +61,7 @@ enum Batch {
 const FEW: &str = "2 types of a base and 3 of a file, at most 4 nodes";
 
 /// All that is tried, in its order.
-const PARTS: &[Batch] = &[
+const BATCHES: &[Batch] = &[
     Batch::Worked,
     Batch::Shapes,
     Batch::Joined(FEW, 4, Err(TableFault::NodesTooMany(5))),
@@ -80,13 +80,13 @@ const PARTS: &[Batch] = &[
 /// Why a name that stands too far behind has no table.
 const FAR: Result<usize, TableFault> = Err(TableFault::NamesTooLong(16_777_216));
 
-/// Whether a part is as it should be.
-fn part_holds<R: Print + Threads + Sync>(
+/// Whether a batch is as it should be.
+fn batch_holds<R: Print + Threads + Sync>(
     rt: &R,
     alloc: Global,
-    part: Batch,
+    batch: Batch,
 ) -> Result<bool, CaseFault> {
-    match part {
+    match batch {
         Batch::Worked => worked_agree(rt, alloc),
         Batch::Shapes => shapes_agree(rt, alloc),
         Batch::Joined(what, most, wanted) => join_holds(rt, alloc, what, most, wanted),
@@ -104,8 +104,8 @@ fn part_holds<R: Print + Threads + Sync>(
 /// Whether all graphs are as they should be.
 fn all_hold<R: Print + Threads + Sync>(rt: &R, alloc: Global) -> Result<bool, CaseFault> {
     let mut hold = true;
-    for part in PARTS {
-        hold &= part_holds(rt, alloc, *part)?;
+    for batch in BATCHES {
+        hold &= batch_holds(rt, alloc, *batch)?;
     }
     Ok(hold)
 }
