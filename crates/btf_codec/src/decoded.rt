@@ -172,7 +172,8 @@ fn listed_at(
     requires width { width ≤ 3 }
     requires some { 1 ≤ width }
     requires room { 4 * (at + width * n) ≤ length piece.now + 4 * (width - 1) }
-    ensures { IfOk result (λ v. v.items ≡ map ref_of (words_at (word_in order piece.now) at width n)) }
+    ensures { IfOk result (λ v. v.items ≡ map ref_of
+        (words_at (word_in order piece.now) at width n)) }
 {
     let mut refs = Vec::new(alloc);
     push_refs(&mut refs, order, piece, at, width, n)?;

@@ -37,7 +37,8 @@ fn check_words(
         → IsPiece order (slice_index_or pieces.now k d).now }
     requires short { (k : ℕ) (d : Bor (List ℕ)) → k < length pieces.now
         → length (slice_index_or pieces.now k d).now < 2 ^ 32 }
-    ensures { result ≡ unless (pieces_fault order 24 first limit count (map (λ p. p.now) pieces.now)) }
+    ensures { result ≡ unless (pieces_fault order 24 first limit count
+        (map (λ p. p.now) pieces.now)) }
 {
     let mut place = 24;
     let mut id = first;
@@ -73,7 +74,8 @@ fn push_types<'a>(
 
 /// The types of the table before, and how many they are.
 fn types_of<'a>(alloc: Global, base: Option<&Table<'a>>) -> Result<Vec<CType<'a>>, AllocError>
-    ensures { IfOk result (λ v. v.items ≡ types_before (option_map (λ b. before_of b.now) base.entry)) }
+    ensures { IfOk result (λ v. v.items ≡ types_before
+        (option_map (λ b. before_of b.now) base.entry)) }
 {
     match base {
         Some(table) => copy_of_types(alloc, table.types.items(), 0),

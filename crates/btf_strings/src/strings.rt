@@ -40,7 +40,8 @@ impl<'a> Model for Strings<'a> {
 
     ghost view = { λ s. record { base = option_copied s.base; own = names_of s.places.entries } };
 
-    ghost invariant = { λ s. IsKept (option_copied s.base) s.held.entries s.own.items s.places.entries };
+    ghost invariant = { λ s. IsKept (option_copied s.base) s.held.entries s.own.items
+        s.places.entries };
 }
 
 impl<'a> Strings<'a> {
@@ -133,7 +134,8 @@ impl<'a> Strings<'a> {
         requires new { offset_of self.old name.now ≡ None }
         requires at { at ≡ next_offset self.old }
         requires room { at ≤ LAST_OFFSET }
-        ensures ok { OnOk result (self.new ≡ record self.old { own = self.old.own ++ name.now ∷ [] }) }
+        ensures ok { OnOk result (self.new ≡
+            record self.old { own = self.old.own ++ name.now ∷ [] }) }
         ensures err { OnErr result (self.new ≡ self.old) }
         ensures fault { OnErr result (IsErrOf result StringsFault.Memory) }
     {

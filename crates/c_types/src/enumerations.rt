@@ -125,8 +125,9 @@ fn meet_enumerator<'a>(
         ≡ (parent.old.has_negative || is_negative enumerator.now)) }
     ensures parts { OnOk result (parent.new.parts.items ≡ parent.old.parts.items
         ++ enumerator_part (sections ctx.now) parent.old.wide enumerator.now ∷ []) }
-    ensures unsigned { OnOk result (parent.new.unsigned ≡ noted parent.old.unsigned (enumerator_refused
-        (sections ctx.now) parent.old.wide false enumerator.now)) }
+    ensures unsigned { OnOk result (parent.new.unsigned ≡
+        noted parent.old.unsigned
+        (enumerator_refused (sections ctx.now) parent.old.wide false enumerator.now)) }
     ensures signed { OnOk result (parent.new.signed ≡ noted parent.old.signed
         (enumerator_refused (sections ctx.now) parent.old.wide true enumerator.now)) }
     ensures bare { OnOk result (parent.new.bare ≡ parent.old.bare) }

@@ -93,7 +93,8 @@ fn end_parameters(
 /// The type of a subroutine type whose children have all come.
 pub(crate) fn complete_function<'a>(whole: OpenFunction<'a>) -> Result<Complete<'a>, AllocError>
     ensures made { IfOk result (λ d. (c : Sections) → d.made ≡ function_made c whole.entry []) }
-    ensures refused { IfOk result (λ d. (c : Sections) → d.refused ≡ function_refused c whole.entry []) }
+    ensures refused { IfOk result (λ d. (c : Sections) → d.refused ≡
+        function_refused c whole.entry []) }
 {
     let OpenFunction {
         at,

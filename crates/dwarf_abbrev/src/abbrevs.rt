@@ -82,7 +82,8 @@ fn read_row(
     requires { IsPlaced (declarations_of rows.now) others.now }
     ensures gives { Gives (λ x. (option_map declaration_of x.0, x.1)) result
         (declaration_at bytes.now at (declarations_of rows.now)) }
-    ensures fresh { IfOk result (λ x. IfSome x.0 (λ r. place_of r.code (declarations_of rows.now) ≡ None)) }
+    ensures fresh { IfOk result (λ x. IfSome x.0
+        (λ r. place_of r.code (declarations_of rows.now) ≡ None)) }
 {
     let (code, after) = read_number(bytes, at, at)?;
     if code == 0 {

@@ -129,7 +129,8 @@ fn read<'a>(
     spec: &Spec,
 ) -> Result<(FormValue<'a>, u64), FormFault>
     requires { HasWidths layout }
-    ensures { seen (λ x. (plain x.0, x.1)) result ≡ read_at layout form bytes.now at order spec.now }
+    ensures { seen (λ x. (plain x.0, x.1)) result ≡
+        read_at layout form bytes.now at order spec.now }
 {
     match layout {
         FormLayout::Fixed(width, kind) => {

@@ -224,7 +224,8 @@ fn read_units(alloc: Global, info: &[u8], order: Order) -> Result<UnitList, Unit
 /// version passes the unit's end; `UnitType` where a unit of version 5 is neither a compilation
 /// unit nor a partial unit; `AddressSize` where addresses have neither 4 nor 8 bytes.
 pub fn units(alloc: Global, image: &Image<'_>) -> Result<UnitList, UnitFault>
-    ensures gives { Gives result (units_of (info_of (file_of image.now)) (order_of (file_of image.now))) }
+    ensures gives { Gives result (units_of (info_of (file_of image.now))
+        (order_of (file_of image.now))) }
     ensures reads { Reads (info_of (file_of image.now)) (order_of (file_of image.now)) result }
     ensures each { IfOk result (λ units. All (IsUnitOf (file_of image.now)) units) }
 {

@@ -129,7 +129,8 @@ fn enter(pointers: &mut Vec<u32>, depth: u32, is_pointer: bool) -> Result<(), Al
 
 /// Keeps a place, where it is that of a type.
 fn keep(places: &mut Vec<u64>, at: u64, is_type: bool) -> Result<(), AllocError>
-    ensures { OnOk result (places.new.items ≡ places.old.items ++ (if is_type then at ∷ [] else [])) }
+    ensures { OnOk result (places.new.items ≡ places.old.items ++
+        (if is_type then at ∷ [] else [])) }
 {
     if is_type {
         places.push(at)?;

@@ -85,7 +85,8 @@ fn take_function<'a>(
     requires context { IsContext ctx.now.form }
     requires nested { AreNested gathering.old.reading.opens.items }
     requires above { AreAbove entry.now.depth gathering.old.reading.opens.items }
-    requires placed { ArePlaced (length gathering.old.reading.types.items) gathering.old.reading.opens.items }
+    requires placed { ArePlaced (length gathering.old.reading.types.items)
+        gathering.old.reading.opens.items }
     ensures heads { OnOk result (gathering.new.heads.items ≡ gathering.old.heads.items
         ++ head_listed (head_at (sections ctx.now.form) entry.now)) }
     ensures types { OnOk result ((es : List Given) → filled (scope ctx.now)
@@ -127,7 +128,8 @@ fn take<'a>(
     requires context { IsContext ctx.now.form }
     requires version { ctx.now.version ≡ 5 }
     requires nested { AreNested gathering.old.reading.opens.items }
-    requires placed { ArePlaced (length gathering.old.reading.types.items) gathering.old.reading.opens.items }
+    requires placed { ArePlaced (length gathering.old.reading.types.items)
+        gathering.old.reading.opens.items }
     requires pointed { (d : ℕ) → d ≤ entry.now.depth
         → pointed_at gathering.old.reading.opens.items d ≡ None }
     ensures heads { OnOk result (gathering.new.heads.items ≡ gathering.old.heads.items
@@ -180,7 +182,8 @@ fn end<'a>(
     placing: Placing,
 ) -> Result<UnitFuncs<'a>, TypeFault>
     requires nested { AreNested gathering.reading.opens.items }
-    requires placed { ArePlaced (length gathering.reading.types.items) gathering.reading.opens.items }
+    requires placed { ArePlaced (length gathering.reading.types.items)
+        gathering.reading.opens.items }
     ensures { (s : Scope)
         → Gives result (or_least (record {
           funcs = paired gathering.entry.heads.items

@@ -137,13 +137,16 @@ fn choose_behind<'a, R: Threads + Sync, L: Ledger>(
     requires well { All IsWellFormed protos.now.graph.nodes }
     requires fitting { HasFittingForwards protos.now.graph }
     requires names { All (λ f. HasNoNul f.name) protos.now.funcs }
-    ensures chosen { IfOk result (λ c. AreChosenOver (Some (before_of base.now)) protos.now c.graph.nodes) }
+    ensures chosen { IfOk result (λ c. AreChosenOver (Some (before_of base.now)) protos.now
+        c.graph.nodes) }
     ensures parted { IfOk result (λ c. IfSome c.classes (λ p. IsPartedBy c.graph p)) }
     ensures alone { IfOk result (λ c. c.graph.base ≡ 0) }
     ensures well { IfOk result (λ c. All IsWellFormed c.graph.nodes) }
     ensures fitting { IfOk result (λ c. HasFittingForwards c.graph) }
-    ensures limit { IfOk result (λ _. length base.now.types + length protos.now.graph.nodes ≤ most) }
-    ensures refusal { IfErr result (RefusesChoice most (Some (before_of base.now)) protos.now.graph.nodes) }
+    ensures limit { IfOk result (λ _. length base.now.types +
+        length protos.now.graph.nodes ≤ most) }
+    ensures refusal { IfErr result (RefusesChoice most (Some (before_of base.now))
+        protos.now.graph.nodes) }
 {
     let mut steps = Steps::<L>::new(blank);
     let kept = base_classes(rt, alloc, jobs, base, &mut steps)?;

@@ -38,7 +38,8 @@ fn functions_by<'a>(
 ) -> Result<UnitFuncs<'a>, TypeFault>
     requires readable { IsReadable at.now }
     requires types { HasTypes at.now }
-    requires last { IfSome last.old (λ t. t.file ≡ at.now.file → IsTableAt at.now.bytes t.at t.abbrevs) }
+    requires last { IfSome last.old (λ t. t.file ≡ at.now.file →
+        IsTableAt at.now.bytes t.at t.abbrevs) }
     ensures functions { FunctionsGive result (functions_of_unit_of at.now.bytes at.now.unit) }
     ensures file { IfSome last.new (λ t. t.file ≡ at.now.file) }
     ensures table { IfSome last.new (λ t. IsTableAt at.now.bytes t.at t.abbrevs) }

@@ -31,7 +31,7 @@ pub fn fours_hold<R: Print + Threads + Sync>(rt: &R, alloc: Global) -> Result<bo
     let fours = classes_of_fours(rt, alloc, 20_000)?;
     tell_number(
         rt,
-        "20000 times a structure, a pointer, a declaration and an INT of its own, by 1 and 7 workers",
+        "20000 structures, pointers, declarations and INTs of their own, by 1 and 7 workers",
         fours as u64,
         " classes",
     )?;

@@ -72,7 +72,8 @@ fn parameter(
     r: Ref,
     name: &[u8],
 ) -> Result<Declaration, AllocError>
-    ensures { IfOk result (λ w. record { type_part = w.type_part.items; name_part = w.name_part.items }
+    ensures { IfOk result (λ w.
+        record { type_part = w.type_part.items; name_part = w.name_part.items }
         ≡ parameter_decl types.now r name.now) }
 {
     let mut draft = named(alloc, name)?;
@@ -102,7 +103,8 @@ fn named(alloc: Global, name: &[u8]) -> Result<Draft, AllocError>
 
 /// A declaration whose types are all written.
 fn finish(draft: Draft) -> Result<Declaration, AllocError>
-    ensures { IfOk result (λ w. record { type_part = w.type_part.items; name_part = w.name_part.items }
+    ensures { IfOk result (λ w.
+        record { type_part = w.type_part.items; name_part = w.name_part.items }
         ≡ ended draft.front.items draft.name.items draft.back.items) }
 {
     let Draft {
@@ -344,7 +346,8 @@ fn put_spaced(out: &mut Vec<u8>, text: &[u8]) -> Result<(), AllocError>
 
 /// Appends the number of an array's elements in brackets.
 fn put_bound(out: &mut Vec<u8>, count: u32) -> Result<(), AllocError>
-    ensures { OnOk result (out.new.items ≡ out.old.items ++ (codes "[" ++ (bound count ++ codes "]"))) }
+    ensures { OnOk result (out.new.items ≡ out.old.items ++
+        (codes "[" ++ (bound count ++ codes "]"))) }
 {
     if count == 0 {
         put(out, &[LinePiece::Text(b"[]")])

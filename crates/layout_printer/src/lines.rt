@@ -23,7 +23,8 @@ pub fn put_members(
     slots: &[Slot],
 ) -> Result<(), AllocError>
     requires { 0 < line }
-    ensures { OnOk result (out.new.items ≡ out.old.items ++ members_text types.now r line slots.now) }
+    ensures { OnOk result (out.new.items ≡ out.old.items ++
+        members_text types.now r line slots.now) }
 {
     let mut greatest = 0;
     for (place, slot) in slots.iter().enumerate() {

@@ -33,7 +33,8 @@ pub fn put(out: &mut Vec<u8>, pieces: &[LinePiece<'_>]) -> Result<(), AllocError
 
 /// Appends pieces where a condition holds.
 pub fn put_if(out: &mut Vec<u8>, holds: bool, pieces: &[LinePiece<'_>]) -> Result<(), AllocError>
-    ensures { OnOk result (out.new.items ≡ out.old.items ++ (if holds then texts pieces.now else [])) }
+    ensures { OnOk result (out.new.items ≡ out.old.items ++
+        (if holds then texts pieces.now else [])) }
 {
     if holds { put(out, pieces) } else { Ok(()) }
 }

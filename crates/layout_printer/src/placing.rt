@@ -79,8 +79,9 @@ fn slot_of(
     end: u128,
 ) -> Result<Slot, LayoutFault>
     requires { IsBelow (2 ^ 32 - 1) target }
-    ensures ok { IfOk result (λ s. (types : List CType) (earlier : List Slot) → AreSizes types sizes.now →
-        end ≡ farthest earlier → IsSlot types sizes.now.pointer flag earlier value target s) }
+    ensures ok { IfOk result (λ s. (types : List CType) (earlier : List Slot) →
+        AreSizes types sizes.now → end ≡ farthest earlier →
+        IsSlot types sizes.now.pointer flag earlier value target s) }
     ensures no_size { (n : ℕ) (types : List CType) → result ≡ Err (LayoutFault.NoSize n)
         → AreSizes types sizes.now →
         (bits_of types sizes.now.pointer flag value target ≡ None) × (n ≡ id_of target) }

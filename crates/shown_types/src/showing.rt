@@ -50,7 +50,8 @@ pub fn show(
     requires pointer { (pointer ≡ 4) ⊎ (pointer ≡ 8) }
     requires names { IfSome (option_copied names) (λ ns. length ns < 2 ^ 32) }
     requires line { 0 < style.line }
-    ensures { Shows table.now.types table.now.base pointer (option_copied names.entry) style result }
+    ensures { Shows table.now.types table.now.base pointer (option_copied names.entry)
+        style result }
 {
     let places = choose(alloc, table.types.items(), table.base, names)?;
     let sizes = sizes_of(alloc, table, pointer)?;

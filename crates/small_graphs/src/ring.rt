@@ -16,8 +16,8 @@ pub const STRUCTURE: TypeHead = TypeHead {
     ..POINTER
 };
 
-/// A type of a ring of so many: a structure at an even place, a pointer at an odd one, each of which
-/// refers to the next, the last to the first.
+/// A type of a ring of so many: a structure at an even place, a pointer at an odd one, each of
+/// which refers to the next, the last to the first.
 fn type_at(alloc: Global, count: u32, x: u32) -> Result<CType<'static>, AllocError>
     requires { x < count }
     ensures { IfOk result (λ t. t ≡ ring_type count x) }

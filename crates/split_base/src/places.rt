@@ -28,7 +28,8 @@ pub fn places_of<'a, G: TypeGraph<'a>>(
     ensures nodes { IfOk result (λ s. s.nodes.items
         ≡ map (place_of (G.shape graph.now) classes.now)
         (range_with_len 0 (length (G.shape graph.now).nodes))) }
-    ensures firsts { IfOk result (λ s. s.firsts.items ≡ own_firsts (G.shape graph.now) classes.now) }
+    ensures firsts { IfOk result (λ s. s.firsts.items ≡
+        own_firsts (G.shape graph.now) classes.now) }
 {
     let count = graph.len();
     let mut known = HashMap::new(alloc);
@@ -51,7 +52,8 @@ fn class_place<'a, G: TypeGraph<'a>>(
 ) -> Result<u32, AllocError>
     requires covers { length classes.now ≡ length (G.shape graph.now).nodes }
     requires node { x < length (G.shape graph.now).nodes }
-    requires before { IsPlaced (G.shape graph.now) classes.now x (get nat_eq known.old) firsts.old.items }
+    requires before { IsPlaced (G.shape graph.now) classes.now x (get nat_eq known.old)
+        firsts.old.items }
     ensures after { OnOk result
         (IsPlaced (G.shape graph.now) classes.now (x + 1) (get nat_eq known.new) firsts.new.items) }
     ensures place { IfOk result (λ place. place ≡ place_of (G.shape graph.now) classes.now x) }

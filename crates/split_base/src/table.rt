@@ -52,7 +52,8 @@ pub fn build<'a, G: TypeGraph<'a>>(
     requires names { IfSome (option_copied base_names) IsSection }
     ensures base { IfOk result (λ t. t.base ≡ (G.shape graph.now).base) }
     ensures table { IfOk result (λ t. t.types ≡ table_of (G.shape graph.now) classes.now) }
-    ensures own { IfOk result (λ t. drop t.base t.types ≡ own_types (G.shape graph.now) classes.now) }
+    ensures own { IfOk result (λ t. drop t.base t.types ≡
+        own_types (G.shape graph.now) classes.now) }
     ensures strings { IfOk result (λ t. t.strings
         ≡ strings_of (option_copied base_names.entry) (own_types (G.shape graph.now) classes.now)) }
     // What can be written.
@@ -90,7 +91,8 @@ fn table_types<'a, G: TypeGraph<'a>>(
     requires { length classes.now ≡ length (G.shape graph.now).nodes }
     ensures table { IfOk result (λ v. v.items ≡ table_of (G.shape graph.now) classes.now) }
     ensures few { IfOk result (λ v. length v.items < 2 ^ 20) }
-    ensures accepted { OnOk result (types_refusal (length (table_of (G.shape graph.now) classes.now)) ≡ None) }
+    ensures accepted { OnOk result (types_refusal
+        (length (table_of (G.shape graph.now) classes.now)) ≡ None) }
     ensures refusal { IfErr result (λ e. (e ≡ Memory)
         ⊎ (types_refusal (length (table_of (G.shape graph.now) classes.now)) ≡ Some e)) }
     // Each reference is to a node of the graph.

@@ -23,7 +23,8 @@ use dwarf_forms::FormCtx;
 use entry_tree::Entry;
 use std::alloc::Global;
 
-/// An INT with a sign, in the first byte of its word (the kernel's BTF documentation, "BTF_KIND_INT").
+/// An INT with a sign, in the first byte of its word (the kernel's BTF documentation,
+/// "BTF_KIND_INT").
 pub const BTF_INT_SIGNED: u32 = 1;
 /// An INT that is true or false.
 pub const BTF_INT_BOOL: u32 = 4;
@@ -64,7 +65,8 @@ fn is_unsigned(encoding: u64) -> bool
     encoding == DW_ATE_unsigned || encoding == DW_ATE_unsigned_char || encoding == DW_ATE_UTF
 }
 
-/// The last word of an INT: how it is encoded, the bit at which it begins, which is 0, and its bits.
+/// The last word of an INT: how it is encoded, the bit at which it begins, which is 0, and its
+/// bits.
 fn int_word(encoding: u32, size: u32) -> u32
     requires encoding { encoding ≤ BTF_INT_BOOL }
     requires size { size ≤ 16 }

@@ -129,7 +129,8 @@ fn storage(
     requires { has DW_AT_byte_size member.now ≡ false
         → AreKnown (scope ctx.now) ctx.now.extents }
     ensures said { result ≡ storage_in (scope ctx.now) member.now }
-    ensures noted { least.new ≡ noted least.old (constant_asked DW_AT_byte_size member.now).refused }
+    ensures noted { least.new ≡ noted least.old
+        (constant_asked DW_AT_byte_size member.now).refused }
 {
     if is_given(member, DW_AT_byte_size) {
         return signed_constant(member, DW_AT_byte_size, least);
@@ -280,7 +281,8 @@ pub fn prepare(
     ensures form { OnOk result (ctx.new.form ≡ ctx.old.form) }
     ensures version { OnOk result (ctx.new.version ≡ ctx.old.version) }
     ensures start { OnOk result (ctx.new.start ≡ ctx.old.start) }
-    ensures known { OnOk result (IfSome ctx.new.extents (λ x. SayExtents (scope ctx.new) x.rows.items)) }
+    ensures known { OnOk result (IfSome ctx.new.extents
+        (λ x. SayExtents (scope ctx.new) x.rows.items)) }
     ensures ready { OnOk result (IsReady ctx.new entry.now) }
 {
     if ctx.extents.is_some() || !needs_others(ctx, entry) {

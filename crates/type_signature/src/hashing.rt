@@ -87,7 +87,8 @@ pub(crate) fn hash_all<R: Threads + Sync>(
     requires words { AreWords (length fwd.now) links.now.ends.items links.now.words.items }
     requires covers { length now.now ≡ length fwd.now }
     requires places { length hashes.old.items ≡ length fwd.now }
-    ensures { IsHashedBy fwd.now links.now.ends.items links.now.words.items now.now hashes.new.items }
+    ensures { IsHashedBy fwd.now links.now.ends.items links.now.words.items now.now
+        hashes.new.items }
 {
     let of = Hashed {
         ends: &links.ends,

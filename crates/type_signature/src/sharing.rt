@@ -62,8 +62,8 @@ pub(crate) trait HoldsAt {
         ensures { IsTrue result → holds self.now x };
 }
 
-/// Whether it is seen to hold at each place of a share: `size` of the places, or as many as are left
-/// for it.
+/// Whether it is seen to hold at each place of a share: `size` of the places, or as many as are
+/// left for it.
 fn holds_in_share<H: HoldsAt>(of: &H, count: usize, size: usize, share: usize) -> bool
     requires whole { H.is_whole of.now }
     requires places { count ≡ H.count of.now }

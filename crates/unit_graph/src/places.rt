@@ -40,7 +40,8 @@ impl NodePlace {
 /// Puts the places in order. Those of units that follow one another are.
 fn order_rows(rows: &mut Vec<NodePlace>) -> Result<(), AllocError>
     ensures order { OnOk result (IsInOrder rows.new.items) }
-    ensures numbers { OnOk result ((p : ℕ × ℕ) → number_in p rows.new.items ≡ number_in p rows.old.items) }
+    ensures numbers { OnOk result ((p : ℕ × ℕ) → number_in p rows.new.items ≡
+        number_in p rows.old.items) }
 {
     rows.sort_by_key(|row| (row.file, row.at))?;
     Ok(())
@@ -102,7 +103,8 @@ impl NodePlaces {
     /// Takes rows in any order. Those of units that follow one another are in order, which costs
     /// one pass.
     pub fn new(rows: Vec<NodePlace>) -> Result<NodePlaces, AllocError>
-        ensures { IfOk result (λ places. (p : ℕ × ℕ) → number_in p places ≡ number_in p rows.items) }
+        ensures { IfOk result (λ places. (p : ℕ × ℕ) → number_in p places ≡
+            number_in p rows.items) }
     {
         let mut rows = rows;
         order_rows(&mut rows)?;

@@ -33,7 +33,8 @@ pub fn table_for(
     ensures file { IfOk result (λ t. t.file ≡ at.now.file) }
     ensures place { IfOk result (λ t. t.at ≡ at.now.unit.abbrev_at) }
     ensures table { IfOk result (λ t. IsTableAt at.now.bytes at.now.unit.abbrev_at t.abbrevs) }
-    ensures refused { IfErr result (λ f. TypesGive (Err f) (types_of_unit_of at.now.bytes at.now.unit)) }
+    ensures refused { IfErr result (λ f. TypesGive (Err f)
+        (types_of_unit_of at.now.bytes at.now.unit)) }
 {
     match last {
         Some(table) if table.file == at.file && table.at == at.unit.abbrev_at => Ok(table),
@@ -52,7 +53,8 @@ pub fn types_by<'a>(
     at: &UnitAt<'a>,
 ) -> Result<UnitTypes<'a>, TypeFault>
     requires readable { IsReadable at.now }
-    requires last { IfSome last.old (λ t. t.file ≡ at.now.file → IsTableAt at.now.bytes t.at t.abbrevs) }
+    requires last { IfSome last.old (λ t. t.file ≡ at.now.file →
+        IsTableAt at.now.bytes t.at t.abbrevs) }
     ensures types { TypesGive result (types_of_unit_of at.now.bytes at.now.unit) }
     ensures file { IfSome last.new (λ t. t.file ≡ at.now.file) }
     ensures table { IfSome last.new (λ t. IsTableAt at.now.bytes t.at t.abbrevs) }

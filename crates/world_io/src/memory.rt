@@ -176,7 +176,8 @@ impl World for MemoryWorld {
     }
 
     fn store(&mut self, name: &str, bytes: &[u8]) -> Result<(), OutFault>
-        ensures stores { Stores (meaning_of self.old) (meaning_of self.new) name.now bytes.now result }
+        ensures stores { Stores (meaning_of self.old) (meaning_of self.new) name.now
+            bytes.now result }
         ensures stops { StopsStore self.old self.new name.now bytes.now result }
     {
         self.calls = self.calls.saturating_add(1);
@@ -255,7 +256,8 @@ fn give(file: Option<&[u8]>, most: u64, into: &mut Vec<u8>) -> Result<(), LoadFa
     ensures too_large { IsErrOf result LoadFault.TooLarge → length into.new.items ≡ most + 1 }
     ensures large { IsErrOf result LoadFault.TooLarge
         → IsSomeAnd (option_copied file.entry) (λ bs. most < length bs) }
-    ensures part { OnErr result (StartsWith (unwrap_or (option_copied file.entry) []) into.new.items) }
+    ensures part { OnErr result (StartsWith (unwrap_or (option_copied file.entry) [])
+        into.new.items) }
     ensures always_missing { option_copied file.entry ≡ None → IsErrOf result LoadFault.Missing }
     ensures always_too_large { IsSomeAnd (option_copied file.entry) (λ bs. most < length bs)
         → IsErrOf result LoadFault.TooLarge ⊎ IsErrOf result LoadFault.Memory }
