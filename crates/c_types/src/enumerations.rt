@@ -1,6 +1,6 @@
 //! Enumerations.
 ghost use Rattle.std.specs.Prelude.{◌≡◌, ◌++◌, [], ◌∷◌, ◌||◌, ◌&&◌, ◌==◌, not, None, true, false};
-ghost use Rattle.std.specs.Prelude.{OnOk, IfSome};
+ghost use Rattle.std.specs.Prelude.{OnOk, IfOk, IfSome};
 ghost use Rattle.dwarf_abbrev.specs.declared.constants.TheConstants.{DW_AT_declaration};
 ghost use Rattle.dwarf_forms.specs.Values.{IsContext};
 ghost use Rattle.dwarf_forms.specs.Meanings.{Sections, sections, Fits64};
@@ -18,8 +18,9 @@ ghost use Rattle.c_types.specs.Opened.{GathersEnumerator};
 ghost use Rattle.c_types.specs.declared.open.OpenType.TheVariants.{Enumeration};
 
 use crate::open::{Complete, OpenEnumeration};
+use crate::spare::Spare;
 use c_model::kinds::{BTF_KIND_ENUM, BTF_KIND_ENUM64};
-use c_model::{Label, Part, Parts};
+use c_model::{Label, Part, Parts, copy_of_parts};
 use dw_base::Name;
 use dwarf_abbrev::constants::{DW_AT_byte_size, DW_AT_const_value, DW_TAG_enumerator};
 use dwarf_forms::FormCtx;
@@ -232,9 +233,15 @@ fn is_bare(whole: &OpenEnumeration<'_>) -> bool
 }
 
 /// The type of an enumeration whose children have all come.
-pub(crate) fn complete_enumeration<'a>(alloc: Global, whole: OpenEnumeration<'a>) -> Complete<'a>
-    ensures made { (c : Sections) → result.made ≡ enumeration_made c whole.entry [] }
-    ensures refused { (c : Sections) → result.refused ≡ enumeration_refused c whole.entry [] }
+pub(crate) fn complete_enumeration<'a>(
+    alloc: Global,
+    spare: &mut Spare<'a>,
+    whole: OpenEnumeration<'a>,
+) -> Result<Complete<'a>, AllocError>
+    ensures made { IfOk result (λ d. (c : Sections) → d.made ≡
+        enumeration_made c whole.entry []) }
+    ensures refused { IfOk result (λ d. (c : Sections) → d.refused ≡
+        enumeration_refused c whole.entry []) }
 {
     let bare = is_bare(&whole);
     let OpenEnumeration {
@@ -252,25 +259,29 @@ pub(crate) fn complete_enumeration<'a>(alloc: Global, whole: OpenEnumeration<'a>
     let targets = no_targets(alloc);
     if bare {
         let label = make_enumeration(false, name, false, 4, Parts::new(Vec::new(alloc)));
-        return Complete {
+        spare.keep_parts(parts);
+        return Ok(Complete {
             made: SourceType { at, label, targets },
             refused,
-        };
+        });
     }
     let mut refused = if has_negative { signed } else { unsigned };
     let count = parts.len() as u64;
     note_if(&mut refused, count > MOST, TypeFault::TooMany(at, count));
-    let label = make_enumeration(wide, name, has_negative, size, Parts::new(parts));
-    Complete {
+    let copy = copy_of_parts(alloc, &parts)?;
+    spare.keep_parts(parts);
+    let label = make_enumeration(wide, name, has_negative, size, copy);
+    Ok(Complete {
         made: SourceType { at, label, targets },
         refused,
-    }
+    })
 }
 
 /// An enumeration begins that isn't declared alone; whether it is, was asked before.
 #[tactic(auto, using(type_attributes::proofs::Noting::noted_append))]
 pub(crate) fn open_enumeration<'a>(
     alloc: Global,
+    spare: &mut Spare<'a>,
     ctx: &UnitCtx<'_, 'a>,
     entry: &Entry<'_, 'a>,
     declared: Option<TypeFault>,
@@ -295,7 +306,7 @@ pub(crate) fn open_enumeration<'a>(
         wide: size == 8,
         has_some: false,
         has_negative: false,
-        parts: Vec::new(alloc),
+        parts: spare.parts(alloc),
         bare,
         unsigned: found,
         signed: found,

@@ -10,8 +10,9 @@ ghost use Rattle.c_types.specs.Opened.{function_made, function_refused, ComesTo,
 ghost use Rattle.c_types.specs.declared.open.OpenType.TheVariants.{Function};
 
 use crate::open::{Complete, OpenFunction};
+use crate::spare::Spare;
 use c_model::kinds::BTF_KIND_FUNC_PROTO;
-use c_model::{Label, Part, Parts};
+use c_model::{Label, Part, copy_of_parts};
 use dw_base::Name;
 use dwarf_abbrev::constants::{DW_AT_type, DW_TAG_formal_parameter, DW_TAG_unspecified_parameters};
 use dwarf_forms::FormCtx;
@@ -91,7 +92,11 @@ fn end_parameters(
 }
 
 /// The type of a subroutine type whose children have all come.
-pub(crate) fn complete_function<'a>(whole: OpenFunction<'a>) -> Result<Complete<'a>, AllocError>
+pub(crate) fn complete_function<'a>(
+    alloc: Global,
+    spare: &mut Spare<'a>,
+    whole: OpenFunction<'a>,
+) -> Result<Complete<'a>, AllocError>
     ensures made { IfOk result (λ d. (c : Sections) → d.made ≡ function_made c whole.entry []) }
     ensures refused { IfOk result (λ d. (c : Sections) → d.refused ≡
         function_refused c whole.entry []) }
@@ -117,16 +122,19 @@ pub(crate) fn complete_function<'a>(whole: OpenFunction<'a>) -> Result<Complete<
             flag: false,
             size: 0,
             extra: 0,
-            parts: Parts::new(parts),
+            parts: copy_of_parts(alloc, &parts)?,
         },
-        targets: Targets::new(targets),
+        targets: Targets::new(Vec::from_slice(alloc, &targets)?),
     };
+    spare.keep_parts(parts);
+    spare.keep_targets(targets);
     Ok(Complete { made, refused })
 }
 
 /// A subroutine type begins.
 pub fn open_function<'a>(
     alloc: Global,
+    spare: &mut Spare<'a>,
     ctx: &UnitCtx<'_, 'a>,
     entry: &Entry<'_, 'a>,
 ) -> Result<OpenFunction<'a>, AllocError>
@@ -136,11 +144,11 @@ pub fn open_function<'a>(
 {
     let mut found = None;
     let target = type_target(&ctx.form, entry, &mut found);
-    let mut targets = Vec::new(alloc);
+    let mut targets = spare.targets(alloc);
     targets.push(target)?;
     Ok(OpenFunction {
         at: entry.at(),
-        parts: Vec::new(alloc),
+        parts: spare.parts(alloc),
         targets,
         variadic: false,
         least: found,

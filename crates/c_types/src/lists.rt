@@ -12,6 +12,7 @@ ghost use Rattle.c_types.specs.Walking.{filled, least_of, AreNested, ArePlaced, 
 ghost use Rattle.c_types.specs.Walking.{IsShallow, own_of, pointed_at};
 
 use crate::open::{OpenType, Reading};
+use crate::spare::Spare;
 use crate::walking::{begin_to, close_to};
 use std::alloc::{AllocError, Global};
 
@@ -33,8 +34,10 @@ pub fn close<'a>(alloc: Global, reading: &mut Reading<'a>, depth: u32) -> Result
     ensures pointed { OnOk result ((d : ℕ) → d ≤ depth
         → pointed_at reading.new.opens.items d ≡ pointed_at reading.old.opens.items d) }
 {
+    let mut spare = Spare::new(alloc);
     close_to(
         alloc,
+        &mut spare,
         &mut reading.types,
         &mut reading.opens,
         &mut reading.current,

@@ -18,6 +18,7 @@ use crate::enumerations::{declared_enumeration, open_enumeration};
 use crate::functions::open_function;
 use crate::open::{LastPointer, Open, OpenPointer, OpenType};
 use crate::pointers::pointing;
+use crate::spare::Spare;
 use crate::structures::{forward, open_structure};
 use crate::taker::Taker;
 use crate::unit::{read_plain_type, take_type};
@@ -34,6 +35,7 @@ use type_attributes::scope::UnitCtx;
 /// A structure or union.
 pub(crate) fn take_structure<'a, T: Taker<'a>>(
     alloc: Global,
+    spare: &mut Spare<'a>,
     ctx: &UnitCtx<'_, 'a>,
     entry: &Entry<'_, 'a>,
     is_union: bool,
@@ -51,7 +53,9 @@ pub(crate) fn take_structure<'a, T: Taker<'a>>(
 {
     let mut declared = None;
     if !flag(entry, DW_AT_declaration, &mut declared) {
-        let kept = OpenType::Structure(open_structure(alloc, ctx, entry, is_union, declared));
+        let kept = OpenType::Structure(open_structure(
+            alloc, spare, ctx, entry, is_union, declared,
+        ));
         begin_to(
             alloc,
             entry.at(),
@@ -72,6 +76,7 @@ pub(crate) fn take_structure<'a, T: Taker<'a>>(
 /// An enumeration.
 pub(crate) fn take_enumeration<'a, T: Taker<'a>>(
     alloc: Global,
+    spare: &mut Spare<'a>,
     ctx: &UnitCtx<'_, 'a>,
     entry: &Entry<'_, 'a>,
     types: &mut T,
@@ -89,7 +94,7 @@ pub(crate) fn take_enumeration<'a, T: Taker<'a>>(
     let mut declared = None;
     let is_declared = flag(entry, DW_AT_declaration, &mut declared);
     if !is_declared {
-        let kept = OpenType::Enumeration(open_enumeration(alloc, ctx, entry, declared));
+        let kept = OpenType::Enumeration(open_enumeration(alloc, spare, ctx, entry, declared));
         begin_to(
             alloc,
             entry.at(),
@@ -110,6 +115,7 @@ pub(crate) fn take_enumeration<'a, T: Taker<'a>>(
 /// A subroutine type.
 pub(crate) fn take_function<'a, T: Taker<'a>>(
     alloc: Global,
+    spare: &mut Spare<'a>,
     ctx: &UnitCtx<'_, 'a>,
     entry: &Entry<'_, 'a>,
     types: &mut T,
@@ -124,7 +130,7 @@ pub(crate) fn take_function<'a, T: Taker<'a>>(
         (function_row (sections ctx.now.form) entry.now) opens.old.items opens.new.items
         (T.types types.old) (T.types types.new) current.old current.new) }
 {
-    let kept = OpenType::Function(open_function(alloc, ctx, entry)?);
+    let kept = OpenType::Function(open_function(alloc, spare, ctx, entry)?);
     begin_to(
         alloc,
         entry.at(),

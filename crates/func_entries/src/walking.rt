@@ -20,6 +20,7 @@ use crate::entries::{FuncEntries, FuncEntry, Offsets, UnitFuncs};
 use crate::places::{Placing, place};
 use c_types::functions::open_function;
 use c_types::open::{OpenType, Reading};
+use c_types::spare::Spare;
 use c_types::walking::{begin, close, meet};
 use c_types::{SourceType, TypeFault};
 use dw_base::Name;
@@ -106,7 +107,8 @@ fn take_function<'a>(
     let Some(head) = read_head(&ctx.form, entry, &mut gathering.reading.current) else {
         return Ok(());
     };
-    let kept = OpenType::Function(open_function(alloc, ctx, entry)?);
+    let mut spare = Spare::new(alloc);
+    let kept = OpenType::Function(open_function(alloc, &mut spare, ctx, entry)?);
     begin(
         alloc,
         entry.at(),

@@ -31,7 +31,8 @@ returns-clause-made c = λ s.
       b,
       c.no_targets-targets.ensures,
       c.make_enumeration-label-2.ensures,
-      c.new-2.ensures,
+      c.in_ok-copy.ensures,
+      c.deref.ensures.value,
     ) refl
 
 pub returns-clause-refused : goal.returns-clause-refused

@@ -19,7 +19,7 @@ returns c =
       wide = rw size refl;
       has_some = refl;
       has_negative = refl;
-      parts = c.new.ensures.items;
+      parts = c.parts.ensures;
       bare = c.name-name.ensures.noted ∙ rw c.requires.declared refl;
       unsigned = c.note_enum_size.ensures
           ∙ rw (c.at-at.ensures, c.constant-size.ensures.said, c.constant-size.ensures.noted) refl;

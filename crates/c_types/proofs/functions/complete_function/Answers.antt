@@ -7,8 +7,11 @@ returns-clause-made c =
     λ s. rw (
       made_closed s c.args.whole,
       c.new.ensures,
+      c.in_ok-copy_of_parts.ensures,
+      c.deref.ensures.value,
       c.new-2.ensures,
-      c.new-3.ensures,
+      c.in_ok-from_slice.ensures.items,
+      c.deref-2.ensures.value,
       c.in_ok-end_parameters.ensures.parts,
       c.in_ok-end_parameters.ensures.targets,
     ) refl

@@ -9,9 +9,9 @@ returns c =
     function_comes (scope c.args.ctx.now) c.args.entry.now _
     (record {
       at = c.at.ensures;
-      parts = c.new.ensures.items;
+      parts = c.parts.ensures;
       targets = c.in_ok-push.ensures.items ∙ ap
-          (λ (ts : List Target). ts ++ c.type_target-target.result ∷ []) c.new-targets.ensures.items
+          (λ (ts : List Target). ts ++ c.type_target-target.result ∷ []) c.targets-targets.ensures
           ∙ ap (λ (t : Target). t ∷ []) c.type_target-target.ensures.said;
       variadic = refl;
       least = c.type_target-target.ensures.noted;

@@ -1,4 +1,5 @@
-use Rattle.std.proofs.Common.{◌≡◌, ◌∙◌, sym, map, length, rules, refl}
+use Rattle.std.proofs.Common.{◌≡◌, ◌∙◌, sym, ap, map, List, length, rules, refl}
+use Rattle.c_types.specs.declared.open.Member.{Member}
 use Rattle.c_types.specs.Opened.{own, part_from}
 use Rattle.c_types.proofs.OpenStructures.{made_closed, refused_closed, own_packed, own_plain}
 use Rattle.c_types.proofs.structures.complete_structure.Goals as goal
@@ -7,8 +8,16 @@ use Rattle.c_types.proofs.structures.complete_structure.Goals.{then-fields, else
 pub returns-clause-made : goal.returns-clause-made
 returns-clause-made c = λ s.
     let p : c.new.result ≡ map (part_from c.args.whole.fields) c.args.whole.members.items =
-    c.new.ensures ∙ c.in_ok-parts.ensures in
-    rw (made_closed s c.args.whole, c.kind_of.ensures, p, c.new-2.ensures) refl
+    c.new.ensures ∙ c.in_ok-parts.ensures
+    ∙ ap (λ (l : List Member). map (part_from c.args.whole.fields) l) c.deref.ensures.value in
+    rw (
+      made_closed s c.args.whole,
+      c.kind_of.ensures,
+      p,
+      c.new-2.ensures,
+      c.in_ok-from_slice.ensures.items,
+      c.deref-2.ensures.value,
+    ) refl
 
 pub returns-clause-refused : goal.returns-clause-refused
 returns-clause-refused c = λ s.

@@ -15,8 +15,8 @@ returns c =
       c.name-name.ensures.noted,
     ) refl)
     (record {
-      members = c.new.ensures.items;
-      targets = c.new-2.ensures.items;
+      members = c.members.ensures;
+      targets = c.targets.ensures;
       fields = refl;
       at = c.at-at.ensures;
       is_union = refl;
