@@ -4,7 +4,7 @@ use dwarf_abbrev::constants::DW_AT_name;
 use dwarf_abbrev::fault::AbbrevFault;
 use dwarf_abbrev::size::Size;
 use dwarf_abbrev::spec::Spec;
-use std::alloc::Global;
+use std::alloc::{AllocError, Global};
 
 /// A section, the place of a table in it, and why this table is refused.
 const REFUSED: &[(&[u8], u64, AbbrevFault)] = &[
@@ -219,5 +219,44 @@ fn first_other_size(table: &Abbrevs) -> Option<usize> {
 fn an_abbreviation_tells_its_runs_and_its_size(rt: HostRuntime) -> Result<(), AbbrevFault> {
     let table = Abbrevs::read(rt.alloc(), SIZED, 0)?;
     assert_eq!(rt; first_other_size(&table), None);
+    Ok(())
+}
+
+/// How many attributes stand before the name.
+const BEFORE_THE_NAME: &[usize] = &[0, 1, 255, 256, 70_000];
+
+/// A table of one abbreviation: so many attributes, and behind them the name.
+fn behind(alloc: Global, count: usize) -> Result<Vec<u8>, AllocError> {
+    let mut bytes = Vec::from_slice(alloc, &[1, 0x34, 0])?;
+    for _ in 0..count {
+        bytes.extend_from_slice(&[0x3b, 0x0b])?;
+    }
+    bytes.extend_from_slice(&[0x03, 0x08, 0, 0, 0])?;
+    Ok(bytes)
+}
+
+/// Which attribute of that abbreviation is the name.
+fn place_of_name(alloc: Global, count: usize) -> Result<Option<usize>, AbbrevFault> {
+    let bytes = behind(alloc, count)?;
+    let table = Abbrevs::read(alloc, bytes.as_slice(), 0)?;
+    match table.row(1) {
+        None => Ok(None),
+        Some(found) => Ok(found.map.first_of(found.specs.as_slice(), DW_AT_name)),
+    }
+}
+
+/// The first count of attributes behind which the name is not found.
+fn first_not_found(alloc: Global) -> Result<Option<usize>, AbbrevFault> {
+    for count in BEFORE_THE_NAME {
+        if place_of_name(alloc, *count)? != Some(*count) {
+            return Ok(Some(*count));
+        }
+    }
+    Ok(None)
+}
+
+#[test]
+fn a_name_is_found_behind_many_attributes(rt: HostRuntime) -> Result<(), AbbrevFault> {
+    assert_eq!(rt; first_not_found(rt.alloc())?, None);
     Ok(())
 }

@@ -1,22 +1,23 @@
 -- Runs of values and places of attributes, one attribute more at a time.
 use Rattle.std.proofs.Common.{◌≡◌, ℕ, zero, suc, ◌+◌, ◌<◌, ◌≤◌, ◌==◌, ◌||◌, Bool, true, false, List}
 use Rattle.std.proofs.Common.{[], ◌∷◌, ◌++◌, length, take, drop, get_or, slice_get, slice_set}
-use Rattle.std.proofs.Common.{Option, None, Some, is_some, if◌then◌else◌, ◌⊎◌, inl, inr}
+use Rattle.std.proofs.Common.{Option, None, Some, if◌then◌else◌, ◌⊎◌, inl, inr}
 use Rattle.std.proofs.Common.{refl, sym, ap, ◌∙◌, subst, arith}
 use Rattle.std.specs.Option.{option_map}
 use Rattle.std.proofs.Math.Dec.{eqb}
 use Rattle.std.proofs.lemmas.Bool.{eqb-true, ne_eqb, or_parts}
 use Rattle.std.proofs.lemmas.Bool.Decides.{eqb_tells}
-use Rattle.std.proofs.lemmas.Option.{get_or_from_slice_get, slice_get-get_or}
+use Rattle.std.proofs.lemmas.Option.{slice_get-get_or}
 use Rattle.std.proofs.lemmas.List.{take_more, take_all, drop_all, drop-append-le, length-take}
 use Rattle.std.proofs.lemmas.List.{get_or_default}
-use Rattle.dw_base.proofs.Options.{none_if_not_some}
 use Rattle.dwarf_abbrev.specs.Sizes.{bytes_of, plus, sizes_of, total, IsSize}
 use Rattle.dwarf_abbrev.specs.ValueMaps.{has_spec, IsFirst, slot_in, slots, slot_of, SaysFirst}
-use Rattle.dwarf_abbrev.specs.ValueMaps.{ArePlaces, IsRun, AreRuns}
+use Rattle.dwarf_abbrev.specs.ValueMaps.{IsPlaceOf, ArePlaces, IsRun, AreRuns}
 use Rattle.dwarf_abbrev.specs.declared.size.Size.{Size}
 use Rattle.dwarf_abbrev.specs.declared.spec.Spec.{Spec}
 use Rattle.dwarf_abbrev.specs.declared.value_map.FixedRun.{FixedRun}
+use Rattle.dwarf_abbrev.specs.declared.value_map.Place.{Place}
+use Rattle.dwarf_abbrev.specs.declared.value_map.Place.TheVariants.{Missing, At}
 use Rattle.dwarf_abbrev.proofs.Sizing.{sizes_push}
 
 one_without : (b : Bool) → b ≡ false → (b || false) ≡ false
@@ -59,13 +60,13 @@ one_name a b k p q =
     let e : Some a ≡ Some b = sym (slot_there slots a k p) ∙ slot_there slots b k q in cc
 
 -- what a slot says stays, where the next attribute has another name or the slot has its place
-pub says_still : (specs : List Spec) (i name : ℕ) (o : Option ℕ) (d : Spec) → i < length specs
-    → SaysFirst name specs i o → (o ≡ None → (get_or specs i d).attribute ≡ name → ⊥)
-    → SaysFirst name specs (i + 1) o
-says_still specs i name o d lt says ne =
+pub says_still : (specs : List Spec) (i name : ℕ) (p : Place) (d : Spec) → i < length specs
+    → SaysFirst name specs i p → (p ≡ Missing → (get_or specs i d).attribute ≡ name → ⊥)
+    → SaysFirst name specs (i + 1) p
+says_still specs i name p d lt says ne =
     record {
-      some = says.some;
-      none = λ none. one_more_without specs i name d lt (says.none none) (ne none);
+      at = says.at;
+      missing = λ m. one_more_without specs i name d lt (says.missing m) (ne m);
     }
 
 -- one attribute more is noted
@@ -76,30 +77,26 @@ clash (Some y) x n e = cc
 same_slot : (a b : Option ℕ) (j k : ℕ) → a ≡ b → a ≡ Some j → b ≡ Some k → j ≡ k
 same_slot a b j k is p q = let e : Some j ≡ Some k = sym p ∙ is ∙ q in cc
 
-has_none : {P : Type 0} (o : Option ℕ) → o ≡ None → is_some o ≡ true → P
-has_none None n h = cc
-has_none (Some x) n h = cc
-
-pub placed_other : (specs : List Spec) (n : ℕ) (d : Spec) (places : List (Option ℕ))
+pub placed_other : (specs : List Spec) (n : ℕ) (d : Spec) (places : List Place)
     → n < length specs → slot_of (get_or specs n d).attribute ≡ None → ArePlaces specs n places
     → ArePlaces specs (n + 1) places
-placed_other specs n d places lt other are name k o e h =
-    says_still specs n name o d lt (are name k o e h)
-    (λ (none : o ≡ None) (is : (get_or specs n d).attribute ≡ name).
+placed_other specs n d places lt other are name k p e h =
+    says_still specs n name p d lt (are name k p e h)
+    (λ (none : p ≡ Missing) (is : (get_or specs n d).attribute ≡ name).
     clash (slot_of name) k (sym (ap slot_of is) ∙ other) e)
 
-pub placed_known : (specs : List Spec) (n k : ℕ) (d : Spec) (places : List (Option ℕ))
+pub placed_known : (specs : List Spec) (n k : ℕ) (d : Spec) (places : List Place) (r : Place)
     → n < length specs → slot_of (get_or specs n d).attribute ≡ Some k
-    → is_some (get_or places k None) ≡ true → ArePlaces specs n places
+    → slice_get places k ≡ Some r → (r ≡ Missing → ⊥) → ArePlaces specs n places
     → ArePlaces specs (n + 1) places
-placed_known specs n k d places lt slot some are name j o e h =
-    says_still specs n name o d lt (are name j o e h)
-    (λ (none : o ≡ None) (is : (get_or specs n d).attribute ≡ name).
+placed_known specs n k d places r lt slot has some are name j p e h =
+    says_still specs n name p d lt (are name j p e h)
+    (λ (none : p ≡ Missing) (is : (get_or specs n d).attribute ≡ name).
     let q : j ≡ k = same_slot (slot_of name) (slot_of (get_or specs n d).attribute) j k
     (sym (ap slot_of is)) e slot in
-    has_none (get_or places k None)
-    (ap (λ (i : ℕ). get_or places i None) (sym q)
-    ∙ get_or_from_slice_get places j o None h ∙ none) some)
+    let both : Some r ≡ Some p = sym has ∙ ap (slice_get places) (sym q) ∙ h in
+    let one : r ≡ p = cc in
+    some (one ∙ none))
 
 set_same : {X : Type 0} (xs : List X) (k : ℕ) (v w : X) → slice_get (slice_set xs k v) k ≡ Some w
     → v ≡ w
@@ -125,53 +122,59 @@ first_is specs n name d lt is before =
       there = λ (e : Spec). ap (λ (s : Spec). s.attribute) (get_or_default specs n e d lt) ∙ is;
     }
 
-noted : (specs : List Spec) (n name : ℕ) (d : Spec) (o : Option ℕ) → n < length specs
-    → (get_or specs n d).attribute ≡ name → has_spec name (take n specs) ≡ false → Some n ≡ o
-    → SaysFirst name specs (n + 1) o
-noted specs n name d o lt is before e =
-    subst (SaysFirst name specs (n + 1)) e (record {
-      some = λ x q. let p : n ≡ x = cc in subst (IsFirst name specs) p
+noted : (specs : List Spec) (n name : ℕ) (d : Spec) (p : Place) → n < length specs
+    → (get_or specs n d).attribute ≡ name → has_spec name (take n specs) ≡ false → IsPlaceOf n p
+    → SaysFirst name specs (n + 1) p
+noted specs n name d p lt is before place =
+    record {
+      at = λ x q. subst (IsFirst name specs) (sym (place.at x q))
           (first_is specs n name d lt is before);
-      none = λ q. cc;
-    })
+      missing = λ q. absurd (place.missing q);
+    }
 
-pub placed_new : (specs : List Spec) (n k : ℕ) (d : Spec) (places : List (Option ℕ))
-    → n < length specs → k < length places → slot_of (get_or specs n d).attribute ≡ Some k
-    → is_some (get_or places k None) ≡ false → ArePlaces specs n places
-    → ArePlaces specs (n + 1) (slice_set places k (Some n))
-placed_new specs n k d places lt short slot none are name j o e h = by_slot (eqb_tells j k) where
-  here : slice_get places k ≡ Some None
-  here = slice_get-get_or places k None short
-      ∙ ap (λ (p : Option ℕ). Some p) (none_if_not_some (get_or places k None) none)
-
+pub placed_new : (specs : List Spec) (n k : ℕ) (d : Spec) (places : List Place) (v : Place)
+    → n < length specs → slot_of (get_or specs n d).attribute ≡ Some k
+    → slice_get places k ≡ Some Missing → IsPlaceOf n v → ArePlaces specs n places
+    → ArePlaces specs (n + 1) (slice_set places k v)
+placed_new specs n k d places v lt slot here place are name j p e h = by_slot (eqb_tells j k) where
   by_slot : ((eqb j k ≡ true) × (j ≡ k)) ⊎ ((eqb j k ≡ false) × (j ≡ k → ⊥))
-      → SaysFirst name specs (n + 1) o
+      → SaysFirst name specs (n + 1) p
   by_slot (inl same) =
       let at : slot_of name ≡ Some k = e ∙ ap (λ (i : ℕ). Some i) same.1 in
-      let got : slice_get (slice_set places k (Some n)) k ≡ Some o =
-      ap (λ (i : ℕ). slice_get (slice_set places k (Some n)) i) (sym same.1) ∙ h in
-      noted specs n name d o lt (one_name (get_or specs n d).attribute name k slot at)
-      ((are name k None at here).none refl) (set_same places k (Some n) o got)
+      let got : slice_get (slice_set places k v) k ≡ Some p =
+      ap (λ (i : ℕ). slice_get (slice_set places k v) i) (sym same.1) ∙ h in
+      noted specs n name d p lt (one_name (get_or specs n d).attribute name k slot at)
+      ((are name k Missing at here).missing refl)
+      (subst (IsPlaceOf n) (set_same places k v p got) place)
   by_slot (inr other) =
-      says_still specs n name o d lt
-      (are name j o e (sym (set_other places k j (Some n) other.1) ∙ h))
-      (λ (no : o ≡ None) (is : (get_or specs n d).attribute ≡ name).
+      says_still specs n name p d lt
+      (are name j p e (sym (set_other places k j v other.1) ∙ h))
+      (λ (no : p ≡ Missing) (is : (get_or specs n d).attribute ≡ name).
       absurd (other.1 (same_slot (slot_of name) (slot_of (get_or specs n d).attribute) j k
       (sym (ap slot_of is)) e slot)))
 
 -- no attribute is noted yet
-pub placed_none : (specs : List Spec) (places : List (Option ℕ))
-    → ((k : ℕ) (o : Option ℕ) → slice_get places k ≡ Some o → o ≡ None) → ArePlaces specs 0 places
-placed_none specs places none name k o e h =
-    record { some = λ x q. clash o x (none k o h) q; none = λ q. refl }
+pub placed_none : (specs : List Spec) (places : List Place)
+    → ((k : ℕ) (p : Place) → slice_get places k ≡ Some p → p ≡ Missing) → ArePlaces specs 0 places
+placed_none specs places none name k p e h =
+    record {
+      at = λ x q. let no : Missing ≡ At x = sym (none k p h) ∙ q in cc;
+      missing = λ q. refl;
+    }
+
+-- what is at the place of a slot
+pub at_place : (places : List Place) (k : ℕ) (p : Place) → k < length places
+    → get_or places k Missing ≡ p → slice_get places k ≡ Some p
+at_place places k p short is =
+    slice_get-get_or places k Missing short ∙ ap (λ (q : Place). Some q) is
 
 -- all attributes are noted
-pub placed_all : (specs : List Spec) (name k : ℕ) (places : List (Option ℕ)) → k < length places
-    → slot_of name ≡ Some k → ArePlaces specs (length specs) places
-    → (get_or places k None ≡ None) → has_spec name specs ≡ false
-placed_all specs name k places short slot are none =
+pub missing_all : (specs : List Spec) (name k : ℕ) (places : List Place)
+    → slot_of name ≡ Some k → slice_get places k ≡ Some Missing
+    → ArePlaces specs (length specs) places → has_spec name specs ≡ false
+missing_all specs name k places slot has are =
     ap (has_spec name) (sym (take_all (length specs) specs (omega arith)))
-    ∙ (are name k (get_or places k None) slot (slice_get-get_or places k None short)).none none
+    ∙ (are name k Missing slot has).missing refl
 
 -- a run before the next attribute
 pub run_grows : (specs : List Spec) (i from : ℕ) (d : Spec) (here next : Size) → i < length specs

@@ -1,5 +1,6 @@
 -- Rows of a table in memory, and the declarations that they are.
 use Rattle.std.specs.Prelude.{ℕ, ◌≡◌, ◌+◌, ◌<◌, ◌⊎◌, List, map, length, get_or, Some}
+use Rattle.std.specs.Borrow.{Bor}
 use Rattle.std.specs.Ordering.{nat_cmp}
 use Rattle.std.specs.BTreeMap.{BTreeMap, get}
 use Rattle.dwarf_abbrev.specs.Declarations.{Declaration}
@@ -9,6 +10,10 @@ use Rattle.dwarf_abbrev.specs.declared.row.Abbrev.{Abbrev}
 abbrev pub declaration_of : OwnedAbbrev → Declaration
 declaration_of r =
     record { code = r.code; tag = r.tag; children = r.children; specs = r.specs.items }
+
+-- a row that is lent
+abbrev pub lent : Bor OwnedAbbrev → Declaration
+lent r = declaration_of r.now
 
 abbrev pub declarations_of : List OwnedAbbrev → List Declaration
 declarations_of rows = map declaration_of rows

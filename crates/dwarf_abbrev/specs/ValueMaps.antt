@@ -2,7 +2,7 @@
 use Rattle.std.specs.Prelude.{ℕ, suc, ◌≡◌, ◌≤◌, ◌<◌, ◌+◌, ◌==◌, ◌||◌, Bool, false, List, [], ◌∷◌}
 use Rattle.std.specs.Prelude.{length, take, drop, get_or, slice_get, Option, None, Some}
 use Rattle.std.specs.Prelude.{if◌then◌else◌}
-use Rattle.std.specs.Option.{option_map, ForSome}
+use Rattle.std.specs.Option.{option_map}
 use Rattle.dwarf_abbrev.specs.declared.constants.TheConstants.{DW_AT_name, DW_AT_type}
 use Rattle.dwarf_abbrev.specs.declared.constants.TheConstants.{DW_AT_byte_size, DW_AT_declaration}
 use Rattle.dwarf_abbrev.specs.declared.constants.TheConstants.{DW_AT_data_member_location}
@@ -14,6 +14,8 @@ use Rattle.dwarf_abbrev.specs.declared.constants.TheConstants.{DW_AT_external, D
 use Rattle.dwarf_abbrev.specs.declared.constants.TheConstants.{DW_AT_str_offsets_base}
 use Rattle.dwarf_abbrev.specs.declared.spec.Spec.{Spec}
 use Rattle.dwarf_abbrev.specs.declared.value_map.FixedRun.{FixedRun}
+use Rattle.dwarf_abbrev.specs.declared.value_map.Place.{Place}
+use Rattle.dwarf_abbrev.specs.declared.value_map.Place.TheVariants.{Missing, At}
 use Rattle.dwarf_abbrev.specs.declared.value_map.ValueMap.{ValueMap}
 use Rattle.dwarf_abbrev.specs.Sizes.{IsSize}
 
@@ -43,16 +45,21 @@ slot_in name (n ∷ ns) =
 unfoldable pub slot_of : ℕ → Option ℕ
 slot_of name = slot_in name slots
 
+-- a slot that says nothing but where an attribute stands
+pub record IsPlaceOf (i : ℕ) (p : Place) : Type 0 where
+  pub at : (j : ℕ) → p ≡ At j → j ≡ i
+  pub missing : p ≡ Missing → ⊥
+
 -- what a slot says of a name, once so many attributes are noted
-pub record SaysFirst (name : ℕ) (specs : List Spec) (n : ℕ) (o : Option ℕ) : Type 0 where
-  pub some : ForSome o (IsFirst name specs)
-  pub none : o ≡ None → has_spec name (take n specs) ≡ false
+pub record SaysFirst (name : ℕ) (specs : List Spec) (n : ℕ) (p : Place) : Type 0 where
+  pub at : (i : ℕ) → p ≡ At i → IsFirst name specs i
+  pub missing : p ≡ Missing → has_spec name (take n specs) ≡ false
 
 -- each slot says where the first attribute of its name stands
-abbrev pub ArePlaces : List Spec → ℕ → List (Option ℕ) → Type 0
+abbrev pub ArePlaces : List Spec → ℕ → List Place → Type 0
 ArePlaces specs n places =
-    (name k : ℕ) (o : Option ℕ) → slot_of name ≡ Some k → slice_get places k ≡ Some o
-    → SaysFirst name specs n o
+    (name k : ℕ) (p : Place) → slot_of name ≡ Some k → slice_get places k ≡ Some p
+    → SaysFirst name specs n p
 
 -- the values between an earlier attribute and this one have fixed widths, and so many bytes
 abbrev pub IsRun : List Spec → ℕ → FixedRun → Type 0

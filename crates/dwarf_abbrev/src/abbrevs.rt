@@ -146,7 +146,7 @@ impl Abbrevs {
     ghost use Rattle.dwarf_abbrev.specs.Table.{Gives, table_at};
     ghost use Rattle.dwarf_abbrev.specs.Law.{Reads};
     ghost use Rattle.dwarf_abbrev.specs.Declarations.{declaration_with};
-    ghost use Rattle.dwarf_abbrev.specs.Rows.{shown};
+    ghost use Rattle.dwarf_abbrev.specs.Rows.{lent, shown};
 
     /// The table that begins at the offset `at` of `.debug_abbrev`.
     ///
@@ -162,15 +162,25 @@ impl Abbrevs {
         read_table(alloc, bytes, at)
     }
 
-    /// The abbreviation of a code. `None` exactly where none of the table has it.
+    /// The abbreviation of a code, as the table owns it. `None` exactly where none of the table has
+    /// it.
     ///
     /// It takes constant time where the codes of the table are 1, 2, 3 and so on.
     #[inline(always)]
+    pub fn row(&self, code: u64) -> Option<&OwnedAbbrev>
+        ensures { option_map lent result ≡ declaration_with code self.now }
+    {
+        let index = place(self.rows.as_slice(), &self.others, code)?;
+        Some(&self.rows[index])
+    }
+
+    /// The abbreviation of a code. `None` exactly where none of the table has it.
+    ///
+    /// It takes constant time where the codes of the table are 1, 2, 3 and so on.
     pub fn get(&self, code: u64) -> Option<Abbrev<'_>>
         ensures { option_map shown result ≡ declaration_with code self.now }
     {
-        let index = place(self.rows.as_slice(), &self.others, code)?;
-        let row = &self.rows[index];
+        let row = self.row(code)?;
         Some(Abbrev {
             code: row.code,
             tag: row.tag,

@@ -16,7 +16,7 @@ pub mod value_map;
 
 pub use abbrevs::Abbrevs;
 pub use fault::AbbrevFault;
-pub use row::Abbrev;
+pub use row::{Abbrev, OwnedAbbrev};
 pub use size::{Size, Width};
 pub use spec::Spec;
-pub use value_map::{FixedRun, ValueMap};
+pub use value_map::{FixedRun, Place, ValueMap};

@@ -4,14 +4,19 @@ ghost use Rattle.dwarf_abbrev.specs.ValueMaps.{IsMapOf};
 use crate::spec::Spec;
 use crate::value_map::ValueMap;
 
-/// An abbreviation as the table owns it.
+/// An abbreviation as its table owns it (DWARF 5, section 7.5.3).
 #[derive(Debug, Drop)]
-pub(crate) struct OwnedAbbrev {
-    pub(crate) code: u64,
-    pub(crate) tag: u64,
-    pub(crate) specs: Vec<Spec>,
-    pub(crate) children: bool,
-    pub(crate) map: ValueMap,
+pub struct OwnedAbbrev {
+    /// The code by which entries name it; never 0.
+    pub code: u64,
+    /// The tag of its entries, a DW_TAG number.
+    pub tag: u64,
+    /// Its attributes, in the order in which an entry holds their values.
+    pub specs: Vec<Spec>,
+    /// Whether a list of children follows each of its entries.
+    pub children: bool,
+    /// Where the values of its entries stand, as far as that is known without them.
+    pub map: ValueMap,
     ghost mapped: { IsMapOf specs.items map },
 }
 

@@ -1,7 +1,7 @@
 //! Where the values of an entry stand, as far as its abbreviation tells.
 ghost use Rattle.std.specs.Prelude.{◌≡◌, ◌<◌, ◌+◌, false, IfOk, IfSome, IsNone, length};
 ghost use Rattle.dwarf_abbrev.specs.ValueMaps.{slot_of as slot_among, has_spec, IsFirst, ArePlaces};
-ghost use Rattle.dwarf_abbrev.specs.ValueMaps.{IsRun, IsMapOf};
+ghost use Rattle.dwarf_abbrev.specs.ValueMaps.{IsRun, IsPlaceOf, IsMapOf};
 
 use crate::constants::{
     DW_AT_bit_offset, DW_AT_bit_size, DW_AT_byte_size, DW_AT_const_value, DW_AT_count,
@@ -25,6 +25,17 @@ pub struct FixedRun {
     pub size: Size,
 }
 
+/// What a slot says of its name.
+#[derive(Clone, Copy, Debug, PartialEq, Eq)]
+pub enum Place {
+    /// No attribute has the name.
+    Missing,
+    /// The index of the first attribute that has it.
+    At(u32),
+    /// The index of the first attribute that has it does not fit 32 bits.
+    Far,
+}
+
 /// Where the values of an entry stand, as far as its abbreviation tells.
 #[derive(Debug, Drop)]
 pub struct ValueMap {
@@ -34,8 +45,8 @@ pub struct ValueMap {
     /// The indices of the attributes behind whose values a run begins, in order: those without a
     /// fixed width.
     pub loose: Vec<usize>,
-    /// For each name that has a slot, the index of its first attribute.
-    pub places: [Option<usize>; SLOTS],
+    /// For each name that has a slot, where its first attribute stands.
+    pub places: [Place; SLOTS],
 }
 
 /// The slot of an attribute's name. Those have one that readers of types and functions ask for.
@@ -65,15 +76,25 @@ pub fn slot_of(name: u64) -> Option<usize>
     }
 }
 
+/// What a slot says of a name whose first attribute has this index.
+fn place_of_index(index: usize) -> Place
+    ensures { IsPlaceOf index result }
+{
+    match u32::try_from(index) {
+        Ok(at) => Place::At(at),
+        Err(_) => Place::Far,
+    }
+}
+
 /// Notes an attribute in the slot of its name, where it is the first one.
-fn note_place(places: &mut [Option<usize>; SLOTS], specs: &[Spec], index: usize)
+fn note_place(places: &mut [Place; SLOTS], specs: &[Spec], index: usize)
     requires inside { index < length specs.now }
     requires places { ArePlaces specs.now index places.old }
     ensures { ArePlaces specs.now (index + 1) places.new }
 {
     if let Some(slot) = slot_of(specs[index].attribute) {
-        if places[slot].is_none() {
-            places[slot] = Some(index);
+        if let Place::Missing = places[slot] {
+            places[slot] = place_of_index(index);
         }
     }
 }
@@ -103,7 +124,7 @@ pub(crate) fn value_map(alloc: Global, specs: &[Spec]) -> Result<ValueMap, Alloc
 {
     let mut runs = Vec::new(alloc);
     let mut loose = Vec::new(alloc);
-    let mut places = [None; SLOTS];
+    let mut places = [Place::Missing; SLOTS];
     let mut run = FixedRun {
         from: 0,
         size: NO_BYTES,
@@ -151,9 +172,13 @@ impl ValueMap {
         ensures first { IfSome result (IsFirst name specs.now) }
         ensures none { IsNone result → has_spec name specs.now ≡ false }
     {
-        match slot_of(name) {
-            Some(slot) => self.places[slot],
-            None => search(specs, name),
+        let Some(slot) = slot_of(name) else {
+            return search(specs, name);
+        };
+        match self.places[slot] {
+            Place::Missing => None,
+            Place::At(index) => Some(index as usize),
+            Place::Far => search(specs, name),
         }
     }
 }

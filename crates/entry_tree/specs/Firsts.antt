@@ -1,7 +1,6 @@
 -- The first values of the attributes that types want, and which attributes an abbreviation has.
-use Rattle.std.specs.Prelude.{ℕ, ◌≡◌, ◌==◌, ◌||◌, Bool, true, false, is_ok, is_some, List, [], ◌∷◌}
-use Rattle.std.specs.Prelude.{Option, None, Some, Result, Ok, Err, if◌then◌else◌, ◌<◌, length}
-use Rattle.std.specs.Prelude.{take, get_or}
+use Rattle.std.specs.Prelude.{ℕ, ◌≡◌, Bool, true, is_ok, is_some, List}
+use Rattle.std.specs.Prelude.{Option, None, Some, Result, Ok, Err, if◌then◌else◌}
 use Rattle.std.specs.Option.{option_map}
 use Rattle.dwarf_abbrev.specs.declared.constants.TheConstants.{DW_AT_name, DW_AT_byte_size}
 use Rattle.dwarf_abbrev.specs.declared.constants.TheConstants.{DW_AT_bit_offset, DW_AT_bit_size}

@@ -192,6 +192,16 @@ pub fn note_if(least: &mut Option<TypeFault>, refused: bool, fault: TypeFault)
     }
 }
 
+/// Notes the refusal that was found, where one was.
+#[inline(always)]
+pub fn note_found(least: &mut Option<TypeFault>, found: &Option<TypeFault>)
+    ensures { least.new ≡ joined least.old found.now }
+{
+    if let Some(fault) = found {
+        note(least, *fault);
+    }
+}
+
 /// The first of two refusals, the left one where neither comes first.
 pub fn join(a: Option<TypeFault>, b: Option<TypeFault>) -> Option<TypeFault>
     ensures { result ≡ joined a b }

@@ -1,5 +1,5 @@
 use Rattle.std.proofs.Common.{◌≡◌, ◌≤◌, ℕ, ◌+◌, length, drop, take, slice_get, Some, List, sym, ap}
-use Rattle.std.proofs.Common.{◌∙◌, refl, subst, arith}
+use Rattle.std.proofs.Common.{◌∙◌, refl, arith}
 use Rattle.std.proofs.lemmas.Option.{slice_get_read}
 use Rattle.dwarf_abbrev.specs.declared.value_map.FixedRun.{FixedRun}
 use Rattle.dwarf_abbrev.specs.Sizes.{sizes_of}

@@ -1,14 +1,20 @@
-use Rattle.std.proofs.Common.{◌≡◌, ℕ, Option, None, Some, refl, sym, arith}
-use Rattle.std.specs.Option.{IsNone}
-use Rattle.dwarf_abbrev.proofs.Mapping.{placed_all}
+use Rattle.std.proofs.Common.{refl, sym, arith}
+use Rattle.dwarf_abbrev.specs.declared.value_map.Place.TheVariants.{Missing, At}
+use Rattle.dwarf_abbrev.proofs.Mapping.{at_place, missing_all}
 use Rattle.dwarf_abbrev.proofs.value_map.ValueMap.first_of.Goals as goal
 
-none_is : (o : Option ℕ) → IsNone o → o ≡ None
-none_is None h = refl
-none_is (Some x) h = cc
+pub returns-in-Missing-clause-none : goal.returns-in-Missing-clause-none
+returns-in-Missing-clause-none c = λ _.
+    missing_all c.args.specs.now c.args.name c.in-Some.slot c.args.self.now.places
+    (sym c.in-Some.ensures.slot)
+    (at_place c.args.self.now.places c.in-Some.slot Missing
+    (omega (arith, c.requires.count, c.in-Some.ensures.small)) c.in-Missing.is)
+    c.requires.places
 
-pub returns-in-Some-clause-none : goal.returns-in-Some-clause-none
-returns-in-Some-clause-none c = λ none.
-    placed_all c.args.specs.now c.args.name c.in-Some.slot c.args.self.now.places
-    (omega (arith, c.requires.count, c.in-Some.ensures.small)) (sym c.in-Some.ensures.slot)
-    c.requires.places (none_is _ none)
+pub returns-in-At-clause-first : goal.returns-in-At-clause-first
+returns-in-At-clause-first c =
+    (c.requires.places c.args.name c.in-Some.slot (At c.in-At.index)
+    (sym c.in-Some.ensures.slot)
+    (at_place c.args.self.now.places c.in-Some.slot (At c.in-At.index)
+    (omega (arith, c.requires.count, c.in-Some.ensures.small)) c.in-At.is)).at
+    c.in-At.index refl
