@@ -187,6 +187,18 @@ def ends_of_one_text(n):
     return file(table, unit(b"".join(struct.pack("<BIB", 2, i, 4) for i in range(n))), texts=b"a" * n + b"\0")
 
 
+def functions_named_by_ends_of_one_text(n):
+    table = ROOT + abbreviation(2, FUNCTION, 0, (NAME, STRP))
+    return file(table, unit(b"".join(struct.pack("<BI", 2, i) for i in range(n))), texts=b"a" * n + b"\0")
+
+
+def long_names(n):
+    """Structures whose names, of 5,000 bytes each, differ in the middle alone."""
+    table = ROOT + abbreviation(2, STRUCTURE, 0, (NAME, STRP), (SIZE, DATA1))
+    texts = b"".join(b"a" * 2500 + b"%08d" % i + b"a" * 2491 + b"\0" for i in range(n))
+    return file(table, unit(b"".join(struct.pack("<BIB", 2, 5000 * i, 4) for i in range(n))), texts=texts)
+
+
 def members(n):
     table = ROOT + INT + abbreviation(3, STRUCTURE, 1, (NAME, STRING), (SIZE, DATA4)) + abbreviation(
         4, MEMBER, 0, (NAME, STRING), (TYPE, REF4), (PLACE, DATA4))
@@ -222,10 +234,16 @@ def arrays_of_btf(n):
     return btf(BTF_INT + arrays + [3, STRUCT_KIND | 1, 4, 5, n + 1, 0], b"\0t\0s\0m\0")
 
 
+def ends_of_one_text_of_btf(n):
+    """Structures of a file of BTF whose names are ends of one text."""
+    words = [word for i in range(n) for word in (1 + i, STRUCT_KIND, 4)]
+    return btf(BTF_INT + words, b"\0" + b"a" * n + b"\0")
+
+
 # an ELF file of one type, beside the file that grows
 SMALL = "small"
 # kinds whose work is known to grow with the square; docs/SPEED.md says why
-SQUARES = ("names that are ends of one text", "relocations of the same bytes")
+SQUARES = ("relocations of the same bytes",)
 DIGITS = "0123456789abcdefghijklmnopqrstuvwxyz"
 
 
@@ -255,6 +273,10 @@ def showing(n):
     return ["-F", "btf", "-s", "a"]
 
 
+def showing_one(n):
+    return ["-F", "btf", "-s", "-C", "a", "a"]
+
+
 def showing_names(n):
     return ["-F", "btf", "-s", "-C", ",".join(map(short, range(n))), "a"]
 
@@ -278,7 +300,9 @@ KINDS = [
     ("sections of relocations", sections_of_relocations, 50_000, True, encoding),
     ("relocations of the same bytes", relocations_of_the_same_bytes, 2_500, False, encoding),
     ("codes of abbreviations far apart", codes_far_apart, 12_500, True, encoding),
-    ("names that are ends of one text", ends_of_one_text, 5_000, True, encoding),
+    ("names that are ends of one text", ends_of_one_text, 50_000, True, encoding),
+    ("functions whose names are ends of one text", functions_named_by_ends_of_one_text, 25_000, True, encoding_functions),
+    ("long names that differ in the middle", long_names, 500, False, encoding),
     ("members of one structure", members, 16_383, False, encoding),
     ("functions in each other", functions_in_each_other, 12_500, True, encoding_functions),
     ("functions of one name that differ", functions_of_one_name, 12_500, True, encoding_functions),
@@ -286,6 +310,7 @@ KINDS = [
     ("parameters of one function", parameters, 16_383, False, encoding_functions),
     ("typedefs of a BTF file", typedefs_of_btf, 12_500, True, showing),
     ("arrays of a BTF file", arrays_of_btf, 12_500, True, showing),
+    ("names of a BTF file that are ends of one text", ends_of_one_text_of_btf, 25_000, True, showing_one),
     ("names of `-C`", structures_of_btf, 5_000, False, showing_names),
 ]
 

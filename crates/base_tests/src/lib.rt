@@ -16,6 +16,8 @@ mod section_tests;
 #[cfg(test)]
 mod string_tests;
 #[cfg(test)]
+mod text_tests;
+#[cfg(test)]
 mod word_tests;
 #[cfg(test)]
 mod world_tests;

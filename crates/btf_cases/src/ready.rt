@@ -75,7 +75,7 @@ fn is_ready_type(strings: &Strings<'_>, count: u32, t: &CType<'_>) -> bool
 fn has_offset(strings: &Strings<'_>, name: &Name<'_>) -> bool
     ensures { IsTrue result → HasOffset strings.now name.now }
 {
-    strings.offset_of(Name::new(name.bytes())).is_some()
+    strings.offset_of(name.again()).is_some()
 }
 
 fn has_offsets(strings: &Strings<'_>, parts: &[Part<'_>]) -> bool

@@ -11,7 +11,7 @@ use anyhow::{Context, Error, ensure};
 use btf_codec::{Table, TableOut, read, write};
 use btf_strings::{Strings, StringsFault};
 use c_model::CType;
-use dw_base::{Bytes, Name};
+use dw_base::Bytes;
 use std::alloc::Global;
 
 /// The answer of a case: the fault, or the text of the table, with a line more where it isn't
@@ -66,9 +66,9 @@ fn written<'a>(alloc: Global, table: Table<'a>, section: Option<&'a [u8]>) -> Re
 /// Puts the names of types, each type's before those of its parts.
 fn put_names<'a>(strings: &mut Strings<'a>, own: &[CType<'a>]) -> Result<(), StringsFault> {
     for t in own {
-        strings.put(Name::new(t.label.name.bytes()))?;
+        strings.put(t.label.name.again())?;
         for part in t.label.parts.items() {
-            strings.put(Name::new(part.name.bytes()))?;
+            strings.put(part.name.again())?;
         }
     }
     Ok(())

@@ -13,30 +13,30 @@ use crate::layout::{KindLayout, PartLayout, layout_of};
 use crate::pieces::{flag_in, kind_in, part_width, vlen_in, word_in};
 use c_model::kinds::BTF_KIND_FUNC;
 use c_model::{CType, Label, Part, Parts, Ref, Refs};
-use dw_base::{Name, Order, text_at};
+use dw_base::{Name, Order, TextEnds};
 use std::alloc::{AllocError, Global};
 
-/// The strings of a table: those of its base, and behind them the own ones.
+/// The strings of a table, with their ends: those of its base, and behind them the own ones.
 #[derive(Clone, Copy)]
-pub struct TableStrings<'a> {
-    pub base: &'a [u8],
-    pub own: &'a [u8],
+pub struct TableStrings<'e, 'a> {
+    pub base: &'e TextEnds<'a>,
+    pub own: &'e TextEnds<'a>,
 }
 
 /// The text at an offset.
-fn text_in<'a>(texts: TableStrings<'a>, at: u64) -> Option<Name<'a>>
+fn text_in<'a>(texts: TableStrings<'_, 'a>, at: u64) -> Option<Name<'a>>
     requires { EndsWithNul texts.base.now }
     ensures { result ≡ text_of (texts.entry.base.now ++ texts.entry.own.now) at }
 {
-    let start = texts.base.len() as u64;
+    let start = texts.base.bytes().len() as u64;
     if at < start {
-        return text_at(texts.base, at);
+        return texts.base.text(at);
     }
-    text_at(texts.own, at - start)
+    texts.own.text(at - start)
 }
 
 /// The name at an offset; empty where no text is there.
-fn name_at<'a>(texts: TableStrings<'a>, at: u32) -> Name<'a>
+fn name_at<'a>(texts: TableStrings<'_, 'a>, at: u32) -> Name<'a>
     requires { EndsWithNul texts.base.now }
     ensures { result ≡ name_at (texts.entry.base.now ++ texts.entry.own.now) at }
 {
@@ -70,7 +70,7 @@ fn whole_value(order: Order, piece: &[u8], at: usize) -> u64
 /// The part at a place.
 fn decoded_part<'a>(
     layout: PartLayout,
-    texts: TableStrings<'a>,
+    texts: TableStrings<'_, 'a>,
     order: Order,
     piece: &[u8],
     at: usize,
@@ -108,7 +108,7 @@ fn decoded_part<'a>(
 fn decoded_parts<'a>(
     alloc: Global,
     layout: PartLayout,
-    texts: TableStrings<'a>,
+    texts: TableStrings<'_, 'a>,
     order: Order,
     piece: &[u8],
     n: u32,
@@ -220,7 +220,7 @@ fn refs_by(
 fn parts_by<'a>(
     alloc: Global,
     layout: KindLayout,
-    texts: TableStrings<'a>,
+    texts: TableStrings<'_, 'a>,
     order: Order,
     piece: &[u8],
     vlen: u32,
@@ -291,7 +291,7 @@ fn extra_by(layout: KindLayout, order: Order, piece: &[u8], vlen: u32) -> u32
 fn type_by<'a>(
     alloc: Global,
     layout: KindLayout,
-    texts: TableStrings<'a>,
+    texts: TableStrings<'_, 'a>,
     order: Order,
     piece: &[u8],
 ) -> Result<CType<'a>, AllocError>
@@ -322,7 +322,7 @@ fn type_by<'a>(
 /// The type that a piece shows.
 pub fn decoded_type<'a>(
     alloc: Global,
-    texts: TableStrings<'a>,
+    texts: TableStrings<'_, 'a>,
     order: Order,
     piece: &[u8],
 ) -> Result<CType<'a>, AllocError>

@@ -20,7 +20,7 @@ use crate::file::{are_strings, order_in, pieces_of, sections_of};
 use crate::offsets::words_fault;
 use crate::table::Table;
 use c_model::{CType, Nodes, copy_of_types};
-use dw_base::Order;
+use dw_base::{Order, TextEnds};
 use std::alloc::{AllocError, Global};
 
 /// Nothing, or the first fault of the offsets of names and the ids in the types.
@@ -56,7 +56,7 @@ fn check_words(
 fn push_types<'a>(
     alloc: Global,
     all: &mut Vec<CType<'a>>,
-    texts: TableStrings<'a>,
+    texts: TableStrings<'_, 'a>,
     order: Order,
     pieces: &[&[u8]],
 ) -> Result<(), AllocError>
@@ -194,9 +194,11 @@ pub fn read<'a>(
         Ok(file) => file,
         Err(fault) => return Err(fault),
     };
+    let base_ends = TextEnds::of(alloc, strings)?;
+    let own_ends = TextEnds::of(alloc, file.names)?;
     let texts = TableStrings {
-        base: strings,
-        own: file.names,
+        base: &base_ends,
+        own: &own_ends,
     };
     push_types(alloc, &mut all, texts, file.order, &file.pieces)?;
     Ok(Table {

@@ -49,7 +49,7 @@ pub fn put_words(out: &mut Vec<u8>, order: Order, words: &[u32]) -> Result<(), A
 pub fn offset_in(strings: &Strings<'_>, name: &Name<'_>) -> u32
     ensures { result ≡ unwrap_or (offset_of strings.now name.now) 0 }
 {
-    strings.offset_of(Name::new(name.bytes())).unwrap_or(0)
+    strings.offset_of(name.again()).unwrap_or(0)
 }
 
 /// The id of the type that the reference at a place refers to; 0 past the last.

@@ -79,7 +79,7 @@ impl<'a> Strings<'a> {
             OnOk result (self.new.own ≡ own_names self.old.base (names ++ name.entry ∷ [])) }
     {
         let bytes = name.bytes();
-        if let Some(at) = self.offset_of(Name::new(bytes)) {
+        if let Some(at) = self.offset_of(name.again()) {
             return Ok(at);
         }
         let at = self.next_offset();

@@ -6,7 +6,7 @@ use Rattle.std.proofs.lemmas.List.{drop_all, take_all, length-drop}
 use Rattle.memchr.specs.Find.{IsFirstByte, is_byte}
 use Rattle.dw_base.specs.Texts.{text_from, text_of}
 
-text_found : (xs : List ℕ) (i : ℕ) → i < length xs → get_or xs i 0 ≡ 0
+pub text_found : (xs : List ℕ) (i : ℕ) → i < length xs → get_or xs i 0 ≡ 0
     → ((k : ℕ) → k < i → get_or xs k 0 ≡ 0 → ⊥) → text_from xs ≡ Some (take i xs)
 unfolding text_from
 text_found [] i lt is before = absurd (omega arith)
@@ -18,7 +18,7 @@ text_found (x ∷ xs) (suc i) lt is before =
       text_found xs i (omega arith) is (λ (k : ℕ) (l : k < i). before (suc k) (omega arith)),
     ) refl
 
-text_cut : (xs : List ℕ) → ((k : ℕ) → k < length xs → get_or xs k 0 ≡ 0 → ⊥) → text_from xs ≡ None
+pub text_cut : (xs : List ℕ) → ((k : ℕ) → k < length xs → get_or xs k 0 ≡ 0 → ⊥) → text_from xs ≡ None
 unfolding text_from
 text_cut [] before = refl
 text_cut (x ∷ xs) before =

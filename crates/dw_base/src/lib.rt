@@ -1,7 +1,7 @@
 //! What every layer stands on: lists of items, numbers, LEB128 numbers and texts in bytes, names as
 //! slices, places of faults, the limits of a run, and a counter of steps.
 //!
-//! No call of this crate takes memory.
+//! Only `TextEnds::of` takes memory.
 #![tactic(auto)]
 
 pub mod leb128;
@@ -11,6 +11,8 @@ pub mod numbers;
 pub mod places;
 mod shared;
 pub mod steps;
+pub mod text_ends;
+pub mod text_section;
 
 pub use leb128::{LebFault, sleb, uleb};
 pub use listed::{Bytes, Listed};
@@ -18,3 +20,5 @@ pub use names::{Name, text_at};
 pub use numbers::{Order, number};
 pub use places::{Limits, Place, SHIPPED, Section};
 pub use steps::Steps;
+pub use text_ends::TextEnds;
+pub use text_section::TextSection;

@@ -3,6 +3,7 @@ use Rattle.std.specs.Prelude.{ℕ, ◌+◌, ◌*◌, ℤ, pos, negsuc, ◌<◌, 
 use Rattle.std.specs.Prelude.{slice_index, Option, None, Some, Result, Ok, Err, ◌==◌, if◌then◌else◌}
 use Rattle.dw_base.specs.Leb128.{uleb_of}
 use Rattle.dw_base.specs.Numbers.{number_of}
+use Rattle.dw_base.specs.Sections.{bytes_of}
 use Rattle.dw_base.specs.Texts.{text_of}
 use Rattle.dw_base.specs.declared.numbers.Order.{Order}
 use Rattle.dw_base.specs.declared.leb128.LebFault.{LebFault}
@@ -37,8 +38,8 @@ sections c =
       unit = c.unit;
       order = c.order;
       offset_bytes = c.offset_bytes;
-      strings = c.strings.now;
-      line_strings = c.line_strings.now;
+      strings = bytes_of c.strings;
+      line_strings = bytes_of c.line_strings;
       str_offsets = c.str_offsets.now;
       str_base = c.str_base;
     }

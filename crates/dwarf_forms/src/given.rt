@@ -1,5 +1,5 @@
 //! Values of attributes, and what they are read in.
-use dw_base::{Name, Order};
+use dw_base::{Name, Order, TextSection};
 
 /// What the values of a unit are read in.
 #[derive(Clone, Copy, Debug)]
@@ -17,9 +17,9 @@ pub struct FormCtx<'a> {
     /// How many bytes the unit's addresses have.
     pub address_bytes: u32,
     /// `.debug_str`.
-    pub strings: &'a [u8],
+    pub strings: TextSection<'a>,
     /// `.debug_line_str`.
-    pub line_strings: &'a [u8],
+    pub line_strings: TextSection<'a>,
     /// `.debug_str_offsets`.
     pub str_offsets: &'a [u8],
     /// The offset in `.debug_str_offsets` from which the unit's indices count.

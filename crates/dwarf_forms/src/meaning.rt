@@ -1,19 +1,20 @@
 //! What values stand for.
 ghost use Rattle.std.specs.Prelude.{◌≡◌, IfOk, IfSome};
+ghost use Rattle.dw_base.specs.Sections.{bytes_of};
 ghost use Rattle.dwarf_forms.specs.Values.{given as shown, IsContext};
 ghost use Rattle.dwarf_forms.specs.Meanings.{sections, string_at, indexed_at, name_in, constant_in};
 ghost use Rattle.dwarf_forms.specs.Meanings.{flag_in, target_in, operand_of, offset_in, Fits64};
 
 use crate::fault::FormFault;
 use crate::given::{FormCtx, FormValue, Given};
-use dw_base::{Name, number, text_at, uleb};
+use dw_base::{Name, TextSection, number, uleb};
 use dwarf_abbrev::constants::DW_OP_plus_uconst;
 
 /// The text at an offset of a section of strings.
-fn string<'a>(section: &'a [u8], offset: u64) -> Result<Name<'a>, FormFault>
-    ensures { result ≡ string_at section.now offset }
+fn string<'a>(section: TextSection<'a>, offset: u64) -> Result<Name<'a>, FormFault>
+    ensures { result ≡ string_at (bytes_of section.entry) offset }
 {
-    match text_at(section, offset) {
+    match section.text(offset) {
         Some(name) => Ok(name),
         None => Err(FormFault::StringOut(offset)),
     }
@@ -49,7 +50,7 @@ pub fn name_of<'a>(
     ensures { result ≡ name_in (sections ctx.now) attribute (shown given.now) }
 {
     match &given.value {
-        FormValue::Text(name) => Ok(Name::new(name.bytes())),
+        FormValue::Text(name) => Ok(name.again()),
         FormValue::Strp(offset) => string(ctx.strings, *offset),
         FormValue::LineStrp(offset) => string(ctx.line_strings, *offset),
         FormValue::Strx(index) => indexed(ctx, *index),

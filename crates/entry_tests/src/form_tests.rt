@@ -2,7 +2,7 @@
 ghost use Rattle.std.specs.Prelude.{◌≤◌};
 ghost use Rattle.dwarf_forms.specs.Values.{IsContext};
 
-use dw_base::{Name, Order};
+use dw_base::{Name, Order, TextSection};
 use dwarf_abbrev::Spec;
 use dwarf_forms::{
     FormCtx, FormFault, FormValue, Given, byte_offset_of, constant_of, flag_of, name_of, skip,
@@ -25,8 +25,8 @@ fn context<'a>(info: &'a [u8], order: Order, offset_bytes: u32) -> FormCtx<'a>
         order,
         offset_bytes,
         address_bytes: 8,
-        strings: &[],
-        line_strings: &[],
+        strings: TextSection::new(&[]),
+        line_strings: TextSection::new(&[]),
         str_offsets: &[],
         str_base: 0,
     }
@@ -244,8 +244,8 @@ const NAMES: [(FormValue<'static>, Result<&[u8], FormFault>); 10] = [
 #[test]
 fn values_name(rt: HostRuntime) {
     let mut ctx = context(&[], Order::Little, 4);
-    ctx.strings = &[0x61, 0x62, 0x63, 0, 0x64, 0];
-    ctx.line_strings = &[0x65, 0, 0x66];
+    ctx.strings = TextSection::new(&[0x61, 0x62, 0x63, 0, 0x64, 0]);
+    ctx.line_strings = TextSection::new(&[0x65, 0, 0x66]);
     ctx.str_offsets = &[0, 0, 0, 0, 0, 0, 0, 0, 0, 0, 0, 0, 4, 0, 0, 0];
     ctx.str_base = 8;
     let held: &[u8] = &[0x61];

@@ -27,8 +27,8 @@ pub fn context<'a>(image: &Image<'a>, unit: &Unit, str_base: u64) -> FormCtx<'a>
         order: image.order(),
         offset_bytes: unit.offset_bytes,
         address_bytes: unit.address_bytes,
-        strings: bytes_of(image, Kind::Str),
-        line_strings: bytes_of(image, Kind::LineStr),
+        strings: image.strings(),
+        line_strings: image.line_strings(),
         str_offsets: bytes_of(image, Kind::StrOffsets),
         str_base,
     }

@@ -7,18 +7,19 @@ ghost use Rattle.func_types.specs.Places.{Notes, AreFirsts, AreAgreed};
 
 use crate::protos::{Func, func_at};
 use c_model::Classes;
+use dw_base::Name;
 use indexmap::IndexMap;
 use std::alloc::{AllocError, Global};
 
 /// The place that is kept of a name. A name without one is kept with the place given.
 fn place_of<'a>(
-    held: &mut IndexMap<&'a [u8], u32>,
-    name: &'a [u8],
+    held: &mut IndexMap<Name<'a>, u32>,
+    name: Name<'a>,
     at: u32,
 ) -> Result<u32, AllocError>
-    ensures { IfOk result (λ r. Notes held.old.entries held.new.entries name.now at r) }
+    ensures { IfOk result (λ r. Notes held.old.entries held.new.entries name.entry at r) }
 {
-    match held.get(name) {
+    match held.get(&name) {
         Some(place) => Ok(*place),
         None => {
             held.insert(name, at)?;
@@ -35,7 +36,7 @@ fn firsts_of(alloc: Global, funcs: &[Func<'_>]) -> Result<Vec<u32>, AllocError>
     let mut held = IndexMap::new(alloc);
     let mut firsts = Vec::with_capacity(alloc, funcs.len())?;
     for i in 0..funcs.len() {
-        let name = func_at(funcs, i).name.bytes();
+        let name = func_at(funcs, i).name.again();
         let place = place_of(&mut held, name, i as u32)?;
         firsts.push(place)?;
     }

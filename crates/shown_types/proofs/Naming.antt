@@ -16,7 +16,6 @@ use Rattle.dw_base.proofs.Lists.{slice_get_set, slice_get_set_other}
 use Rattle.shown_types.specs.Listed.{has_name, is_listed, name_at, places_named}
 use Rattle.shown_types.specs.ByName.{AreNamed, first_from, place_of}
 use Rattle.shown_types.proofs.Ranges.{range_next}
-use denote.Bor.{Bor}
 
 -- the first place of a name, with one place more before
 first_step : (types : List CType) (name : List ℕ) (x : ℕ) → x < length types
@@ -42,7 +41,7 @@ above x y le ne =
     ⊎_elim (λ (lt : x < y). omega arith) (λ (ge : y ≤ x). absurd (ne (omega arith))) (cases_lt x y)
 
 -- a type that can't be shown
-pub named_skip : (types : List CType) (x : ℕ) (first : List (Bor (List ℕ) × ℕ))
+pub named_skip : (types : List CType) (x : ℕ) (first : List (List ℕ × ℕ))
     (next : List (Option ℕ)) → x < length types → is_listed types x ≡ false
     → AreNamed types (x + 1) first next → AreNamed types x first next
 named_skip types x first next lt hidden n = record {
@@ -53,19 +52,19 @@ named_skip types x first next lt hidden n = record {
 }
 
 -- one that can
-pub named_more : (types : List CType) (x : ℕ) (first new : List (Bor (List ℕ) × ℕ))
-    (next : List (Option ℕ)) (later : Option ℕ) (text : Bor (List ℕ))
-    → x < length types → is_listed types x ≡ true → text.now ≡ name_at types x
-    → later ≡ place_of text.now first
-    → ((q : Bor (List ℕ))
-    → lookup (λ (k : Bor (List ℕ)). bytes_eq q.now k.now) new ≡ cond (bytes_eq text.now q.now)
-    (Some x) (lookup (λ (k : Bor (List ℕ)). bytes_eq q.now k.now) first))
+pub named_more : (types : List CType) (x : ℕ) (first new : List (List ℕ × ℕ))
+    (next : List (Option ℕ)) (later : Option ℕ) (text : List ℕ)
+    → x < length types → is_listed types x ≡ true → text ≡ name_at types x
+    → later ≡ place_of text first
+    → ((q : List ℕ)
+    → lookup (λ (k : List ℕ). bytes_eq q k) new ≡ cond (bytes_eq text q)
+    (Some x) (lookup (λ (k : List ℕ). bytes_eq q k) first))
     → AreNamed types (x + 1) first next → AreNamed types x new (set next x later)
 named_more types x first new next later text lt showable is old updates n = record {
   covers = length-set next x later ∙ n.covers;
   heads = λ name.
-      updates (record text { now = name })
-      ∙ ap (λ (o : Option ℕ). cond (bytes_eq text.now name) (Some x) o) (n.heads name)
+      updates name
+      ∙ ap (λ (o : Option ℕ). cond (bytes_eq text name) (Some x) o) (n.heads name)
       ∙ ap (λ (t : List ℕ). cond (bytes_eq t name) (Some x) (first_from types name (x + 1))) is
       ∙ sym (taken types name x lt showable);
   follows = λ y le listed. ⊎_elim
@@ -78,12 +77,12 @@ named_more types x first new next later text lt showable is old updates n = reco
       slice_get (set next x later) z ≡ Some (first_from types (name_at types z) (z + 1))) same
       (slice_get_set next x later (let c = n.covers in omega (arith, c, lt))
       ∙ ap (λ (o : Option ℕ). Some o)
-      (old ∙ n.heads text.now ∙ ap (λ (t : List ℕ). first_from types t (x + 1)) is)))
+      (old ∙ n.heads text ∙ ap (λ (t : List ℕ). first_from types t (x + 1)) is)))
       (cases_lt x y);
 }
 
 -- no type, at first
-pub none_named : (types : List CType) (first : List (Bor (List ℕ) × ℕ)) (next : List (Option ℕ))
+pub none_named : (types : List CType) (first : List (List ℕ × ℕ)) (next : List (Option ℕ))
     → first ≡ [] → length next ≡ length types → AreNamed types (length types) first next
 none_named types first next e c = record {
   covers = c;
@@ -179,7 +178,7 @@ gone_far types name all whole count at le g =
     (λ (n : ℕ). all ++ filter (has_name types name) (range_with_len g.from n)) none) ∙ g.rest
 
 pub go_on : (types : List CType) (name all new whole : List ℕ) (count x : ℕ)
-    (first : List (Bor (List ℕ) × ℕ)) (next : List (Option ℕ)) (at : Option ℕ)
+    (first : List (List ℕ × ℕ)) (next : List (Option ℕ)) (at : Option ℕ)
     → AreNamed types 0 first next → IsGoing types name count all whole (Some x)
     → new ≡ all ++ x ∷ [] → at ≡ option_flatten (slice_get next x)
     → IsGoing types name (count + 1) new whole at

@@ -7,6 +7,7 @@ ghost use Rattle.shown_types.specs.Listed.{name_at, places_named};
 
 use crate::listed::structure_at;
 use c_model::CType;
+use dw_base::Name;
 use indexmap::IndexMap;
 use std::alloc::{AllocError, Global};
 
@@ -14,7 +15,7 @@ use std::alloc::{AllocError, Global};
 #[derive(Drop)]
 pub struct ByName<'a> {
     /// The first place of each name.
-    pub first: IndexMap<&'a [u8], u32>,
+    pub first: IndexMap<Name<'a>, u32>,
     /// For each place the next one of its name, where it is a type's that can be shown.
     pub next: Vec<Option<u32>>,
 }
@@ -36,7 +37,7 @@ pub fn by_name<'a>(alloc: Global, types: &[CType<'a>]) -> Result<ByName<'a>, All
 
 /// Adds the type in a place to those behind it.
 fn add<'a>(
-    first: &mut IndexMap<&'a [u8], u32>,
+    first: &mut IndexMap<Name<'a>, u32>,
     next: &mut Vec<Option<u32>>,
     types: &[CType<'a>],
     x: u32,
@@ -46,11 +47,21 @@ fn add<'a>(
     ensures { OnOk result (AreNamed types.now x first.new.entries next.new.items) }
 {
     if structure_at(types, x).is_some() {
-        let name = name_at(types, x);
+        let name = name_of(types, x);
         let later = first.insert(name, x)?;
         next[x as usize] = later;
     }
     Ok(())
+}
+
+/// The name of the type in a place, as a key.
+fn name_of<'a>(types: &[CType<'a>], x: u32) -> Name<'a>
+    ensures { result ≡ name_at types.now x }
+{
+    match types.get(x as usize) {
+        None => Name::new(b""),
+        Some(t) => t.label.name.again(),
+    }
 }
 
 /// The name of the type in a place.
@@ -64,10 +75,10 @@ pub fn name_at<'a>(types: &[CType<'a>], x: u32) -> &'a [u8]
 }
 
 /// The first place of a name.
-fn first_of(first: &IndexMap<&[u8], u32>, name: &[u8]) -> Option<u32>
+fn first_of(first: &IndexMap<Name<'_>, u32>, name: &[u8]) -> Option<u32>
     ensures { result ≡ place_of name.now first.now.entries }
 {
-    first.get(name).copied()
+    first.get(&Name::new(name)).copied()
 }
 
 /// The next place of the name of the type in a place.

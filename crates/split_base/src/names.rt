@@ -38,9 +38,9 @@ pub fn put_names<'a>(
 fn put_type_names<'a>(strings: &mut Strings<'a>, t: &CType<'a>) -> Result<(), TableFault>
     ensures { PutsNames strings.old (names_of_type t.now) strings.new result }
 {
-    put_name(strings, Name::new(t.label.name.bytes()))?;
+    put_name(strings, t.label.name.again())?;
     for part in t.label.parts.items() {
-        put_name(strings, Name::new(part.name.bytes()))?;
+        put_name(strings, part.name.again())?;
     }
     Ok(())
 }

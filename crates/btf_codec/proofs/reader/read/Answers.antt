@@ -51,7 +51,8 @@ returns-clause-gives c =
       ap (λ (ts : List CType). length ts) c.in_ok-all.ensures,
     ))
     c.strings_of-strings.ensures.names c.in-Ok.ensures.gives
-    (c.new.ensures ∙ c.in_ok-push_types.ensures
+    (c.new.ensures ∙ (rw (c.in_ok-base_ends.ensures, c.in_ok-own_ends.ensures)
+    at c.in_ok-push_types.ensures)
     ∙ ap (λ (ps : List (Bor (List ℕ))). c.in_ok-all.all.items
     ++ types_of (c.strings_of-strings.result.now ++ c.in-Ok.file.names.now) c.in-Ok.file.order
     (map (λ (p : Bor (List ℕ)). p.now) ps)) c.deref.ensures.value

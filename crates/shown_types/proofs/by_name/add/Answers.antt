@@ -9,8 +9,8 @@ returns-in_ok-later c =
     sym (c.is_some.ensures ∙ ap (λ (o : Option ℕ). is_some o) c.structure_at.ensures)
     ∙ c.if-is_some.true in
     named_more c.args.types.now c.args.x c.args.first.now.entries c.insert.new.self.entries
-    c.args.next.now.items c.in_ok-later.later c.name_at-name.result
-    c.requires.place listed c.name_at-name.ensures c.in_ok-later.ensures.old
+    c.args.next.now.items c.in_ok-later.later c.name_of-name.result
+    c.requires.place listed c.name_of-name.ensures c.in_ok-later.ensures.old
     c.in_ok-later.ensures.updates.0 c.requires.behind
 
 pub returns-else-is_some : goal.returns-else-is_some

@@ -11,7 +11,7 @@ use Rattle.split_base.proofs.names.put_type_names.Goals as goal
 pub returns-in_err-put_name : goal.returns-in_err-put_name
 returns-in_err-put_name c =
     let gone : c.from_residual.result ≡ Err c.in_err-put_name.field-0.0 = search rules in
-    let name : c.new.result ≡ c.args.t.now.label.name = c.new.ensures ∙ c.bytes.ensures in
+    let name : c.again.result ≡ c.args.t.now.label.name = c.again.ensures in
     subst (λ (r : Result (Unit {0}) TableFault). PutsNames c.args.strings.now
     (names_of_type c.args.t.now) c.put_name.new.strings r) (sym gone)
     (put_stops c.args.strings.now c.args.strings.now [] (c.args.t.now.label.name ∷ [])
@@ -24,8 +24,8 @@ returns-in_err-put_name-2 c =
     search rules in
     let parts : List Part = c.items-part-items.result.now in
     let i : ℕ = c.loop-part.part-index in
-    let name : c.new-in-loop-part.result ≡ (get_or parts i c.part-item.result).name =
-    c.new-in-loop-part.ensures ∙ c.bytes-in-loop-part.ensures
+    let name : c.again-in-loop-part.result ≡ (get_or parts i c.part-item.result).name =
+    c.again-in-loop-part.ensures
     ∙ ap (λ (p : Part). p.name) c.part-item.is in
     let whole : names_of_type c.args.t.now ≡ _ =
     ap (λ (ps : List Part). c.args.t.now.label.name ∷ map (λ (p : Part). p.name) ps)
@@ -42,8 +42,8 @@ pub loop-part-preserved : goal.loop-part-preserved
 loop-part-preserved c =
     let parts : List Part = c.items-part-items.result.now in
     let i : ℕ = c.loop-part.part-index in
-    let name : c.new-in-loop-part.result ≡ (get_or parts i c.part-item.result).name =
-    c.new-in-loop-part.ensures ∙ c.bytes-in-loop-part.ensures
+    let name : c.again-in-loop-part.result ≡ (get_or parts i c.part-item.result).name =
+    c.again-in-loop-part.ensures
     ∙ ap (λ (p : Part). p.name) c.part-item.is in
     subst (λ (ns : List (List ℕ)).
     ArePut c.args.strings.now ns c.put_name-in-loop-part.new.strings) (sym

@@ -5,8 +5,8 @@ use Rattle.btf_strings.proofs.Offsets.{offset_appended, offset_kept}
 use Rattle.btf_strings.proofs.strings.Strings.put.Goals as goal
 
 -- the name as it was passed on
-name_as_given : (c : goal.In-Some) → c.new.result ≡ c.args.name
-name_as_given c = c.new.ensures ∙ c.bytes-bytes.ensures
+name_as_given : (c : goal.In-Some) → c.again.result ≡ c.args.name
+name_as_given c = c.again.ensures
 
 pub returns-in-Some-clause-list : goal.returns-in-Some-clause-list
 returns-in-Some-clause-list c =
@@ -16,7 +16,7 @@ returns-in-Some-clause-list c =
 
 missing : (c : goal.In_ok-append) → offset_of c.args.self.now c.args.name ≡ None
 missing c = ap (λ (n : List ℕ). offset_of c.args.self.now n)
-    (sym (c.new.ensures ∙ c.bytes-bytes.ensures)) ∙ sym c.offset_of.ensures.value ∙ c.in_default.is
+    (sym c.again.ensures) ∙ sym c.offset_of.ensures.value ∙ c.in_default.is
 
 appended : (c : goal.In_ok-append)
     → c.append.new.self ≡ record c.args.self.now { own = c.args.self.now.own ++ c.args.name ∷ [] }
