@@ -108,7 +108,12 @@ const REAL_VALUES: &[Valued] = &[
     (46, 0x01, 0x13, "UnitRef(107)"),
     (59, 0x3a, 0x21, "Signed(1)"),
     (81, 0x6b, 0x0b, "Unsigned(128)"),
-    (158, 0x03, 0x08, "Text(Name { bytes: [105, 110, 116] })"),
+    (
+        158,
+        0x03,
+        0x08,
+        "Text(Name { bytes: [105, 110, 116], digest: 0 })",
+    ),
     (183, 0x1c, 0x0d, "Signed(-1)"),
     (189, 0x1c, 0x0b, "Unsigned(2)"),
     (270, 0x3f, 0x19, "Flag(true)"),
