@@ -243,7 +243,7 @@ def ends_of_one_text_of_btf(n):
 # an ELF file of one type, beside the file that grows
 SMALL = "small"
 # kinds whose work is known to grow with the square; docs/SPEED.md says why
-SQUARES = ("names that are ends of one text", "relocations of the same bytes")
+SQUARES = ("relocations of the same bytes",)
 DIGITS = "0123456789abcdefghijklmnopqrstuvwxyz"
 
 
@@ -300,7 +300,7 @@ KINDS = [
     ("sections of relocations", sections_of_relocations, 50_000, True, encoding),
     ("relocations of the same bytes", relocations_of_the_same_bytes, 2_500, False, encoding),
     ("codes of abbreviations far apart", codes_far_apart, 12_500, True, encoding),
-    ("names that are ends of one text", ends_of_one_text, 5_000, True, encoding),
+    ("names that are ends of one text", ends_of_one_text, 50_000, True, encoding),
     ("functions whose names are ends of one text", functions_named_by_ends_of_one_text, 25_000, True, encoding_functions),
     ("long names that differ in the middle", long_names, 500, False, encoding),
     ("members of one structure", members, 16_383, False, encoding),

@@ -68,6 +68,12 @@ plain_row_of c e =
     else if e.tag == DW_TAG_atomic_type then Some (reference_row BTF_KIND_TYPEDEF atomic_name c e)
     else None
 
+abbrev pub has_plain_row : ℕ → Bool
+has_plain_row tag =
+    tag == DW_TAG_typedef || tag == DW_TAG_base_type || tag == DW_TAG_const_type
+    || tag == DW_TAG_volatile_type || tag == DW_TAG_restrict_type || tag == DW_TAG_unspecified_type
+    || tag == DW_TAG_atomic_type
+
 -- and those whose rows do: arrays, enumerations, pointers, structures, subroutine types and unions
 abbrev pub row_of : Scope → Given → List Given → Option Row
 row_of s e after =

@@ -21,7 +21,7 @@ use crate::pointers::pointing;
 use crate::spare::Spare;
 use crate::structures::{forward, open_structure};
 use crate::taker::Taker;
-use crate::unit::{read_plain_type, take_type};
+use crate::unit::{is_plain, read_plain_type, take_type};
 use crate::walking::begin_to;
 use c_model::kinds::BTF_KIND_PTR;
 use dw_base::Name;
@@ -192,6 +192,10 @@ pub(crate) fn take_plain<'a, T: Taker<'a>>(
         opens.old.items opens.new.items
         (T.types types.old) (T.types types.new) current.old current.new) }
 {
+    // most entries have no type
+    if !is_plain(entry.tag()) {
+        return Ok(());
+    }
     let one = read_plain_type(alloc, &ctx.form, entry, current)?;
     take_type(types, one)?;
     Ok(())

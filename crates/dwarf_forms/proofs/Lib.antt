@@ -1,4 +1,5 @@
 pub mod Bounds
+pub mod OneNumber
 pub mod Fixed
 pub mod Pieces
 pub mod Progress

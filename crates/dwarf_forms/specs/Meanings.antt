@@ -78,6 +78,12 @@ plain_name c attribute form other = Err (WrongClass attribute form)
 abbrev pub name_in : Sections → ℕ → Shown → Result (List ℕ) FormFault
 name_in c attribute g = plain_name c attribute g.form g.value
 
+-- what a value means, where it can be read
+abbrev pub meant : {A : Type 0} → (Shown → Result A FormFault) → Result (Shown × ℕ) FormFault
+    → Result A FormFault
+meant meaning (Ok x) = meaning x.0
+meant meaning (Err e) = Err e
+
 -- a constant has 64 bits, signed or unsigned
 abbrev pub Fits64 : ℤ → Type 0
 Fits64 (pos n) = n < 2 ^ 64

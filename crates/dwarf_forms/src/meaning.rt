@@ -11,7 +11,8 @@ use dw_base::{Name, TextSection, number, uleb};
 use dwarf_abbrev::constants::DW_OP_plus_uconst;
 
 /// The text at an offset of a section of strings.
-fn string<'a>(section: TextSection<'a>, offset: u64) -> Result<Name<'a>, FormFault>
+#[inline(always)]
+pub(crate) fn string<'a>(section: TextSection<'a>, offset: u64) -> Result<Name<'a>, FormFault>
     ensures { result ≡ string_at (bytes_of section.entry) offset }
 {
     match section.text(offset) {

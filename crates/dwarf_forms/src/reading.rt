@@ -210,7 +210,6 @@ pub fn unit_of<'a>(ctx: &FormCtx<'a>) -> &'a [u8]
 /// else
 /// `ValueTruncated` where the value passes the unit's end.
 #[tactic(auto, unfolding(crate::specs::Values::value_of))]
-#[inline(always)]
 pub fn value<'a>(ctx: &FormCtx<'a>, spec: &Spec, at: u64) -> Result<(Given<'a>, u64), FormFault>
     requires { IsContext ctx.now }
     ensures { seen (λ x. (given x.0, x.1)) result ≡ value_of (within ctx.now) spec.now at }

@@ -79,8 +79,7 @@ fn place_behind_value(ctx: &FormCtx<'_>, specs: &[Spec], index: usize, at: u64) 
 
 /// The place after the values of the first `count` pairs: the values without a fixed width are
 /// passed one by one, those between them by one addition. `None` where one can't be read.
-#[inline(always)]
-pub(crate) fn place_behind(
+fn place_behind_loose(
     ctx: &FormCtx<'_>,
     specs: &[Spec],
     map: &ValueMap,
@@ -103,6 +102,26 @@ pub(crate) fn place_behind(
         reached = index + 1;
     }
     place_behind_run(ctx, specs, map, reached, at, count)
+}
+
+/// The place after the values of the first `count` pairs, by one addition where all of them have a
+/// fixed width. `None` where one can't be read.
+#[inline(always)]
+pub(crate) fn place_behind(
+    ctx: &FormCtx<'_>,
+    specs: &[Spec],
+    map: &ValueMap,
+    count: usize,
+    from: u64,
+) -> Option<u64>
+    requires context { IsContext ctx.now }
+    requires map { IsMapOf specs.now map.now }
+    ensures { IfSome result (λ end. ends_at (within ctx.now) (take count specs.now) from ≡ Ok end) }
+{
+    match place_behind_run(ctx, specs, map, 0, from, count) {
+        Some(end) => Some(end),
+        None => place_behind_loose(ctx, specs, map, count, from),
+    }
 }
 
 /// The place after the values of some pairs. It is refused as the values are, one after the other.

@@ -14,9 +14,7 @@ use crate::number::{Number, by_sign};
 use crate::source::Target;
 use dw_base::Name;
 use dwarf_abbrev::constants::{DW_AT_name, DW_AT_type};
-use dwarf_forms::{
-    FormCtx, FormFault, Given, byte_offset_of, constant_of, flag_of, name_of, target_of,
-};
+use dwarf_forms::{FormCtx, Given, constant_of, flag_of};
 use entry_tree::Entry;
 
 /// The first value of an attribute.
@@ -38,8 +36,8 @@ pub fn is_given(entry: &Entry<'_, '_>, name: u64) -> bool
     entry.has(name)
 }
 
-/// What a constant says.
-pub fn constant(entry: &Entry<'_, '_>, name: u64, least: &mut Option<TypeFault>) -> Option<i128>
+/// What a constant that is given says.
+fn given_constant(entry: &Entry<'_, '_>, name: u64, least: &mut Option<TypeFault>) -> Option<i128>
     ensures said { result ≡ (constant_asked name entry.now).said }
     ensures small { IfSome result Fits64 }
     ensures noted { least.new ≡ noted least.old (constant_asked name entry.now).refused }
@@ -56,8 +54,22 @@ pub fn constant(entry: &Entry<'_, '_>, name: u64, least: &mut Option<TypeFault>)
     }
 }
 
-/// Whether a flag is given and true.
-pub fn flag(entry: &Entry<'_, '_>, name: u64, least: &mut Option<TypeFault>) -> bool
+/// What a constant says.
+#[inline(always)]
+pub fn constant(entry: &Entry<'_, '_>, name: u64, least: &mut Option<TypeFault>) -> Option<i128>
+    ensures said { result ≡ (constant_asked name entry.now).said }
+    ensures small { IfSome result Fits64 }
+    ensures noted { least.new ≡ noted least.old (constant_asked name entry.now).refused }
+{
+    if is_given(entry, name) {
+        given_constant(entry, name, least)
+    } else {
+        None
+    }
+}
+
+/// Whether a flag that is given is true.
+fn given_flag(entry: &Entry<'_, '_>, name: u64, least: &mut Option<TypeFault>) -> bool
     ensures said { result ≡ is_set (flag_asked name entry.now) }
     ensures noted { least.new ≡ noted least.old (flag_asked name entry.now).refused }
 {
@@ -73,7 +85,21 @@ pub fn flag(entry: &Entry<'_, '_>, name: u64, least: &mut Option<TypeFault>) -> 
     }
 }
 
+/// Whether a flag is given and true.
+#[inline(always)]
+pub fn flag(entry: &Entry<'_, '_>, name: u64, least: &mut Option<TypeFault>) -> bool
+    ensures said { result ≡ is_set (flag_asked name entry.now) }
+    ensures noted { least.new ≡ noted least.old (flag_asked name entry.now).refused }
+{
+    if is_given(entry, name) {
+        given_flag(entry, name, least)
+    } else {
+        false
+    }
+}
+
 /// A text that is read as a name; the empty one where an entry has none.
+#[inline(always)]
 pub fn text<'a>(
     ctx: &FormCtx<'a>,
     entry: &Entry<'_, 'a>,
@@ -85,15 +111,13 @@ pub fn text<'a>(
     ensures noted { least.new
         ≡ noted least.old (text_asked name (sections ctx.now) entry.now).refused }
 {
-    match attribute(entry, name) {
+    match entry.name(ctx, name) {
         None => Name::new(&[]),
-        Some(given) => match name_of(ctx, name, &given) {
-            Ok(found) => found,
-            Err(fault) => {
-                note(least, TypeFault::Form(entry.at(), fault));
-                Name::new(&[])
-            }
-        },
+        Some(Ok(found)) => found,
+        Some(Err(fault)) => {
+            note(least, TypeFault::Form(entry.at(), fault));
+            Name::new(&[])
+        }
     }
 }
 
@@ -118,18 +142,16 @@ pub fn type_target(
     ensures noted { least.new
         ≡ noted least.old (target_asked (sections ctx.now) entry.now).refused }
 {
-    match attribute(entry, DW_AT_type) {
+    match entry.target(ctx, DW_AT_type) {
         None => Target::Void,
-        Some(given) => match target_of(ctx, DW_AT_type, &given) {
-            Ok(to) => Target::Entry {
-                from: entry.at(),
-                to,
-            },
-            Err(fault) => {
-                note(least, TypeFault::Form(entry.at(), fault));
-                Target::Void
-            }
+        Some(Ok(to)) => Target::Entry {
+            from: entry.at(),
+            to,
         },
+        Some(Err(fault)) => {
+            note(least, TypeFault::Form(entry.at(), fault));
+            Target::Void
+        }
     }
 }
 
@@ -137,16 +159,14 @@ pub fn type_target(
 pub fn target_said(ctx: &FormCtx<'_>, entry: &Entry<'_, '_>) -> Option<u128>
     ensures { result ≡ (target_asked (sections ctx.now) entry.now).said }
 {
-    match attribute(entry, DW_AT_type) {
-        None => None,
-        Some(given) => match target_of(ctx, DW_AT_type, &given) {
-            Ok(to) => Some(to),
-            Err(_) => None,
-        },
+    match entry.target(ctx, DW_AT_type) {
+        Some(Ok(to)) => Some(to),
+        _ => None,
     }
 }
 
 /// What the offset of a member says: a number of bytes, or `None` where it is computed at run time.
+#[inline(always)]
 pub fn offset(
     entry: &Entry<'_, '_>,
     name: u64,
@@ -156,15 +176,13 @@ pub fn offset(
     ensures small { IfSome result (λ o. IfSome o Fits64) }
     ensures noted { least.new ≡ noted least.old (offset_asked name entry.now).refused }
 {
-    match attribute(entry, name) {
+    match entry.byte_offset(name) {
         None => None,
-        Some(given) => match byte_offset_of(name, &given) {
-            Ok(found) => Some(found),
-            Err(fault) => {
-                note(least, TypeFault::Form(entry.at(), fault));
-                None
-            }
-        },
+        Some(Ok(found)) => Some(found),
+        Some(Err(fault)) => {
+            note(least, TypeFault::Form(entry.at(), fault));
+            None
+        }
     }
 }
 

@@ -7,7 +7,7 @@ use Rattle.forward_rule.proofs.gather.Groups.asked.Goals as goal
 pub returns-in-Some-clause-holds : goal.returns-in-Some-clause-holds
 returns-in-Some-clause-holds b c =
     let tag : Tag = (c.in-Some.family, c.label-label.result.now.name) in
-    let o = rw (c.new.ensures, c.bytes.ensures) at c.in_ok-place.ensures in
+    let o = rw (c.new.ensures, c.again.ensures) at c.in_ok-place.ensures in
     Holds-opened (b.G.TypeGraph.shape c.args.graph.now) c.args.x c.args.self.now.keys.keys
     (lists_of c.args.self.now.definitions.items) c.requires.holds tag
     c.place_of.new.self.keys.keys (lists_of c.place_of.new.self.definitions.items)
@@ -22,7 +22,7 @@ pub returns-in-Some-clause-says : goal.returns-in-Some-clause-says
 returns-in-Some-clause-says b c =
     let l = c.label-label.result.now in
     let tag : Tag = (c.in-Some.family, l.name) in
-    let o = rw (c.new.ensures, c.bytes.ensures) at c.in_ok-place.ensures in
+    let o = rw (c.new.ensures, c.again.ensures) at c.in_ok-place.ensures in
     let is = tag_at-some (b.G.TypeGraph.shape c.args.graph.now).nodes c.args.x l defined_tag
     c.defined_family.result c.in-Some.family c.label-label.ensures c.defined_family.ensures
     c.in-Some.is in
@@ -41,7 +41,7 @@ returns-in_ok-place-in-Some-declared_family-clause-holds b c =
     let tag : Tag = (c.in-Some-declared_family.family, c.label-label.result.now.name) in
     let o = rw (
       c.new-in-Some-declared_family.ensures,
-      c.bytes-in-Some-declared_family.ensures,
+      c.again-in-Some-declared_family.ensures,
     ) at c.in_ok-place-in-Some-declared_family.ensures in
     Holds-opened (b.G.TypeGraph.shape c.args.graph.now) c.args.x c.args.self.now.keys.keys
     (lists_of c.args.self.now.definitions.items) c.requires.holds tag
@@ -65,7 +65,7 @@ returns-in_ok-place-in-Some-declared_family-clause-says b c =
     let tag : Tag = (c.in-Some-declared_family.family, l.name) in
     let o = rw (
       c.new-in-Some-declared_family.ensures,
-      c.bytes-in-Some-declared_family.ensures,
+      c.again-in-Some-declared_family.ensures,
     ) at c.in_ok-place-in-Some-declared_family.ensures in
     let is = tag_at-some (b.G.TypeGraph.shape c.args.graph.now).nodes c.args.x l declared_tag
     c.declared_family.result c.in-Some-declared_family.family c.label-label.ensures

@@ -1,0 +1,149 @@
+//! What values stand for, read at once where their form is one of the most common ones.
+ghost use Rattle.std.specs.Prelude.{◌≡◌, ◌≤◌, ℕ, pos, Some, IfOk, IfSome};
+ghost use Rattle.dwarf_forms.specs.Forms.{layout_of};
+ghost use Rattle.dwarf_forms.specs.Values.{value_of, within, IsContext};
+ghost use Rattle.dwarf_forms.specs.Meanings.{sections, meant, name_in, target_in, offset_in, Fits64};
+ghost use Rattle.dwarf_forms.specs.declared.layout.FormLayout.TheVariants.{Fixed};
+ghost use Rattle.dwarf_forms.specs.declared.layout.NumberClass.TheVariants.{Unsigned};
+
+use crate::fault::FormFault;
+use crate::given::FormCtx;
+use crate::meaning::{byte_offset_of, name_of, string, target_of};
+use crate::reading::{unit_of, value};
+use dw_base::{Name, number};
+use dwarf_abbrev::Spec;
+use dwarf_abbrev::constants::{DW_FORM_data1, DW_FORM_data2, DW_FORM_ref4, DW_FORM_strp};
+
+/// The name that a value of any form is or refers to.
+fn name_by_value<'a>(
+    form: &FormCtx<'a>,
+    ctx: &FormCtx<'a>,
+    spec: &Spec,
+    at: u64,
+) -> Result<Name<'a>, FormFault>
+    requires form { IsContext form.now }
+    requires context { IsContext ctx.now }
+    ensures { result ≡ meant (name_in (sections ctx.now) spec.now.attribute)
+        (value_of (within form.now) spec.now at) }
+{
+    let (given, _) = value(form, spec, at)?;
+    name_of(ctx, spec.attribute, &given)
+}
+
+/// The name that the value of an attribute at the offset `at` of `.debug_info` is or refers to. The
+/// value is read in `form`, and the name in the sections of `ctx`.
+///
+/// It is refused as `value` is, and then as `name_of`.
+#[inline(always)]
+pub fn name_at<'a>(
+    form: &FormCtx<'a>,
+    ctx: &FormCtx<'a>,
+    spec: &Spec,
+    at: u64,
+) -> Result<Name<'a>, FormFault>
+    requires form { IsContext form.now }
+    requires context { IsContext ctx.now }
+    ensures { result ≡ meant (name_in (sections ctx.now) spec.now.attribute)
+        (value_of (within form.now) spec.now at) }
+{
+    if spec.form != DW_FORM_strp {
+        return name_by_value(form, ctx, spec, at);
+    }
+    match number(unit_of(form), at, form.offset_bytes, form.order) {
+        Some(offset) => string(ctx.strings, offset),
+        None => Err(FormFault::ValueTruncated(spec.attribute)),
+    }
+}
+
+/// The entry that a value of any form refers to.
+fn target_by_value(
+    form: &FormCtx<'_>,
+    ctx: &FormCtx<'_>,
+    spec: &Spec,
+    at: u64,
+) -> Result<u128, FormFault>
+    requires { IsContext form.now }
+    ensures { result ≡ meant (target_in (sections ctx.now) spec.now.attribute)
+        (value_of (within form.now) spec.now at) }
+{
+    let (given, _) = value(form, spec, at)?;
+    target_of(ctx, spec.attribute, &given)
+}
+
+/// The offset in `.debug_info` of the entry that the value of an attribute at the offset `at` of
+/// `.debug_info` refers to; it can pass 2^64. The value is read in `form`, and counts in the unit
+/// of `ctx`.
+///
+/// It is refused as `value` is, and then as `target_of`.
+#[inline(always)]
+pub fn target_at(
+    form: &FormCtx<'_>,
+    ctx: &FormCtx<'_>,
+    spec: &Spec,
+    at: u64,
+) -> Result<u128, FormFault>
+    requires { IsContext form.now }
+    ensures { result ≡ meant (target_in (sections ctx.now) spec.now.attribute)
+        (value_of (within form.now) spec.now at) }
+{
+    if spec.form != DW_FORM_ref4 {
+        return target_by_value(form, ctx, spec, at);
+    }
+    match number(unit_of(form), at, 4, form.order) {
+        Some(offset) => Ok(u128::from(ctx.unit) + u128::from(offset)),
+        None => Err(FormFault::ValueTruncated(spec.attribute)),
+    }
+}
+
+/// The offset that a value of any form gives a member.
+fn byte_offset_by_value(form: &FormCtx<'_>, spec: &Spec, at: u64) -> Result<Option<i128>, FormFault>
+    requires { IsContext form.now }
+    ensures value { result ≡ meant (offset_in spec.now.attribute)
+        (value_of (within form.now) spec.now at) }
+    ensures small { IfOk result (λ o. IfSome o Fits64) }
+{
+    let (given, _) = value(form, spec, at)?;
+    byte_offset_of(spec.attribute, &given)
+}
+
+/// The width of a constant of one byte or two; `None` for the other forms.
+#[inline(always)]
+fn short_constant(form: u64) -> Option<u32>
+    ensures small { IfSome result (λ width. (1 ≤ width) × (width ≤ 2)) }
+    ensures row { (o a : ℕ) → IfSome result
+        (λ width. layout_of o a form ≡ Some (Fixed width Unsigned)) }
+{
+    match form {
+        DW_FORM_data1 => Some(1),
+        DW_FORM_data2 => Some(2),
+        _ => None,
+    }
+}
+
+/// The offset that a constant is.
+#[inline(always)]
+fn plain_offset(n: u64) -> Option<i128>
+    ensures { result ≡ Some (pos n) }
+{
+    Some(i128::from(n))
+}
+
+/// The offset in bytes that the value of an attribute at the offset `at` of `.debug_info` gives a
+/// member.
+///
+/// It is refused as `value` is, and then as `byte_offset_of`.
+#[inline(always)]
+pub fn byte_offset_at(form: &FormCtx<'_>, spec: &Spec, at: u64) -> Result<Option<i128>, FormFault>
+    requires { IsContext form.now }
+    ensures value { result ≡ meant (offset_in spec.now.attribute)
+        (value_of (within form.now) spec.now at) }
+    ensures small { IfOk result (λ o. IfSome o Fits64) }
+{
+    let Some(width) = short_constant(spec.form) else {
+        return byte_offset_by_value(form, spec, at);
+    };
+    match number(unit_of(form), at, width, form.order) {
+        Some(n) => Ok(plain_offset(n)),
+        None => Err(FormFault::ValueTruncated(spec.attribute)),
+    }
+}
