@@ -136,11 +136,14 @@ def check_unseen():
 
 
 def check_speed():
-    """The page on speed has rows of the script that measures, of kinds, of phases, and of turns, and no others."""
+    """The page on speed has rows of the script that measures, of kinds, of phases, of turns, and of each kind of file that
+    could make the work grow, and no others."""
     rows = [line.split("|")[1].strip() for line in read("docs/SPEED.md").splitlines() if line.startswith("|")]
-    others = ("What", "Kind", "Phase", "Turn", "---", *KINDS, *PHASES, LETTING_GO, MEDIANS)
+    growing = re.findall(r'^    \("([^"]+)", \w', read("checks/lib/growth.py"), re.MULTILINE)
+    faults = [f"{kind} has no row" for kind in growing if kind not in rows]
+    others = ("What", "Kind", "Phase", "Turn", "---", *KINDS, *PHASES, LETTING_GO, MEDIANS, *growing)
     rows = [row for row in rows if row not in others and not row.isdigit()]
-    return [f"{row} is not measured" for row in rows if row not in ALL], f"{len(rows)} of {len(ALL)} rows"
+    return faults + [f"{row} is not measured" for row in rows if row not in ALL], f"{len(rows)} of {len(ALL)} rows"
 
 
 def say_toolchain():
