@@ -22,6 +22,7 @@ use Rattle.entry_tree.specs.declared.fault.WalkFault.{WalkFault}
 use Rattle.type_attributes.specs.declared.source.SourceType.{SourceType}
 use Rattle.type_attributes.specs.declared.source.Target.{Target}
 use Rattle.type_attributes.specs.declared.source.UnitTypes.{UnitTypes}
+use Rattle.type_attributes.specs.declared.tags.TheConstants.{DW_TAG_GNU_annotation}
 use Rattle.type_attributes.specs.declared.fault.TypeFault.{TypeFault}
 use Rattle.type_attributes.specs.declared.fault.TypeFault.TheVariants.{Abbrev, Walk, Memory}
 use Rattle.type_attributes.specs.Scopes.{Scope, scope_of}
@@ -68,11 +69,20 @@ plain_row_of c e =
     else if e.tag == DW_TAG_atomic_type then Some (reference_row BTF_KIND_TYPEDEF atomic_name c e)
     else None
 
+-- whether a tag is one of these
 abbrev pub has_plain_row : ℕ → Bool
 has_plain_row tag =
     tag == DW_TAG_typedef || tag == DW_TAG_base_type || tag == DW_TAG_const_type
     || tag == DW_TAG_volatile_type || tag == DW_TAG_restrict_type || tag == DW_TAG_unspecified_type
     || tag == DW_TAG_atomic_type
+
+-- whether an entry of a tag may be a type: where the tag has a row, and where it is that of
+-- annotations, which may be type tags
+abbrev pub is_of_types : ℕ → Bool
+is_of_types tag =
+    has_plain_row tag || tag == DW_TAG_pointer_type || tag == DW_TAG_structure_type
+    || tag == DW_TAG_union_type || tag == DW_TAG_array_type || tag == DW_TAG_subroutine_type
+    || tag == DW_TAG_enumeration_type || tag == DW_TAG_GNU_annotation
 
 -- and those whose rows do: arrays, enumerations, pointers, structures, subroutine types and unions
 abbrev pub row_of : Scope → Given → List Given → Option Row
