@@ -1,14 +1,15 @@
 //! What values stand for, read at once where their form is one of the most common ones.
-ghost use Rattle.std.specs.Prelude.{◌≡◌, ◌≤◌, ℕ, pos, Some, IfOk, IfSome};
+ghost use Rattle.std.specs.Prelude.{◌≡◌, ◌≤◌, ℕ, pos, Some, Ok, IfOk, IfSome};
 ghost use Rattle.dwarf_forms.specs.Forms.{layout_of};
 ghost use Rattle.dwarf_forms.specs.Values.{value_of, within, IsContext};
-ghost use Rattle.dwarf_forms.specs.Meanings.{sections, meant, name_in, target_in, offset_in, Fits64};
+ghost use Rattle.dwarf_forms.specs.Meanings.{sections, meant, name_in, target_in, constant_in};
+ghost use Rattle.dwarf_forms.specs.Meanings.{offset_in, Fits64};
 ghost use Rattle.dwarf_forms.specs.declared.layout.FormLayout.TheVariants.{Fixed};
 ghost use Rattle.dwarf_forms.specs.declared.layout.NumberClass.TheVariants.{Unsigned};
 
 use crate::fault::FormFault;
 use crate::given::FormCtx;
-use crate::meaning::{byte_offset_of, name_of, string, target_of};
+use crate::meaning::{byte_offset_of, constant_of, name_of, string, target_of};
 use crate::reading::{unit_of, value};
 use dw_base::{Name, number};
 use dwarf_abbrev::Spec;
@@ -95,6 +96,17 @@ pub fn target_at(
     }
 }
 
+/// The number that a value of any form is.
+fn constant_by_value(form: &FormCtx<'_>, spec: &Spec, at: u64) -> Result<i128, FormFault>
+    requires { IsContext form.now }
+    ensures value { result ≡ meant (constant_in spec.now.attribute)
+        (value_of (within form.now) spec.now at) }
+    ensures small { IfOk result Fits64 }
+{
+    let (given, _) = value(form, spec, at)?;
+    constant_of(spec.attribute, &given)
+}
+
 /// The offset that a value of any form gives a member.
 fn byte_offset_by_value(form: &FormCtx<'_>, spec: &Spec, at: u64) -> Result<Option<i128>, FormFault>
     requires { IsContext form.now }
@@ -117,6 +129,34 @@ fn short_constant(form: u64) -> Option<u32>
         DW_FORM_data1 => Some(1),
         DW_FORM_data2 => Some(2),
         _ => None,
+    }
+}
+
+/// The number that a constant is.
+#[inline(always)]
+fn plain_number(n: u64) -> Result<i128, FormFault>
+    ensures { result ≡ Ok (pos n) }
+{
+    Ok(i128::from(n))
+}
+
+/// The number of class constant that the value of an attribute at the offset `at` of `.debug_info`
+/// is.
+///
+/// It is refused as `value` is, and then as `constant_of`.
+#[inline(always)]
+pub fn constant_at(form: &FormCtx<'_>, spec: &Spec, at: u64) -> Result<i128, FormFault>
+    requires { IsContext form.now }
+    ensures value { result ≡ meant (constant_in spec.now.attribute)
+        (value_of (within form.now) spec.now at) }
+    ensures small { IfOk result Fits64 }
+{
+    let Some(width) = short_constant(spec.form) else {
+        return constant_by_value(form, spec, at);
+    };
+    match number(unit_of(form), at, width, form.order) {
+        Some(n) => plain_number(n),
+        None => Err(FormFault::ValueTruncated(spec.attribute)),
     }
 }
 

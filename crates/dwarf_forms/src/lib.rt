@@ -13,7 +13,7 @@ pub mod meaning;
 pub mod reading;
 mod shared;
 
-pub use direct::{byte_offset_at, name_at, target_at};
+pub use direct::{byte_offset_at, constant_at, name_at, target_at};
 pub use fault::FormFault;
 pub use given::{FormCtx, FormValue, Given};
 pub use meaning::{byte_offset_of, constant_of, flag_of, name_of, target_of};

@@ -14,7 +14,7 @@ use crate::number::{Number, by_sign};
 use crate::source::Target;
 use dw_base::Name;
 use dwarf_abbrev::constants::{DW_AT_name, DW_AT_type};
-use dwarf_forms::{FormCtx, Given, constant_of, flag_of};
+use dwarf_forms::{FormCtx, Given, flag_of};
 use entry_tree::Entry;
 
 /// The first value of an attribute.
@@ -42,15 +42,13 @@ fn given_constant(entry: &Entry<'_, '_>, name: u64, least: &mut Option<TypeFault
     ensures small { IfSome result Fits64 }
     ensures noted { least.new ≡ noted least.old (constant_asked name entry.now).refused }
 {
-    match attribute(entry, name) {
+    match entry.constant(name) {
         None => None,
-        Some(given) => match constant_of(name, &given) {
-            Ok(z) => Some(z),
-            Err(fault) => {
-                note(least, TypeFault::Form(entry.at(), fault));
-                None
-            }
-        },
+        Some(Ok(z)) => Some(z),
+        Some(Err(fault)) => {
+            note(least, TypeFault::Form(entry.at(), fault));
+            None
+        }
     }
 }
 
