@@ -10,7 +10,6 @@ use Rattle.dw_base.proofs.Texts.{bytes_eq_same, bytes_eq_true}
 use Rattle.btf_strings.specs.Names.{offset_among, terminated}
 use Rattle.btf_strings.specs.Kept.{ArePlaced, names_of, value_of}
 use Rattle.btf_strings.proofs.Texts.{text_terminated}
-use denote.Bor.{Bor}
 
 -- the value that is kept of a name is its offset
 chosen : (t : Bool) (v at : ℕ) (a b : Option ℕ) → v ≡ at → a ≡ b
@@ -18,29 +17,29 @@ chosen : (t : Bool) (v at : ℕ) (a b : Option ℕ) → v ≡ at → a ≡ b
 chosen true v at a b e f = ap (λ (n : ℕ). Some n) e
 chosen false v at a b e f = f
 
-pub value_is : (at : ℕ) (es : List (Bor (List ℕ) × ℕ)) (name : List ℕ) → ArePlaced at es
+pub value_is : (at : ℕ) (es : List (List ℕ × ℕ)) (name : List ℕ) → ArePlaced at es
     → value_of name es ≡ offset_among at (names_of es) name
 unfolding offset_among
 value_is at [] name h = refl
 value_is at (e ∷ es) name h =
-    chosen (bytes_eq name e.0.now) e.1 at (value_of name es)
-    (offset_among (at + length e.0.now + 1) (names_of es) name) h.0
-    (value_is (at + length e.0.now + 1) es name h.2)
+    chosen (bytes_eq name e.0) e.1 at (value_of name es)
+    (offset_among (at + length e.0 + 1) (names_of es) name) h.0
+    (value_is (at + length e.0 + 1) es name h.2)
 
 -- one name more is placed behind the others
-pub placed_more : (at : ℕ) (es : List (Bor (List ℕ) × ℕ)) (e : Bor (List ℕ) × ℕ) → ArePlaced at es
+pub placed_more : (at : ℕ) (es : List (List ℕ × ℕ)) (e : List ℕ × ℕ) → ArePlaced at es
     → e.1 ≡ at + length (flat_map terminated (names_of es)) → e.1 ≤ 0x00ff_ffff
     → ArePlaced at (es ++ e ∷ [])
 placed_more at [] e h is le = (omega (arith, is), omega (arith, is, le), tt)
 placed_more at (f ∷ es) e h is le =
-    let l : length (terminated f.0.now ++ flat_map terminated (names_of es))
-    ≡ length f.0.now + 1 + length (flat_map terminated (names_of es)) =
+    let l : length (terminated f.0 ++ flat_map terminated (names_of es))
+    ≡ length f.0 + 1 + length (flat_map terminated (names_of es)) =
     omega (
       arith,
-      length-append (terminated f.0.now) (flat_map terminated (names_of es)),
-      length-append f.0.now (0 ∷ []),
+      length-append (terminated f.0) (flat_map terminated (names_of es)),
+      length-append f.0 (0 ∷ []),
     ) in
-    (h.0, h.1, placed_more (at + length f.0.now + 1) es e h.2 (omega (arith, is, l)) le)
+    (h.0, h.1, placed_more (at + length f.0 + 1) es e h.2 (omega (arith, is, l)) le)
 
 -- a name that isn't among them is found once it is appended
 step_none : (t : Bool) (at : ℕ) (o : Option ℕ) → (if t then Some at else o) ≡ None
@@ -132,12 +131,12 @@ near_step : (t : Bool) (at k : ℕ) (o : Option ℕ) → at ≤ 0x00ff_ffff → 
 near_step true at k o le later e = let q : at ≡ k = cc in omega (arith, q, le)
 near_step false at k o le later e = later e
 
-pub offset_near : (at : ℕ) (es : List (Bor (List ℕ) × ℕ)) (name : List ℕ) (k : ℕ) → ArePlaced at es
+pub offset_near : (at : ℕ) (es : List (List ℕ × ℕ)) (name : List ℕ) (k : ℕ) → ArePlaced at es
     → offset_among at (names_of es) name ≡ Some k → k ≤ 0x00ff_ffff
 unfolding offset_among
 offset_near at [] name k h e = cc
 offset_near at (f ∷ es) name k h e =
-    near_step (bytes_eq name f.0.now) at k
-    (offset_among (at + length f.0.now + 1) (names_of es) name) h.1
-    (λ (later : offset_among (at + length f.0.now + 1) (names_of es) name ≡ Some k).
-    offset_near (at + length f.0.now + 1) es name k h.2 later) e
+    near_step (bytes_eq name f.0) at k
+    (offset_among (at + length f.0 + 1) (names_of es) name) h.1
+    (λ (later : offset_among (at + length f.0 + 1) (names_of es) name ≡ Some k).
+    offset_near (at + length f.0 + 1) es name k h.2 later) e

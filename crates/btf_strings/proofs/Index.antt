@@ -10,10 +10,9 @@ use Rattle.btf_strings.specs.Names.{begins_string, is_text, stands_whole, least_
 use Rattle.btf_strings.specs.Kept.{Notes, value_of}
 use Rattle.btf_strings.proofs.Least.{least_none, least_step}
 use Rattle.btf_strings.proofs.Texts.{none_behind, begins_none_inside, begins_behind}
-use denote.Bor.{Bor}
 
 -- the strings that begin below a place have their least places
-pub record IsIndexed (section : List ℕ) (held : List (Bor (List ℕ) × ℕ)) (at : ℕ) : Type 0 where
+pub record IsIndexed (section : List ℕ) (held : List (List ℕ × ℕ)) (at : ℕ) : Type 0 where
   pub within : at ≤ length section
   pub begins : begins_string section at ≡ true
   pub index : (name : List ℕ) → value_of name held ≡ least_below (stands_whole section name) at
@@ -23,7 +22,7 @@ stands_here : (section name text : List ℕ) (at : ℕ) → begins_string sectio
 stands_here section name text at b e = ap (λ (t : Bool). t && is_text name (text_of section at)) b
     ∙ ap (λ (o : Option (List ℕ)). is_text name o) e
 
-pub index_push : (section text : List ℕ) (at : ℕ) (old new : List (Bor (List ℕ) × ℕ))
+pub index_push : (section text : List ℕ) (at : ℕ) (old new : List (List ℕ × ℕ))
     → text_of section at ≡ Some text → IsIndexed section old at → Notes old new text at
     → IsIndexed section new (at + (length text + 1))
 index_push section text at old new e kept notes =
@@ -45,7 +44,7 @@ index_push section text at old new e kept notes =
           ∙ sym l;
     }
 
-pub all_indexed : (section : List ℕ) (at : ℕ) (held : List (Bor (List ℕ) × ℕ))
+pub all_indexed : (section : List ℕ) (at : ℕ) (held : List (List ℕ × ℕ))
     → text_of section at ≡ None → IsIndexed section held at → (name : List ℕ)
     → value_of name held ≡ base_offset (Some section) name
 all_indexed section at held e kept name =

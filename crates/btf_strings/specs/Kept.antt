@@ -5,25 +5,24 @@ use Rattle.std.specs.Option.{option_or}
 use Rattle.std.specs.Map.{lookup}
 use Rattle.std.specs.Str.{bytes_eq}
 use Rattle.btf_strings.specs.Names.{Names, base_offset, first_offset, offset_of, own_section}
-use denote.Bor.{Bor}
 
 -- the names with places, in order
-abbrev pub names_of : List (Bor (List ℕ) × ℕ) → List (List ℕ)
-names_of entries = map (λ (e : Bor (List ℕ) × ℕ). e.0.now) entries
+abbrev pub names_of : List (List ℕ × ℕ) → List (List ℕ)
+names_of entries = map (λ (e : List ℕ × ℕ). e.0) entries
 
 -- the value of a name among names and values
-abbrev pub value_of : List ℕ → List (Bor (List ℕ) × ℕ) → Option ℕ
-value_of name entries = lookup (λ (k : Bor (List ℕ)). bytes_eq name k.now) entries
+abbrev pub value_of : List ℕ → List (List ℕ × ℕ) → Option ℕ
+value_of name entries = lookup (λ (k : List ℕ). bytes_eq name k) entries
 
 -- a string is noted with its place, unless it was noted before
-abbrev pub Notes : List (Bor (List ℕ) × ℕ) → List (Bor (List ℕ) × ℕ) → List ℕ → ℕ → Type 0
+abbrev pub Notes : List (List ℕ × ℕ) → List (List ℕ × ℕ) → List ℕ → ℕ → Type 0
 Notes old new text at = (name : List ℕ) → value_of name new
     ≡ option_or (value_of name old) (if bytes_eq name text then Some at else None)
 
 -- the values are the offsets of names that stand one after another, and none is past the last
-abbrev pub ArePlaced : ℕ → List (Bor (List ℕ) × ℕ) → Type 0
+abbrev pub ArePlaced : ℕ → List (List ℕ × ℕ) → Type 0
 ArePlaced at [] = ⊤
-ArePlaced at (e ∷ es) = (e.1 ≡ at) × (at ≤ 0x00ff_ffff) × ArePlaced (at + length e.0.now + 1) es
+ArePlaced at (e ∷ es) = (e.1 ≡ at) × (at ≤ 0x00ff_ffff) × ArePlaced (at + length e.0 + 1) es
 
 -- a base's section has fewer than 2^32 bytes and begins with NUL
 pub record IsSection (section : List ℕ) : Type 0 where
@@ -36,8 +35,8 @@ pub record IsSound (t : Names) : Type 0 where
   pub narrow : (name : List ℕ) (at : ℕ) → offset_of t name ≡ Some at → at < 2 ^ 32
 
 -- what holds of the parts of each table of names
-pub record IsKept (base : Option (List ℕ)) (held : List (Bor (List ℕ) × ℕ)) (own : List ℕ)
-    (places : List (Bor (List ℕ) × ℕ)) : Type 0 where
+pub record IsKept (base : Option (List ℕ)) (held : List (List ℕ × ℕ)) (own : List ℕ)
+    (places : List (List ℕ × ℕ)) : Type 0 where
   pub section : IfSome base IsSection
   pub index : (name : List ℕ) → value_of name held ≡ base_offset base name
   pub bytes : own ≡ own_section (record { base = base; own = names_of places })

@@ -25,10 +25,10 @@ pub const LAST_OFFSET: u64 = 0x00ff_ffff;
 pub struct Strings<'a> {
     base: Option<&'a [u8]>,
     /// The least offset of each whole string of the base.
-    held: IndexMap<&'a [u8], u32>,
+    held: IndexMap<Name<'a>, u32>,
     own: Vec<u8>,
     /// The own names with their offsets.
-    places: IndexMap<&'a [u8], u32>,
+    places: IndexMap<Name<'a>, u32>,
 }
 
 impl<'a> Model for Strings<'a> {
@@ -78,7 +78,6 @@ impl<'a> Strings<'a> {
         ensures list { (names : List (List ℕ)) → self.old.own ≡ own_names self.old.base names →
             OnOk result (self.new.own ≡ own_names self.old.base (names ++ name.entry ∷ [])) }
     {
-        let bytes = name.bytes();
         if let Some(at) = self.offset_of(name.again()) {
             return Ok(at);
         }
@@ -86,7 +85,7 @@ impl<'a> Strings<'a> {
         if at > LAST_OFFSET {
             return Err(StringsFault::Full(at));
         }
-        self.append(bytes, at as u32)?;
+        self.append(name, at as u32)?;
         Ok(at as u32)
     }
 
@@ -104,9 +103,9 @@ impl<'a> Strings<'a> {
         if bytes.is_empty() {
             return Some(0);
         }
-        match self.held.get(bytes) {
+        match self.held.get(&name) {
             Some(at) => Some(*at),
-            None => self.places.get(bytes).copied(),
+            None => self.places.get(&name).copied(),
         }
     }
 
@@ -130,18 +129,19 @@ impl<'a> Strings<'a> {
     }
 
     /// Appends a new name. Memory is taken before anything changes.
-    fn append(&mut self, name: &'a [u8], at: u32) -> Result<(), StringsFault>
-        requires new { offset_of self.old name.now ≡ None }
+    fn append(&mut self, name: Name<'a>, at: u32) -> Result<(), StringsFault>
+        requires new { offset_of self.old name ≡ None }
         requires at { at ≡ next_offset self.old }
         requires room { at ≤ LAST_OFFSET }
         ensures ok { OnOk result (self.new ≡
-            record self.old { own = self.old.own ++ name.now ∷ [] }) }
+            record self.old { own = self.old.own ++ name.entry ∷ [] }) }
         ensures err { OnErr result (self.new ≡ self.old) }
         ensures fault { OnErr result (IsErrOf result StringsFault.Memory) }
     {
-        self.own.reserve(name.len() + 1)?;
+        let bytes = name.bytes();
+        self.own.reserve(bytes.len() + 1)?;
         self.places.insert(name, at)?;
-        self.own.extend_from_slice(name)?;
+        self.own.extend_from_slice(bytes)?;
         self.own.push(0)?;
         Ok(())
     }
@@ -159,7 +159,7 @@ fn begun(alloc: Global, base: Option<&[u8]>) -> Result<Vec<u8>, AllocError>
 }
 
 /// The least offset of each whole string of the base's section.
-fn held_by<'a>(alloc: Global, base: Option<&'a [u8]>) -> Result<IndexMap<&'a [u8], u32>, AllocError>
+fn held_by<'a>(alloc: Global, base: Option<&'a [u8]>) -> Result<IndexMap<Name<'a>, u32>, AllocError>
     requires { IfSome base (λ b. length b.now < 2 ^ 32) }
     ensures { IfOk result (λ m. (name : List ℕ)
         → value_of name m.entries ≡ base_offset (option_copied base.entry) name) }
@@ -171,7 +171,7 @@ fn held_by<'a>(alloc: Global, base: Option<&'a [u8]>) -> Result<IndexMap<&'a [u8
 }
 
 /// The least offset of each whole string of a section.
-fn index_of<'a>(alloc: Global, section: &'a [u8]) -> Result<IndexMap<&'a [u8], u32>, AllocError>
+fn index_of<'a>(alloc: Global, section: &'a [u8]) -> Result<IndexMap<Name<'a>, u32>, AllocError>
     requires { length section.now < 2 ^ 32 }
     ensures { IfOk result
         (λ m. (name : List ℕ) → value_of name m.entries ≡ base_offset (Some section.now) name) }
@@ -180,17 +180,17 @@ fn index_of<'a>(alloc: Global, section: &'a [u8]) -> Result<IndexMap<&'a [u8], u
     let mut at: u32 = 0;
     while let Some(name) = text_at(section, u64::from(at)) {
         let text = name.bytes();
-        note(&mut held, text, at)?;
+        note(&mut held, name, at)?;
         at += text.len() as u32 + 1;
     }
     Ok(held)
 }
 
 /// Notes a string of the section, unless it was met before.
-fn note<'a>(held: &mut IndexMap<&'a [u8], u32>, text: &'a [u8], at: u32) -> Result<(), AllocError>
-    ensures { OnOk result (Notes held.old.entries held.new.entries text.now at) }
+fn note<'a>(held: &mut IndexMap<Name<'a>, u32>, text: Name<'a>, at: u32) -> Result<(), AllocError>
+    ensures { OnOk result (Notes held.old.entries held.new.entries text.entry at) }
 {
-    match held.get(text) {
+    match held.get(&text) {
         Some(_) => Ok(()),
         None => {
             held.insert(text, at)?;

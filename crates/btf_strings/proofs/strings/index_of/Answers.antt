@@ -3,7 +3,6 @@ use Rattle.dw_base.specs.Texts.{text_of}
 use Rattle.dw_base.proofs.Texts.{text_within}
 use Rattle.btf_strings.specs.Names.{least_below}
 use Rattle.btf_strings.specs.Kept.{value_of}
-use denote.Bor.{Bor}
 use Rattle.btf_strings.proofs.Index.{index_push, all_indexed}
 use Rattle.btf_strings.proofs.strings.index_of.Goals as goal
 
@@ -13,7 +12,7 @@ loop-name-init c = record {
   within = omega arith;
   begins = refl;
   index = λ (name : List ℕ).
-      ap (λ (es : List (Bor (List ℕ) × ℕ)). value_of name es) c.new-held.ensures.empty;
+      ap (λ (es : List (List ℕ × ℕ)). value_of name es) c.new-held.ensures.empty;
 }
 
 pub overflow_cast-at : goal.overflow_cast-at
@@ -40,7 +39,7 @@ pub loop-name-preserved : goal.loop-name-preserved
 loop-name-preserved c =
     let e : text_of c.args.section.now c.loop-name.at ≡ Some c.bytes-text.result.now = cc in
     index_push c.args.section.now c.bytes-text.result.now c.loop-name.at c.loop-name.held.entries
-    c.note.new.held.entries e c.loop-name.invariant c.in_ok-note.ensures
+    c.note.new.held.entries e c.loop-name.invariant (rw c.bytes-text.ensures c.in_ok-note.ensures)
 
 pub returns : goal.returns
 returns c = all_indexed c.args.section.now c.loop-name.at c.loop-name.held.entries

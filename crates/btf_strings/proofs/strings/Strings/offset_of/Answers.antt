@@ -3,7 +3,7 @@ use Rattle.std.specs.Option.{option_copied}
 use Rattle.std.proofs.lemmas.List.{nil_from_length}
 use Rattle.std.proofs.lemmas.Bool.{eqb-true, eqb-false}
 use Rattle.btf_strings.specs.Names.{Names, offset_of}
-use Rattle.btf_strings.specs.Kept.{IsSection, value_of}
+use Rattle.btf_strings.specs.Kept.{IsSection}
 use Rattle.btf_strings.proofs.Keeping.{found_in_base, found_in_own}
 use Rattle.btf_strings.proofs.Offsets.{empty_offset, text_if_some}
 use Rattle.btf_strings.proofs.strings.Strings.offset_of.Goals as goal
@@ -30,8 +30,7 @@ returns-in-Some-clause-value c =
     found_in_base
     (option_copied c.self.inside.base) c.self.inside.held.entries c.self.inside.own.items
     c.self.inside.places.entries c.args.name c.in-Some.at.now c.self.invariant (omega arith)
-    (ap (λ (name : List ℕ). value_of name c.self.inside.held.entries) (sym c.bytes-bytes.ensures)
-    ∙ sym c.in-Some.ensures.value)
+    (sym c.in-Some.ensures.value)
     ∙ ap (λ (t : Names). offset_of t c.args.name) c.self.view_is
 
 pub returns-in-Some-clause-text : goal.returns-in-Some-clause-text
@@ -48,12 +47,10 @@ returns-in-None-clause-value c =
     ap (λ (xs : List ℕ). length xs) c.bytes-bytes.ensures in
     c.copied.ensures
     ∙ c.get-in-None.ensures.value
-    ∙ ap (λ (name : List ℕ). value_of name c.self.inside.places.entries) c.bytes-bytes.ensures
     ∙ found_in_own (option_copied c.self.inside.base) c.self.inside.held.entries
     c.self.inside.own.items c.self.inside.places.entries c.args.name c.self.invariant
     (omega arith)
-    (ap (λ (name : List ℕ). value_of name c.self.inside.held.entries) (sym c.bytes-bytes.ensures)
-    ∙ sym c.in-None.ensures.value)
+    (sym c.in-None.ensures.value)
     ∙ ap (λ (t : Names). offset_of t c.args.name) c.self.view_is
 
 pub returns-in-None-clause-text : goal.returns-in-None-clause-text

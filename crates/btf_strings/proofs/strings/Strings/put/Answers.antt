@@ -20,8 +20,7 @@ missing c = ap (λ (n : List ℕ). offset_of c.args.self.now n)
 
 appended : (c : goal.In_ok-append)
     → c.append.new.self ≡ record c.args.self.now { own = c.args.self.now.own ++ c.args.name ∷ [] }
-appended c = c.in_ok-append.ensures.ok ∙ ap (λ (n : List ℕ). let t : Names = record c.args.self.now
-    { own = c.args.self.now.own ++ n ∷ [] } in t) c.bytes-bytes.ensures
+appended c = c.in_ok-append.ensures.ok
 
 pub returns-clause-offset : goal.returns-clause-offset
 returns-clause-offset c =
