@@ -8,6 +8,7 @@ import resource
 import struct
 import subprocess
 import sys
+from itertools import accumulate
 
 from made import elf
 
@@ -77,6 +78,13 @@ def enumerations(n):
 def units_of_one_table(n):
     table = ROOT + b"".join(abbreviation(2 + i, BLOCK, 0) for i in range(n))
     return file(table, *[unit(b"")] * n)
+
+
+def units_at_places_of_one_table(n):
+    """Each unit names another place of one table of abbreviations, which it has from there to its end."""
+    rows = [abbreviation(2 + i, BLOCK, 0) for i in range(n)]
+    places = accumulate(map(len, rows[:-1]), initial=0)
+    return file(b"".join(rows) + ROOT, *[unit(b"", place) for place in places])
 
 
 def attributes_without_bytes(n):
@@ -192,6 +200,13 @@ def functions_named_by_ends_of_one_text(n):
     return file(table, unit(b"".join(struct.pack("<BI", 2, i) for i in range(n))), texts=b"a" * n + b"\0")
 
 
+def structures_of_one_long_name(n):
+    """Structures that differ in their size, whose names are one text with 40 bytes for each of them."""
+    table = ROOT + abbreviation(2, STRUCTURE, 0, (NAME, STRP), (SIZE, DATA4))
+    body = b"".join(b"\2" + struct.pack("<II", 0, 1 + i) for i in range(n))
+    return file(table, unit(body), texts=b"n" * (40 * n) + b"\0")
+
+
 def long_names(n):
     """Structures whose names, of 5,000 bytes each, differ in the middle alone."""
     table = ROOT + abbreviation(2, STRUCTURE, 0, (NAME, STRP), (SIZE, DATA1))
@@ -243,7 +258,7 @@ def ends_of_one_text_of_btf(n):
 # an ELF file of one type, beside the file that grows
 SMALL = "small"
 # kinds whose work is known to grow with the square; docs/SPEED.md says why
-SQUARES = ("relocations of the same bytes",)
+SQUARES = ("relocations of the same bytes", "units at different places of one table", "structures of one long name")
 DIGITS = "0123456789abcdefghijklmnopqrstuvwxyz"
 
 
@@ -288,6 +303,7 @@ KINDS = [
     ("structures that differ in a member's name", lambda n: structures_of(n, lambda i: (b"y%d" % i, 0)), 5_000, True, encoding),
     ("enumerations that differ in a value", enumerations, 10_000, True, encoding),
     ("units of one table of abbreviations", units_of_one_table, 2_500, True, encoding),
+    ("units at different places of one table", units_at_places_of_one_table, 1_000, False, encoding),
     ("attributes without bytes", attributes_without_bytes, 8_000, True, encoding),
     ("attributes without bytes beside texts", attributes_without_bytes_beside_texts, 4_000, True, encoding),
     ("a chain of pointers", pointers, 4_000, True, encoding),
@@ -303,6 +319,7 @@ KINDS = [
     ("names that are ends of one text", ends_of_one_text, 50_000, True, encoding),
     ("functions whose names are ends of one text", functions_named_by_ends_of_one_text, 25_000, True, encoding_functions),
     ("long names that differ in the middle", long_names, 500, False, encoding),
+    ("structures of one long name", structures_of_one_long_name, 2_500, False, encoding),
     ("members of one structure", members, 16_383, False, encoding),
     ("functions in each other", functions_in_each_other, 12_500, True, encoding_functions),
     ("functions of one name that differ", functions_of_one_name, 12_500, True, encoding_functions),
