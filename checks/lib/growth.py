@@ -80,6 +80,12 @@ def units_of_one_table(n):
     return file(table, *[unit(b"")] * n)
 
 
+def units_of_tables_by_turns(n):
+    """Three tables of as many abbreviations, which the units name by turns."""
+    table = ROOT + b"".join(abbreviation(2 + i, BLOCK, 0) for i in range(n)) + b"\0"
+    return file(3 * table, *[unit(b"", i % 3 * len(table)) for i in range(n)])
+
+
 def units_at_places_of_one_table(n):
     """Each unit names another place of one table of abbreviations, which it has from there to its end."""
     rows = [abbreviation(2 + i, BLOCK, 0) for i in range(n)]
@@ -303,6 +309,7 @@ KINDS = [
     ("structures that differ in a member's name", lambda n: structures_of(n, lambda i: (b"y%d" % i, 0)), 5_000, True, encoding),
     ("enumerations that differ in a value", enumerations, 10_000, True, encoding),
     ("units of one table of abbreviations", units_of_one_table, 2_500, True, encoding),
+    ("units of tables by turns", units_of_tables_by_turns, 2_500, True, encoding),
     ("units at different places of one table", units_at_places_of_one_table, 1_000, False, encoding),
     ("attributes without bytes", attributes_without_bytes, 8_000, True, encoding),
     ("attributes without bytes beside texts", attributes_without_bytes_beside_texts, 4_000, True, encoding),

@@ -1,5 +1,6 @@
 -- The declarations of a table.
 use Rattle.std.specs.Prelude.{ℕ, suc, Bool, List, [], ◌∷◌, Option, None, Some, ◌==◌, if◌then◌else◌}
+use Rattle.std.specs.Prelude.{length, sum_by}
 use Rattle.std.specs.Option.{option_map}
 use Rattle.dwarf_abbrev.specs.declared.spec.Spec.{Spec}
 
@@ -19,3 +20,7 @@ place_of code (r ∷ rs) =
 abbrev pub declaration_with : ℕ → List Declaration → Option Declaration
 declaration_with code [] = None
 declaration_with code (r ∷ rs) = if r.code == code then Some r else declaration_with code rs
+
+-- how many declarations there are and how many attributes they have, together
+abbrev pub parts_of : List Declaration → ℕ
+parts_of declarations = sum_by (λ (d : Declaration). suc (length d.specs)) declarations

@@ -1,8 +1,8 @@
 //! Tables of abbreviations, and looking a code up.
 ghost use Rattle.std.specs.Prelude.{◌≡◌, ◌^◌, ◌<◌, ◌-◌, ◌≢◌, length, None, IfSome, IsNone, IfOk};
-ghost use Rattle.std.specs.Prelude.{OnOk};
+ghost use Rattle.std.specs.Prelude.{OnOk, min};
 ghost use Rattle.std.specs.Option.{option_map};
-ghost use Rattle.dwarf_abbrev.specs.Declarations.{place_of};
+ghost use Rattle.dwarf_abbrev.specs.Declarations.{place_of, parts_of};
 ghost use Rattle.dwarf_abbrev.specs.Rows.{declarations_of, declaration_of, code_at, IsPlaced};
 ghost use Rattle.dwarf_abbrev.specs.Rows.{Places};
 ghost use Rattle.dwarf_abbrev.specs.Table.{Gives, declaration_at, table_at};
@@ -140,12 +140,24 @@ fn read_table(alloc: Global, bytes: &[u8], at: u64) -> Result<Abbrevs, AbbrevFau
     Err(AbbrevFault::AbbrevTruncated(at))
 }
 
+/// How many rows there are and how many attributes they have, together, at most 2^64 - 1.
+fn count_parts(rows: &[OwnedAbbrev]) -> u64
+    ensures { result ≡ min (parts_of (declarations_of rows.now)) (2 ^ 64 - 1) }
+{
+    let mut parts = 0u64;
+    for i in 0..rows.len() {
+        let attributes = rows[i].specs.len() as u64;
+        parts = parts.saturating_add(1).saturating_add(attributes);
+    }
+    parts
+}
+
 impl Abbrevs {
-    ghost use Rattle.std.specs.Prelude.{◌≡◌};
+    ghost use Rattle.std.specs.Prelude.{◌≡◌, ◌^◌, ◌-◌, min};
     ghost use Rattle.std.specs.Option.{option_map};
     ghost use Rattle.dwarf_abbrev.specs.Table.{Gives, table_at};
     ghost use Rattle.dwarf_abbrev.specs.Law.{Reads};
-    ghost use Rattle.dwarf_abbrev.specs.Declarations.{declaration_with};
+    ghost use Rattle.dwarf_abbrev.specs.Declarations.{declaration_with, parts_of};
     ghost use Rattle.dwarf_abbrev.specs.Rows.{lent, shown};
 
     /// The table that begins at the offset `at` of `.debug_abbrev`.
@@ -160,6 +172,14 @@ impl Abbrevs {
         ensures gives { Gives (λ t. t) result (table_at bytes.now at) }
     {
         read_table(alloc, bytes, at)
+    }
+
+    /// How many abbreviations the table has and how many attributes they have, together, at most
+    /// 2^64 - 1. What a table keeps is in proportion to that, and it has more bytes in its section.
+    pub fn parts(&self) -> u64
+        ensures { result ≡ min (parts_of self.now) (2 ^ 64 - 1) }
+    {
+        count_parts(self.rows.as_slice())
     }
 
     /// The abbreviation of a code, as the table owns it. `None` exactly where none of the table has

@@ -2,7 +2,8 @@
 use Rattle.std.specs.Prelude.{ℕ, ◌≡◌, List, All}
 use Rattle.c_types.specs.Tables.{IsTableAt}
 use Rattle.unit_graph.specs.Sources.{FileUnit}
-use Rattle.unit_graph.specs.declared.tables.LastTable.{LastTable}
+use Rattle.unit_graph.specs.declared.tables.KeptTable.{KeptTable}
+use Rattle.unit_graph.specs.declared.tables.KeptTables.{KeptTables}
 
 -- the bytes of each unit are those of the file of its number
 abbrev pub AreOf : (ℕ → List ℕ) → List FileUnit → Type 0
@@ -12,7 +13,11 @@ AreOf files us = All (λ (u : FileUnit). u.bytes ≡ files u.file) us
 abbrev pub AreOfFiles : List FileUnit → Type 0
 AreOfFiles us = (files : ℕ → List ℕ) × AreOf files us
 
--- the table that was read last is what its file's .debug_abbrev spells at its place, whatever files
--- the units are of
-abbrev pub IsKept : List FileUnit → LastTable → Type 0
-IsKept us t = (files : ℕ → List ℕ) × AreOf files us × IsTableAt (files t.file) t.at t.abbrevs
+-- each table is what the .debug_abbrev of a file spells at its place
+abbrev pub AreTablesOf : List ℕ → List KeptTable → Type 0
+AreTablesOf bytes tables = All (λ (t : KeptTable). IsTableAt bytes t.at t.abbrevs) tables
+
+-- the tables that are kept are those of each unit of their file
+abbrev pub AreKept : List FileUnit → KeptTables → Type 0
+AreKept us kept =
+    All (λ (u : FileUnit). kept.file ≡ u.file → AreTablesOf u.bytes kept.tables.items) us

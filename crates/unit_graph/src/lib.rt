@@ -15,5 +15,5 @@ pub use links::{Out, link_targets};
 pub use pieces::{cut_of, push_moved_rows};
 pub use places::{NodePlace, NodePlaces};
 pub use sources::UnitAt;
-pub use tables::{LastTable, table_for, types_by};
+pub use tables::{KeptTable, KeptTables, types_by};
 pub use tags::find_tag;

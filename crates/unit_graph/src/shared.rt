@@ -2,7 +2,7 @@
 use crate::links::Out;
 use crate::places::NodePlaces;
 use crate::sources::UnitAt;
-use crate::tables::LastTable;
+use crate::tables::KeptTables;
 
 fn crosses<T: Send + Sync>() {}
 
@@ -10,5 +10,5 @@ fn all_cross<'a>() {
     crosses::<UnitAt<'a>>();
     crosses::<NodePlaces>();
     crosses::<Out>();
-    crosses::<LastTable>();
+    crosses::<KeptTables>();
 }
