@@ -201,6 +201,17 @@ def ends_of_one_text(n):
     return file(table, unit(b"".join(struct.pack("<BIB", 2, i, 4) for i in range(n))), texts=b"a" * n + b"\0")
 
 
+# 14 bytes whose digest stays when a byte b is put before it, for the digest that names of more than 4,096 bytes have: the multiplier of
+# FNV-1a, modulo 2^64, from the last byte to the first
+STAYS = bytes.fromhex("7188897f8987858b7f817f7a867d")
+
+
+def ends_of_one_digest(n):
+    """Structures whose names are ends of one text, and have one digest, those of more than 4,096 bytes."""
+    table = ROOT + abbreviation(2, STRUCTURE, 0, (NAME, STRP), (SIZE, DATA1))
+    return file(table, unit(b"".join(struct.pack("<BIB", 2, i, 4) for i in range(n))), texts=b"b" * n + STAYS + b"\0")
+
+
 def functions_named_by_ends_of_one_text(n):
     table = ROOT + abbreviation(2, FUNCTION, 0, (NAME, STRP))
     return file(table, unit(b"".join(struct.pack("<BI", 2, i) for i in range(n))), texts=b"a" * n + b"\0")
@@ -324,6 +335,7 @@ KINDS = [
     ("relocations of the same bytes", relocations_of_the_same_bytes, 2_500, False, encoding),
     ("codes of abbreviations far apart", codes_far_apart, 12_500, True, encoding),
     ("names that are ends of one text", ends_of_one_text, 50_000, True, encoding),
+    ("names that are ends of one text of one digest", ends_of_one_digest, 25_000, True, encoding),
     ("functions whose names are ends of one text", functions_named_by_ends_of_one_text, 25_000, True, encoding_functions),
     ("long names that differ in the middle", long_names, 500, False, encoding),
     ("structures of one long name", structures_of_one_long_name, 2_500, False, encoding),

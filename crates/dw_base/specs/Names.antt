@@ -1,7 +1,7 @@
--- What is hashed of a name: all of a short one, and of a long one a number that all its bytes
--- decide.
-use Rattle.std.specs.Prelude.{ℕ, ◌≡◌, ◌+◌, ◌*◌, ◌%◌, ◌^◌, ◌<◌, List, [], ◌∷◌, length, nat_lt}
-use Rattle.std.specs.Prelude.{if◌then◌else◌}
+-- What is hashed of a name: all of a short one, and of a long one its length and a number that all
+-- its bytes decide.
+use Rattle.std.specs.Prelude.{ℕ, ◌≡◌, ◌+◌, ◌*◌, ◌%◌, ◌^◌, ◌<◌, List, [], ◌∷◌, ◌++◌, length}
+use Rattle.std.specs.Prelude.{nat_lt, if◌then◌else◌}
 use Rattle.std.specs.Hash as fed
 
 -- names of more bytes than these are long
@@ -22,4 +22,5 @@ abbrev pub IsDigested : List ℕ → ℕ → Type 0
 IsDigested name digest = short < length name → digest ≡ digest_of name
 
 abbrev pub hash_name : List ℕ → fed.HashWrites
-hash_name name = if nat_lt short (length name) then fed.u64 (digest_of name) else name ∷ []
+hash_name name = if nat_lt short (length name)
+    then fed.u64 (digest_of name) ++ fed.usize (length name) else name ∷ []

@@ -10,7 +10,7 @@ use memchr::memchr;
 use std::hash::{Hash, Hasher};
 use std::marker::Model;
 
-/// Names of more bytes than these are long: they are hashed by their digests.
+/// Names of more bytes than these are long: they are hashed by their lengths and digests.
 pub(crate) const SHORT: usize = 4096;
 
 /// What a digest is multiplied by for each byte (the prime of FNV-1a, 64 bits).
@@ -117,6 +117,7 @@ impl<'a> Hash for Name<'a> {
     fn hash<H: Hasher>(&self, state: &mut H) {
         if self.bytes.len() > SHORT {
             state.write_u64(self.digest);
+            state.write_usize(self.bytes.len());
         } else {
             state.write(self.bytes);
         }
