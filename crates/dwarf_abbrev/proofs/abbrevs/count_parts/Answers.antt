@@ -1,4 +1,4 @@
-use Rattle.std.proofs.Common.{◌≡◌, ◌^◌, ◌-◌, ℕ, List, min, take, sum_by, length, get_or, ap, refl}
+use Rattle.std.proofs.Common.{◌≡◌, ◌^◌, ◌-◌, List, min, take, sum_by, length, get_or, ap, refl}
 use Rattle.std.proofs.Common.{◌∙◌, arith}
 use Rattle.std.specs.Vec.{vec_len}
 use Rattle.std.proofs.lemmas.List.{take_all}
@@ -17,8 +17,14 @@ loop-i-preserved c =
     let specs = (get_or rows c.loop-i.i c.index-rows-i.result).specs in
     let room : vec_len specs ≡ length specs.items = omega (arith, specs.ok.0) in
     let more = sum_by_more parts_in rows c.loop-i.i c.index-rows-i.result c.loop-i-test.true in
-    rw (c.saturating_add-parts.ensures, c.saturating_add.ensures, c.len-attributes.ensures,
-    c.loop-i.invariant, more, room) (one_row_more so_far (length specs.items))
+    rw (
+      c.saturating_add-parts.ensures,
+      c.saturating_add.ensures,
+      c.len-attributes.ensures,
+      c.loop-i.invariant,
+      more,
+      room,
+    ) (one_row_more so_far (length specs.items))
 
 pub returns : goal.returns
 returns c =
