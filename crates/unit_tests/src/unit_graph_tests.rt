@@ -5,7 +5,7 @@ use small_files::bytes::{info_of, plain_file};
 use small_files::units::units_of;
 use std::alloc::{AllocError, Global};
 use std::test::Fail;
-use unit_graph::{NodePlace, NodePlaces, Out, find_tag, link_targets, types_by};
+use unit_graph::{KeptTables, NodePlace, NodePlaces, Out, find_tag, link_targets, types_by};
 
 /// Rows: the file, the offset and the number. Two begin at one place: the later one counts there.
 const ROWS: &[(u32, u64, u32)] = &[(1, 11, 2), (0, 18, 1), (0, 11, 0), (0, 18, 3)];
@@ -136,9 +136,9 @@ fn tables(rt: HostRuntime) -> Result<(), Fail> {
     let Some(unit) = all.first() else {
         return Err(Fail::from("no unit"));
     };
-    let mut last = None;
-    let found = types_by(rt.alloc(), &mut last, unit)?;
+    let mut kept = KeptTables::new(rt.alloc());
+    let found = types_by(rt.alloc(), &mut kept, unit)?;
     assert_eq!(rt; found.types.items().len(), 1);
-    assert!(rt; last.is_some());
+    assert_eq!(rt; kept.tables.len(), 1);
     Ok(())
 }
