@@ -21,8 +21,8 @@ test:
 	bash .ci/run
 
 # PAHOLE=path measures another program, RUNS=n times each row so often, VMLINUX=path names a kernel, REAL=folder one of other programs
-# (tools/real-programs.sh builds some), WRITE=1 writes docs/SPEED.md's table, LARGE=1 also runs the checks of damage (10,000 runs) and of growth
-# (files five times as large), which it leaves out otherwise
+# (tools/real-programs.sh builds some), WRITE=1 writes docs/SPEED.md's table. It also runs the check of growth over files five times as large, and with
+# LARGE=1 that of damage (10,000 runs)
 measure:
 	bash tools/measure.sh $(VMLINUX)
 

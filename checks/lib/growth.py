@@ -1,7 +1,7 @@
 """growth.py PROGRAM FOLDER SIZE: runs PROGRAM over small files of each kind of KINDS that could make its work grow faster than its input, at
 the sizes n, 2n and 4n, and fails a kind where a doubling multiplies the processor time by more than MOST once it passes ENOUGH seconds.
 A kind whose times grow is measured up to TRIES times, and fails where they grow each time. A kind of SQUARES is told as known in its place.
-SIZE is `small`, as the gate has it, or `large`, as `make measure` has it where LARGE=1 is given; a kind's large sizes are those times LARGER.
+SIZE is `small`, as the gate has it, or `large`, as `make measure` has it; a kind's large sizes are those times LARGER.
 The files are ELF files of 64 bits with units of DWARF 5, and files of BTF."""
 import os
 import resource
@@ -217,6 +217,25 @@ def functions_named_by_ends_of_one_text(n):
     return file(table, unit(b"".join(struct.pack("<BI", 2, i) for i in range(n))), texts=b"a" * n + b"\0")
 
 
+# 8 bytes at a name's end with which the hasher that the library's maps have by default, which multiplies by this number, forgets all before
+FORGETS = struct.pack("<Q", 0x9E3779B97F4A7C15)
+
+
+def colliding(i):
+    """A name that has one hash with all others of these by the library's default hasher."""
+    return b"%08d" % i + FORGETS
+
+
+def structures_of_one_hash(n):
+    table = ROOT + abbreviation(2, STRUCTURE, 0, (NAME, STRING), (SIZE, DATA1))
+    return file(table, unit(b"".join(b"\2" + colliding(i) + b"\0\4" for i in range(n))))
+
+
+def functions_of_one_hash(n):
+    table = ROOT + abbreviation(2, FUNCTION, 0, (NAME, STRING))
+    return file(table, unit(b"".join(b"\2" + colliding(i) + b"\0" for i in range(n))))
+
+
 def structures_of_one_long_name(n):
     """Structures that differ in their size, whose names are one text with 40 bytes for each of them."""
     table = ROOT + abbreviation(2, STRUCTURE, 0, (NAME, STRP), (SIZE, DATA4))
@@ -270,6 +289,12 @@ def ends_of_one_text_of_btf(n):
     """Structures of a file of BTF whose names are ends of one text."""
     words = [word for i in range(n) for word in (1 + i, STRUCT_KIND, 4)]
     return btf(BTF_INT + words, b"\0" + b"a" * n + b"\0")
+
+
+def names_of_one_hash_of_btf(n):
+    """Structures of a file of BTF whose names have one hash by the library's default hasher."""
+    words = [word for i in range(n) for word in (1 + 17 * i, STRUCT_KIND, 4)]
+    return btf(BTF_INT + words, b"\0" + b"".join(colliding(i) + b"\0" for i in range(n)))
 
 
 # an ELF file of one type, beside the file that grows
@@ -337,6 +362,8 @@ KINDS = [
     ("names that are ends of one text", ends_of_one_text, 50_000, True, encoding),
     ("names that are ends of one text of one digest", ends_of_one_digest, 25_000, True, encoding),
     ("functions whose names are ends of one text", functions_named_by_ends_of_one_text, 25_000, True, encoding_functions),
+    ("names of one hash", structures_of_one_hash, 12_500, True, encoding),
+    ("functions whose names have one hash", functions_of_one_hash, 12_500, True, encoding_functions),
     ("long names that differ in the middle", long_names, 500, False, encoding),
     ("structures of one long name", structures_of_one_long_name, 2_500, False, encoding),
     ("members of one structure", members, 16_383, False, encoding),
@@ -347,6 +374,8 @@ KINDS = [
     ("typedefs of a BTF file", typedefs_of_btf, 12_500, True, showing),
     ("arrays of a BTF file", arrays_of_btf, 12_500, True, showing),
     ("names of a BTF file that are ends of one text", ends_of_one_text_of_btf, 25_000, True, showing_one),
+    ("names of a BTF file of one hash", names_of_one_hash_of_btf, 12_500, True, showing_one),
+    ("names of a base of one hash", names_of_one_hash_of_btf, 12_500, True, encoding_over_it),
     ("names of `-C`", structures_of_btf, 5_000, False, showing_names),
 ]
 

@@ -12,6 +12,7 @@ use crate::fault::StringsFault;
 use dw_base::{Name, text_at};
 use indexmap::IndexMap;
 use std::alloc::{AllocError, Global};
+use std::hash::{BuildHasherDefault, DefaultHasher};
 use std::marker::Model;
 
 /// The last offset that a new name may have, in bytes from the beginning of the base's strings (the
@@ -19,16 +20,27 @@ use std::marker::Model;
 /// `BTF_MAX_NAME_OFFSET`).
 pub const LAST_OFFSET: u64 = 0x00ff_ffff;
 
+/// Offsets by names. They are hashed by SipHash: a file's names can be made to collide by the
+/// library's default hasher.
+type Offsets<'a> = IndexMap<Name<'a>, u32, BuildHasherDefault<DefaultHasher>>;
+
+/// No offsets.
+fn no_offsets<'a>(alloc: Global) -> Offsets<'a>
+    ensures { result.entries ≡ [] }
+{
+    IndexMap::with_hasher(alloc, BuildHasherDefault::new())
+}
+
 /// The names of a table with their string section. Contracts see it as the base's section and the
 /// names that have a place in the own section, in order.
 #[derive(Drop)]
 pub struct Strings<'a> {
     base: Option<&'a [u8]>,
     /// The least offset of each whole string of the base.
-    held: IndexMap<Name<'a>, u32>,
+    held: Offsets<'a>,
     own: Vec<u8>,
     /// The own names with their offsets.
-    places: IndexMap<Name<'a>, u32>,
+    places: Offsets<'a>,
 }
 
 impl<'a> Model for Strings<'a> {
@@ -55,7 +67,7 @@ impl<'a> Strings<'a> {
             base,
             held: held_by(alloc, base)?,
             own: begun(alloc, base)?,
-            places: IndexMap::new(alloc),
+            places: no_offsets(alloc),
         })
     }
 
@@ -159,24 +171,24 @@ fn begun(alloc: Global, base: Option<&[u8]>) -> Result<Vec<u8>, AllocError>
 }
 
 /// The least offset of each whole string of the base's section.
-fn held_by<'a>(alloc: Global, base: Option<&'a [u8]>) -> Result<IndexMap<Name<'a>, u32>, AllocError>
+fn held_by<'a>(alloc: Global, base: Option<&'a [u8]>) -> Result<Offsets<'a>, AllocError>
     requires { IfSome base (λ b. length b.now < 2 ^ 32) }
     ensures { IfOk result (λ m. (name : List ℕ)
         → value_of name m.entries ≡ base_offset (option_copied base.entry) name) }
 {
     match base {
         Some(section) => index_of(alloc, section),
-        None => Ok(IndexMap::new(alloc)),
+        None => Ok(no_offsets(alloc)),
     }
 }
 
 /// The least offset of each whole string of a section.
-fn index_of<'a>(alloc: Global, section: &'a [u8]) -> Result<IndexMap<Name<'a>, u32>, AllocError>
+fn index_of<'a>(alloc: Global, section: &'a [u8]) -> Result<Offsets<'a>, AllocError>
     requires { length section.now < 2 ^ 32 }
     ensures { IfOk result
         (λ m. (name : List ℕ) → value_of name m.entries ≡ base_offset (Some section.now) name) }
 {
-    let mut held = IndexMap::new(alloc);
+    let mut held = no_offsets(alloc);
     let mut at: u32 = 0;
     while let Some(name) = text_at(section, u64::from(at)) {
         let text = name.bytes();
@@ -187,7 +199,7 @@ fn index_of<'a>(alloc: Global, section: &'a [u8]) -> Result<IndexMap<Name<'a>, u
 }
 
 /// Notes a string of the section, unless it was met before.
-fn note<'a>(held: &mut IndexMap<Name<'a>, u32>, text: Name<'a>, at: u32) -> Result<(), AllocError>
+fn note<'a>(held: &mut Offsets<'a>, text: Name<'a>, at: u32) -> Result<(), AllocError>
     ensures { OnOk result (Notes held.old.entries held.new.entries text.entry at) }
 {
     match held.get(&text) {

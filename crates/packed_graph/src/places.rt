@@ -7,9 +7,8 @@
 ghost use Rattle.std.specs.Prelude.{◌≡◌, Some, IfOk, IfSome, OnErr, slice_get};
 ghost use Rattle.c_model.specs.Numberings.{TakesKey};
 
-use crate::label_key::LabelKey;
+use crate::label_key::{LabelKey, LabelSet};
 use c_model::{Label, is_same_label};
-use indexmap::IndexSet;
 use std::alloc::{AllocError, Global};
 
 /// How many bits a mark has.
@@ -120,10 +119,7 @@ fn mark_of(label: &Label<'_>) -> usize {
 }
 
 /// The place of a label by a look-up. One that is not there goes last.
-pub fn place_of<'a>(
-    labels: &mut IndexSet<LabelKey<'a>>,
-    label: Label<'a>,
-) -> Result<usize, AllocError>
+pub fn place_of<'a>(labels: &mut LabelSet<'a>, label: Label<'a>) -> Result<usize, AllocError>
     ensures place { IfOk result (λ r. TakesKey labels.old.keys label.entry labels.new.keys r) }
     ensures err { OnErr result (labels.new.keys ≡ labels.old.keys) }
 {
@@ -133,11 +129,7 @@ pub fn place_of<'a>(
 
 /// The place that a hint tells, if this label stands there.
 #[inline(always)]
-fn hinted<'a>(
-    labels: &IndexSet<LabelKey<'a>>,
-    hint: Option<u32>,
-    label: &Label<'a>,
-) -> Option<usize>
+fn hinted<'a>(labels: &LabelSet<'a>, hint: Option<u32>, label: &Label<'a>) -> Option<usize>
     ensures { IfSome result (λ r. slice_get labels.now.keys r ≡ Some label.now) }
 {
     let place = hint? as usize;
@@ -152,7 +144,7 @@ fn hinted<'a>(
 /// The place of a label. One that is not there goes last. It is looked up only where it stands
 /// neither where the label before tells, nor where its own mark does.
 pub fn place_by_hints<'a>(
-    labels: &mut IndexSet<LabelKey<'a>>,
+    labels: &mut LabelSet<'a>,
     hints: &mut Hints,
     label: Label<'a>,
 ) -> Result<usize, AllocError>

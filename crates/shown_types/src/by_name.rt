@@ -10,12 +10,17 @@ use c_model::CType;
 use dw_base::Name;
 use indexmap::IndexMap;
 use std::alloc::{AllocError, Global};
+use std::hash::{BuildHasherDefault, DefaultHasher};
+
+/// Places by names. They are hashed by SipHash: a file's names can be made to collide by the
+/// library's default hasher.
+pub type NamePlaces<'a> = IndexMap<Name<'a>, u32, BuildHasherDefault<DefaultHasher>>;
 
 /// The places of the types that can be shown, by their names.
 #[derive(Drop)]
 pub struct ByName<'a> {
     /// The first place of each name.
-    pub first: IndexMap<Name<'a>, u32>,
+    pub first: NamePlaces<'a>,
     /// For each place the next one of its name, where it is a type's that can be shown.
     pub next: Vec<Option<u32>>,
 }
@@ -25,7 +30,7 @@ pub fn by_name<'a>(alloc: Global, types: &[CType<'a>]) -> Result<ByName<'a>, All
     requires { length types.now < 2 ^ 32 }
     ensures { IfOk result (λ b. AreNamed types.now 0 b.first.entries b.next.items) }
 {
-    let mut first = IndexMap::new(alloc);
+    let mut first = IndexMap::with_hasher(alloc, BuildHasherDefault::new());
     let mut next = vec![in alloc; None; types.len()]?;
     let mut x = types.len() as u32;
     while x > 0 {
@@ -37,7 +42,7 @@ pub fn by_name<'a>(alloc: Global, types: &[CType<'a>]) -> Result<ByName<'a>, All
 
 /// Adds the type in a place to those behind it.
 fn add<'a>(
-    first: &mut IndexMap<Name<'a>, u32>,
+    first: &mut NamePlaces<'a>,
     next: &mut Vec<Option<u32>>,
     types: &[CType<'a>],
     x: u32,
@@ -75,7 +80,7 @@ pub fn name_at<'a>(types: &[CType<'a>], x: u32) -> &'a [u8]
 }
 
 /// The first place of a name.
-fn first_of(first: &IndexMap<Name<'_>, u32>, name: &[u8]) -> Option<u32>
+fn first_of(first: &NamePlaces<'_>, name: &[u8]) -> Option<u32>
     ensures { result ≡ place_of name.now first.now.entries }
 {
     first.get(&Name::new(name)).copied()

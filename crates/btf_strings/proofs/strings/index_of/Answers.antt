@@ -12,7 +12,7 @@ loop-name-init c = record {
   within = omega arith;
   begins = refl;
   index = λ (name : List ℕ).
-      ap (λ (es : List (List ℕ × ℕ)). value_of name es) c.new-held.ensures.empty;
+      ap (λ (es : List (List ℕ × ℕ)). value_of name es) c.no_offsets-held.ensures;
 }
 
 pub overflow_cast-at : goal.overflow_cast-at
