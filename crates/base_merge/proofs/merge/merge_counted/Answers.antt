@@ -12,3 +12,18 @@ classes_over-requires-sync-R g c κs h = (
     ),
   ),
 )
+
+pub table_of_graph-requires : goal.table_of_graph-requires
+table_of_graph-requires g c κs = (
+  (refl, tt),
+  (
+    c.in_ok-found.ensures.parted,
+    (
+      c.in_ok-graph.ensures.fitting c.requires.base.formed c.requires.fitting,
+      (
+        c.in_ok-graph.ensures.formed c.requires.base.formed c.requires.well,
+        c.requires.base.section,
+      ),
+    ),
+  ),
+)
