@@ -1,7 +1,8 @@
-# pahole, proved. `make pahole` builds the proved program, `make demo` encodes a file with it, `make test` is
-# the gate and the repository's own checks. The pages' other numbers come from scripts that no check runs, for they take long (tools/):
-# `make measure` and `make turns` (docs/SPEED.md), `make agree` and `make ways` (docs/AGREEMENT.md), `make plants`, `make edits`,
-# `make unseen` and `make memory` (docs/AUDIT.md).
+# pahole, proved. `make pahole` builds the proved program, `make demo` encodes a file with it, `make
+# test` is the gate and the repository's own checks. The pages' other numbers come from scripts that
+# no check runs, for they take long (tools/): `make measure` and `make turns` (docs/SPEED.md), `make
+# agree` and `make ways` (docs/AGREEMENT.md), `make plants`, `make edits`, `make unseen` and `make
+# memory` (docs/AUDIT.md).
 PROGRAM = crates/pahole/out/pahole
 
 SHELL = bash
@@ -20,22 +21,26 @@ demo: pahole
 test:
 	bash .ci/run
 
-# PAHOLE=path measures another program, RUNS=n times each row so often, VMLINUX=path names a kernel, REAL=folder one of other programs
-# (tools/real-programs.sh builds some), WRITE=1 writes docs/SPEED.md's table. It also runs the check of growth over files five times as large, and with
+# PAHOLE=path measures another program, RUNS=n times each row so often, VMLINUX=path names a kernel,
+# REAL=folder one of other programs (tools/real-programs.sh builds some), WRITE=1 writes
+# docs/SPEED.md's table. It also runs the check of growth over files five times as large, and with
 # LARGE=1 that of damage (10,000 runs)
 measure:
 	bash tools/measure.sh $(VMLINUX)
 
-# the program and Debian's tool pahole in turn, on VMLINUX, TURNS=n times; WRITE=1 writes docs/SPEED.md's table of turns
+# the program and Debian's tool pahole in turn, on VMLINUX, TURNS=n times; WRITE=1 writes
+# docs/SPEED.md's table of turns
 turns:
 	bash tools/turns.sh $(VMLINUX) $(TURNS)
 
-# whether Debian's tool pahole writes the same types for FILES='a b', compared by what they are; FUNCS=1 looks at functions, too
+# whether Debian's tool pahole writes the same types for FILES='a b', compared by what they are;
+# FUNCS=1 looks at functions, too
 agree:
 	python3 -B tools/agree.py $(PROGRAM) $(if $(FUNCS),--funcs) $(FILES)
 
-# the same of five real programs, by gcc and clang, with DWARF 4 and 5, and of their objects: builds them in the folder
-# REAL where they aren't there, and with WRITE=1 writes docs/AGREEMENT.md's tables
+# the same of five real programs, by gcc and clang, with DWARF 4 and 5, and of their objects: builds
+# them in the folder REAL where they aren't there, and with WRITE=1 writes docs/AGREEMENT.md's
+# tables
 ways:
 	bash tools/ways.sh $(REAL)
 
@@ -47,11 +52,13 @@ plants:
 unseen:
 	bash tools/unseen.sh $(EDITS)
 
-# tries the edits that must fail and are no part of the gate (crates/NAME/more-edits); CRATES='a b' those of these alone
+# tries the edits that must fail and are no part of the gate (crates/NAME/more-edits); CRATES='a b'
+# those of these alone
 edits:
 	bash tools/edits.sh $(CRATES)
 
-# refuses the built program each request for memory in turn, on CASES='a b' of crates/run_cases/data or on those that tools/memory.sh names; STEP=n tries
-# every nth alone, MOST=n at most n of each case
+# refuses the built program each request for memory in turn, on CASES='a b' of crates/run_cases/data
+# or on those that tools/memory.sh names; STEP=n tries every nth alone, MOST=n at most n of each
+# case
 memory:
 	bash tools/memory.sh $(CASES)

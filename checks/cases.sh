@@ -1,7 +1,8 @@
 #!/usr/bin/env bash
-# Runs the built program on each folder of crates/run_cases/data (see the README.md there) and compares the exit status,
-# standard output, standard error, the stored file `o` and the files left behind, byte by byte. Folders that need limits of
-# their own or a world that fails are for the program run_cases alone.
+# Runs the built program on each folder of crates/run_cases/data (see the README.md there) and
+# compares the exit status, standard output, standard error, the stored file `o` and the files left
+# behind, byte by byte. Folders that need limits of their own or a world that fails are for the
+# program run_cases alone.
 set -u
 export LC_ALL=C
 . "$(dirname "$0")/lib/program.sh"
@@ -35,7 +36,8 @@ for folder in "$root"/crates/run_cases/data/*/; do
 
   words=()
   while IFS= read -r word || [ -n "$word" ]; do words+=("$word"); done <"${folder}words"
-  (cd "$run" && exec "$program" ${words[@]+"${words[@]}"}) >"$scratch/out" 2>"$scratch/err" </dev/null
+  (cd "$run" && exec "$program" ${words[@]+"${words[@]}"}) \
+    >"$scratch/out" 2>"$scratch/err" </dev/null
   had=$?
 
   wrong=$(

@@ -1,9 +1,11 @@
 #!/usr/bin/env bash
-# Damages real files RUNS times (by default 3,000), always the same way: 1 to 8 bytes are changed, half of them in the sections of debugging
-# information, or the file is cut off. Each time the built program, with options that change from run to run, ends within seconds with a status
-# from 0 to 5, by no signal, stores or prints nothing unless it ends with 0, and complains one line of its form, or nothing on 0. The files are the
-# program of demo/ for this machine and, where compilers for them are installed, for 32 bits and big-endian machines, of DWARF 4, as a
-# relocatable object, and with type tags of clang; BTF files, and split tables over a base, of which one or the other is damaged.
+# Damages real files RUNS times (by default 3,000), always the same way: 1 to 8 bytes are changed,
+# half of them in the sections of debugging information, or the file is cut off. Each time the built
+# program, with options that change from run to run, ends within seconds with a status from 0 to 5,
+# by no signal, stores or prints nothing unless it ends with 0, and complains one line of its form,
+# or nothing on 0. The files are the program of demo/ for this machine and, where compilers for them
+# are installed, for 32 bits and big-endian machines, of DWARF 4, as a relocatable object, and with
+# type tags of clang; BTF files, and split tables over a base, of which one or the other is damaged.
 set -u
 export LC_ALL=C
 . "$(dirname "$0")/lib/program.sh"
@@ -16,7 +18,8 @@ sources=("$root/demo/registry.c" "$root/demo/main.c")
 build() {
   local compiler=$1 name=$2
   shift 2
-  "$compiler" -w -g -o "$scratch/$name" "$@" 2>/dev/null || echo "skipped damage $name: $compiler can't build it"
+  "$compiler" -w -g -o "$scratch/$name" "$@" 2>/dev/null ||
+    echo "skipped damage $name: $compiler can't build it"
 }
 build cc elf.1 -gdwarf-5 "${sources[@]}"
 build cc elf.2 -gdwarf-5 -m32 "${sources[@]}"
@@ -25,11 +28,16 @@ build mips-linux-gnu-gcc elf.4 -gdwarf-5 "${sources[@]}"
 build cc elf.5 -gdwarf-4 "${sources[@]}"
 build cc elf.6 -gdwarf-5 -c "${sources[0]}"
 build aarch64-linux-gnu-gcc elf.7 -gdwarf-4 -c "${sources[1]}"
-printf '%s\n' 'int __attribute__((btf_type_tag("user"))) *where; struct at { int __attribute__((btf_type_tag("rcu"))) *to; } at;' >"$scratch/tags.c"
+cat >"$scratch/tags.c" <<'C'
+int __attribute__((btf_type_tag("user"))) *where;
+struct at { int __attribute__((btf_type_tag("rcu"))) *to; } at;
+C
 build clang elf.8 -glldb -c "$scratch/tags.c"
 [ -f "$scratch/elf.1" ] || exit 2
 # BTF files: a table, and a split one over it
-if (cd "$scratch" && "$program" --btf_encode_detached=btf.base elf.6 && "$program" --btf_encode_detached=btf.split --btf_base=btf.base elf.1); then :; else
-  echo "failed damage: the base or the table over it can't be made"
-fi
+tables() {
+  cd "$scratch" && "$program" --btf_encode_detached=btf.base elf.6 &&
+    "$program" --btf_encode_detached=btf.split --btf_base=btf.base elf.1
+}
+(tables) || echo "failed damage: the base or the table over it can't be made"
 python3 -B "$root/checks/lib/damage.py" "$program" "$scratch" ${RUNS:+"$RUNS"}

@@ -1,7 +1,9 @@
 #!/usr/bin/env bash
-# Functions: checks/lib/functions.c, built by gcc and clang in several ways and encoded with --funcs. The functions in the table, each with its
-# linkage, its prototype and its parameters' names, are those of the BTF that clang itself writes of the same file for the BPF target, and their
-# names those that Debian's tool pahole finds; bpftool reads the table. Without --funcs there is none. What is not installed is skipped by name.
+# Functions: checks/lib/functions.c, built by gcc and clang in several ways and encoded with
+# --funcs. The functions in the table, each with its linkage, its prototype and its parameters'
+# names, are those of the BTF that clang itself writes of the same file for the BPF target, and
+# their names those that Debian's tool pahole finds; bpftool reads the table. Without --funcs there
+# is none. What is not installed is skipped by name.
 set -u
 export LC_ALL=C PATH=$PATH:/usr/sbin:/sbin
 . "$(dirname "$0")/lib/program.sh"
@@ -9,4 +11,5 @@ export LC_ALL=C PATH=$PATH:/usr/sbin:/sbin
 need functions cc python3
 scratch=$(mktemp -d) || exit 2
 trap 'rm -rf "$scratch"' EXIT
-python3 -B "$root/checks/lib/functions.py" "$program" "$root/checks/lib/functions.c" "$root/demo" "$scratch"
+lib=$root/checks/lib
+python3 -B "$lib/functions.py" "$program" "$lib/functions.c" "$root/demo" "$scratch"

@@ -1,6 +1,7 @@
 #!/usr/bin/env bash
-# The manual page docs/man/pahole.1: groff and mandoc read it without a warning, each skipped by name where it is not installed. Its
-# options are those of the README's table, and these are those of the table that the words are read by.
+# The manual page docs/man/pahole.1: groff and mandoc read it without a warning, each skipped by
+# name where it is not installed. Its options are those of the README's table, and these are those
+# of the table that the words are read by.
 set -u
 export LC_ALL=C
 root=$(cd "$(dirname "$0")/.." && pwd) || exit 2
@@ -28,10 +29,15 @@ quiet mandoc mandoc -Tlint -Wstyle "$page"
 spellings() { sed -E 's/^(--[a-z_]+=).*/\1/; s/^(-[A-Za-z]).*/\1/' | sort -u; }
 
 # the paragraphs with a tag under OPTIONS
-awk '/^\.SH / { inside = ($2 == "OPTIONS") } inside && tagged { print; tagged = 0 } inside && /^\.TP/ { tagged = 1 }' "$page" |
+awk '
+  /^\.SH / { inside = ($2 == "OPTIONS") }
+  inside && tagged { print; tagged = 0 }
+  inside && /^\.TP/ { tagged = 1 }' "$page" |
   sed -E 's/^\.[BI]+ //; s/\\-/-/g' | spellings >"$scratch/page"
 # the first cell of each row of the table under Options; a cell that begins with a word is no option
-awk '/^## / { inside = ($2 == "Options") } inside && /^\| `/ { split($0, cells, "|"); print cells[2] }' "$root/README.md" |
+awk '
+  /^## / { inside = ($2 == "Options") }
+  inside && /^\| `/ { split($0, cells, "|"); print cells[2] }' "$root/README.md" |
   grep -o '`-[^`]*`' | tr -d '`' | spellings >"$scratch/readme"
 # `--` is a role of a word and no row of the table
 {

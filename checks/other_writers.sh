@@ -1,7 +1,8 @@
 #!/usr/bin/env bash
-# BTF files of other writers are read: the built program shows the sizes of their structures, and where bpftool is installed, these are
-# the sizes that it tells of the same file. The writers are the tool pahole, clang for the BPF target in both byte orders, and the kernel
-# that this machine runs. A writer that isn't here is skipped by name.
+# BTF files of other writers are read: the built program shows the sizes of their structures, and
+# where bpftool is installed, these are the sizes that it tells of the same file. The writers are
+# the tool pahole, clang for the BPF target in both byte orders, and the kernel that this machine
+# runs. A writer that isn't here is skipped by name.
 set -u
 export LC_ALL=C
 . "$(dirname "$0")/lib/program.sh"
@@ -37,8 +38,8 @@ static volatile int used = 3;
 int first(int word, const char **words) { return all.live + owner.is + used + word + words[0][0]; }
 C
 
-# The names and sizes that bpftool tells of a file, in the order of ids: of structures and unions with a name, and of typedefs of
-# those without one.
+# The names and sizes that bpftool tells of a file, in the order of ids: of structures and unions
+# with a name, and of typedefs of those without one.
 told() {
   bpftool btf dump file "$1" format raw | awk '
     /^\[/ {
@@ -54,7 +55,8 @@ told() {
       for (id = 1; id <= last; id++) {
         to = number[id]
         if (is_structure(id) && name[id] != "(anon)") print name[id] "\t" number[id]
-        if (kind[id] == "TYPEDEF" && is_structure(to) && name[to] == "(anon)") print name[id] "\t" number[to]
+        if (kind[id] == "TYPEDEF" && is_structure(to) && name[to] == "(anon)")
+          print name[id] "\t" number[to]
       }
     }'
 }
@@ -84,7 +86,8 @@ command -v bpftool >/dev/null || echo "skipped bpftool: it is not installed"
 
 if ! command -v cc >/dev/null || [[ $(pahole --version 2>/dev/null) != v* ]]; then
   echo "skipped the tool pahole: it or a C compiler is not installed"
-elif cc -g -c -o "$scratch/types.o" "$scratch/types.c" && pahole --btf_encode_detached="$scratch/pahole.btf" "$scratch/types.o"; then
+elif cc -g -c -o "$scratch/types.o" "$scratch/types.c" &&
+  pahole --btf_encode_detached="$scratch/pahole.btf" "$scratch/types.o"; then
   reads "the tool pahole" "$scratch/pahole.btf"
 else
   echo "skipped the tool pahole: it writes no file"
@@ -95,7 +98,8 @@ for target in bpfel bpfeb; do
   if ! command -v clang >/dev/null || [ -z "$cutter" ]; then
     echo "skipped clang $target: clang or objcopy is not installed"
   elif clang -target "$target" -g -O2 -c -o "$scratch/$target.o" "$scratch/types.c" 2>/dev/null &&
-    "$cutter" --dump-section .BTF="$scratch/$target.btf" "$scratch/$target.o" /dev/null 2>/dev/null; then
+    "$cutter" --dump-section .BTF="$scratch/$target.btf" "$scratch/$target.o" /dev/null \
+      2>/dev/null; then
     reads "clang $target" "$scratch/$target.btf"
   else
     echo "skipped clang $target: it writes no file, or $cutter can't cut it out"

@@ -1,9 +1,11 @@
 #!/usr/bin/env bash
-# Real programs: the C program of demo/, built by compilers in several ways and for several machines, encoded and shown by the built
-# program with one worker and with four. Both give the same bytes, bpftool and libbpf read them, and each structure's size and the places
-# and bits of its members, in the table and in the printed layouts, are what the compiler says of them. The objects of that program, and of a
-# larger one that is made here, give the linked program's table, and each alone some of its types. Files of a kind that is not
-# read are refused with their number and place. What is not installed is skipped by name; tools/install-tools.sh installs it.
+# Real programs: the C program of demo/, built by compilers in several ways and for several
+# machines, encoded and shown by the built program with one worker and with four. Both give the same
+# bytes, bpftool and libbpf read them, and each structure's size and the places and bits of its
+# members, in the table and in the printed layouts, are what the compiler says of them. The objects
+# of that program, and of a larger one that is made here, give the linked program's table, and each
+# alone some of its types. Files of a kind that is not read are refused with their number and place.
+# What is not installed is skipped by name; tools/install-tools.sh installs it.
 set -u
 export LC_ALL=C
 . "$(dirname "$0")/lib/program.sh"

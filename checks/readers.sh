@@ -1,7 +1,8 @@
 #!/usr/bin/env bash
-# Other readers of BTF accept what the program stores (the files stored.o.hex of the cases, which checks/cases.sh
-# compares with the program's), a split table over its base: bpftool, and a small C program over libbpf's btf__parse
-# and btf__parse_split. A reader that isn't installed is skipped by name.
+# Other readers of BTF accept what the program stores (the files stored.o.hex of the cases, which
+# checks/cases.sh compares with the program's), a split table over its base: bpftool, and a small C
+# program over libbpf's btf__parse and btf__parse_split. A reader that isn't installed is skipped by
+# name.
 set -u
 export LC_ALL=C PATH=$PATH:/usr/sbin:/sbin
 root=$(cd "$(dirname "$0")/.." && pwd) || exit 2
@@ -46,7 +47,9 @@ cat >"$scratch/parse.c" <<'C'
 
 int main(int count, char **words) {
 	struct btf *base = count == 3 ? btf__parse(words[2], NULL) : NULL;
-	struct btf *btf = count < 2 ? NULL : base ? btf__parse_split(words[1], base) : btf__parse(words[1], NULL);
+	struct btf *btf = NULL;
+	if (count > 1)
+		btf = base ? btf__parse_split(words[1], base) : btf__parse(words[1], NULL);
 	if (!btf || libbpf_get_error(btf)) {
 		fprintf(stderr, "btf__parse refuses it\n");
 		return 1;

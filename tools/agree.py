@@ -1,9 +1,10 @@
-"""agree.py PROGRAM [--funcs] FILE..: whether PROGRAM and Debian's tool pahole write the same types for each FILE. Both
-tables are compared by what their types are, not by ids: each type with a name, with its size, its members, their
-places and bits, and what these refer to, named types by their kind and name. Prints a line for each file, and with it
-each type that one of the two alone has. What differs on purpose is counted apart, by its cause.
-With --funcs a second line tells how many names of functions both have with one prototype, and which have another one,
-or are in one alone."""
+"""agree.py PROGRAM [--funcs] FILE..: whether PROGRAM and Debian's tool pahole write the same
+types for each FILE. Both tables are compared by what their types are, not by ids: each type with
+a name, with its size, its members, their places and bits, and what these refer to, named types
+by their kind and name. Prints a line for each file, and with it each type that one of the two
+alone has. What differs on purpose is counted apart, by its cause. With --funcs a second line
+tells how many names of functions both have with one prototype, and which have another one, or
+are in one alone."""
 import collections
 import os
 import re
@@ -16,11 +17,14 @@ from described import Described
 
 PEER = ["pahole", "--skip_encoding_btf_vars", "--btf_gen_floats", "--btf_encode_detached=o"]
 DECLARABLE = ("STRUCT", "UNION")
-INDEX, ATOMIC, DECLARED = "the type of indices", "`_Atomic`", "declarations beside several definitions"
+INDEX = "the type of indices"
+ATOMIC = "`_Atomic`"
+DECLARED = "declarations beside several definitions"
 ODD = "integers of sizes that BTF has none of"
 # the type of indices there, also where a file has no `int`
 INDEX_THERE = "INT int 4 0x1000020"
-# integers of 3 or 6 bytes, which clang names so in expressions of places: a structure of that size here, and one integer for all of them there
+# integers of 3 or 6 bytes, which clang names so in expressions of places: a structure of that size
+# here, and one integer for all of them there
 ODD_HERE, ODD_THERE = re.compile(r"STRUCT DW_ATE_\w+ \d+ 0 \{\}"), "INT __SANITIZED_FAKE_INT__ "
 # what differs on purpose, and what shows a fault of one of the two
 MEANT, BITS = (INDEX, ATOMIC, DECLARED, ODD), "places of bit fields"
@@ -30,12 +34,15 @@ SHOWN, FEW = 20, 8
 
 def defined_often(table):
     """The kind and the name of each structure and union that has several definitions in a table."""
-    counts = collections.Counter((one.kind, one.name) for one in table.types if one and one.kind in DECLARABLE)
+    counts = collections.Counter(
+        (one.kind, one.name) for one in table.types if one and one.kind in DECLARABLE
+    )
     return {each for each, count in counts.items() if count > 1}
 
 
 def cause(where, told, often):
-    """Why a type may be in one of the tables alone, by its text and by what has several definitions."""
+    """Why a type may be in one of the tables alone, by its text and by what has several
+    definitions."""
     if "__ARRAY_SIZE_TYPE__" in told or (where, told) == ("there", INDEX_THERE):
         return INDEX
     if "_Atomic" in told:
@@ -49,7 +56,8 @@ def cause(where, told, often):
 
 
 def without_places(told):
-    """A type's text, where each bit field has its size alone: the word of a member has that in its first byte."""
+    """A type's text, where each bit field has its size alone: the word of a member has that in
+    its first byte."""
     return re.sub(r"@0x([0-9a-f]{1,2})[0-9a-f]{6}\b", r"@\1 bits", told)
 
 
@@ -59,24 +67,39 @@ def head(told):
 
 
 def differing(ours, theirs):
-    """How many types two tables have in common, and each one that is in one of them alone: where, its text, and why,
-    by its own text or by that of another one of its kind and name. Functions are left out."""
-    here, there = ({told for told in each.named() if not told.startswith("FUNC ")} for each in (ours, theirs))
-    alone = [("here", told) for told in sorted(here - there)] + [("there", told) for told in sorted(there - here)]
+    """How many types two tables have in common, and each one that is in one of them alone:
+    where, its text, and why, by its own text or by that of another one of its kind and name.
+    Functions are left out."""
+    here, there = (
+        {told for told in each.named() if not told.startswith("FUNC ")} for each in (ours, theirs)
+    )
+    alone = [("here", told) for told in sorted(here - there)] + [
+        ("there", told) for told in sorted(there - here)
+    ]
     often = defined_often(ours)
     of_name = {head(told): why for where, told in alone if (why := cause(where, told, often))}
-    moved = {without_places(told) for told in here - there} & {without_places(told) for told in there - here}
-    whys = [of_name.get(head(told)) or (BITS if without_places(told) in moved else None) for _, told in alone]
+    moved = {without_places(told) for told in here - there} & {
+        without_places(told) for told in there - here
+    }
+    whys = [
+        of_name.get(head(told)) or (BITS if without_places(told) in moved else None)
+        for _, told in alone
+    ]
     return len(here & there), [(where, told, why) for (where, told), why in zip(alone, whys)]
 
 
 def differing_functions(ours, theirs):
-    """How many functions of two tables are the same, and the names of the others, by what differs. That the tool
-    pahole says of each that it is static counts for nothing."""
-    here, there = ({one: told[1:] for one, told in each.functions().items()} for each in (ours, theirs))
+    """How many functions of two tables are the same, and the names of the others, by what
+    differs. That the tool pahole says of each that it is static counts for nothing."""
+    here, there = (
+        {one: told[1:] for one, told in each.functions().items()} for each in (ours, theirs)
+    )
     both = set(here) & set(there)
     other = sorted(one for one in both if here[one] != there[one])
-    alone = [("are here alone", sorted(set(here) - both)), ("are there alone", sorted(set(there) - both))]
+    alone = [
+        ("are here alone", sorted(set(here) - both)),
+        ("are there alone", sorted(set(there) - both)),
+    ]
     return len(both) - len(other), [("have another prototype", other), *alone]
 
 
@@ -107,7 +130,10 @@ def told_causes(whys):
 def line_of_functions(name, ours, theirs):
     """A line on the functions of two tables."""
     same, parts = differing_functions(ours, theirs)
-    told = [f"{len(names)} {what}{' (' + ', '.join(names[:FEW]) + ')' if names else ''}" for what, names in parts]
+    told = [
+        f"{len(names)} {what}{' (' + ', '.join(names[:FEW]) + ')' if names else ''}"
+        for what, names in parts
+    ]
     return f"told agree {name}: {same} functions are the same; {'; '.join(told)}"
 
 

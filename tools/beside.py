@@ -1,5 +1,7 @@
-"""beside.py PROGRAM BTF NAME..: whether PROGRAM and Debian's tool pahole place the members of structures of a BTF file alike: of each direct member the first
-bit, and its size where it is no bit field; the size of each structure, and the bits of its holes together. What differs in form alone is in docs/AGREEMENT.md."""
+"""beside.py PROGRAM BTF NAME..: whether PROGRAM and Debian's tool pahole place the members of
+structures of a BTF file alike: of each direct member the first bit, and its size where it is no
+bit field; the size of each structure, and the bits of its holes together. What differs in form
+alone is in docs/AGREEMENT.md."""
 import re
 import subprocess
 import sys
@@ -11,12 +13,15 @@ HOLES, BITS = re.compile(r"sum holes: (\d+)"), re.compile(r"sum bit holes: (\d+)
 
 
 def name_of(declaration):
-    """A member's own name, without its type, its array's length and its bits; none for a structure without a name."""
+    """A member's own name, without its type, its array's length and its bits; none for a
+    structure without a name."""
     plain = re.sub(r"__attribute__\(\(.*\)\)", "", declaration).strip().rstrip(";")
     inner = re.search(r"\(\s*\*+\s*(?:const )?(\w+)", plain)
     if inner:
         return inner[1]
-    found = re.search(r"(\w+)\s*(?:\[.*\])?\s*(?::\d+)?$", re.sub(r"\{\.\.\.\}\s*", "{...} ", plain))
+    found = re.search(
+        r"(\w+)\s*(?:\[.*\])?\s*(?::\d+)?$", re.sub(r"\{\.\.\.\}\s*", "{...} ", plain)
+    )
     return None if not found or plain.endswith("}") else found[1]
 
 
@@ -28,8 +33,11 @@ def described(text):
         if found and not found[1].endswith("{"):
             name = name_of(found[1])
             bits = ":" in found[1].split(";")[0] and re.search(r":\d+", found[1])
-            members.append((name, 8 * int(found[2]) + int(found[3] or 0), None if bits else int(found[4])))
-    sums, free = SUMS.search(text), 8 * sum(map(int, HOLES.findall(text))) + sum(map(int, BITS.findall(text)))
+            members.append(
+                (name, 8 * int(found[2]) + int(found[3] or 0), None if bits else int(found[4]))
+            )
+    sums = SUMS.search(text)
+    free = 8 * sum(map(int, HOLES.findall(text))) + sum(map(int, BITS.findall(text)))
     return [one for one in members if one[0]], sums and sums.groups(), free
 
 
@@ -41,11 +49,16 @@ def main():
     program, table, *names = sys.argv[1:]
     failed = False
     for name in names:
-        ours, theirs = (described(shown([tool, "-F", "btf", "-C", name, table])) for tool in (program, "pahole"))
+        ours, theirs = (
+            described(shown([tool, "-F", "btf", "-C", name, table])) for tool in (program, "pahole")
+        )
         wrong = next((f"{a} here, {b} there" for a, b in zip(ours[0], theirs[0]) if a != b), None)
         if wrong is None and ours != theirs:
             wrong = f"{len(ours[0])} members, {ours[1:]} here, {len(theirs[0])}, {theirs[1:]} there"
-        print(f"failed beside {name}: {wrong}" if wrong else f"passed beside {name}: {len(ours[0])} members")
+        if wrong:
+            print(f"failed beside {name}: {wrong}")
+        else:
+            print(f"passed beside {name}: {len(ours[0])} members")
         failed |= wrong is not None
     return failed
 

@@ -1,7 +1,8 @@
 #!/usr/bin/env bash
-# demo.sh PROGRAM: encodes the smallest file, of one `int`; then compiles the C program of demo/ with debugging information, encodes its
-# types, prints the layout of a structure with holes, and shows the types as another reader of BTF does, where one is installed. Without
-# a C compiler the first is all.
+# demo.sh PROGRAM: encodes the smallest file, of one `int`; then compiles the C program of demo/
+# with debugging information, encodes its types, prints the layout of a structure with holes, and
+# shows the types as another reader of BTF does, where one is installed. Without a C compiler the
+# first is all.
 set -eu
 program=$(cd "$(dirname "$1")" && pwd)/$(basename "$1")
 root=$(cd "$(dirname "$0")/.." && pwd)

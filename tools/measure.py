@@ -1,6 +1,7 @@
-"""measure.py PROGRAM ROOT FOLDER RUNS [VMLINUX]: the rows of docs/SPEED.md. Each row is a run of PROGRAM over an input that is found on this
-machine or made in FOLDER: its time, its memory, and what came of it. Prints the rows as a table, with the machine and the tools, and
-a line `skipped NAME: ..` or `failed NAME: ..` on standard error for a row that there is not."""
+"""measure.py PROGRAM ROOT FOLDER RUNS [VMLINUX]: the rows of docs/SPEED.md. Each row is a run of
+PROGRAM over an input that is found on this machine or made in FOLDER: its time, its memory, and
+what came of it. Prints the rows as a table, with the machine and the tools, and a line `skipped
+NAME: ..` or `failed NAME: ..` on standard error for a row that there is not."""
 import collections
 import glob
 import json
@@ -19,7 +20,10 @@ from btf import KINDS as BTF_KINDS, count, kinds
 from made import KINDS, Made
 
 KERNELS = "/usr/lib/debug/boot/vmlinux-*"
-PACKAGE = "linux-image-6.1.0-*-amd64-dbg of Debian 12 has one of 633 MB; a path is taken too: tools/measure.sh VMLINUX"
+PACKAGE = (
+    "linux-image-6.1.0-*-amd64-dbg of Debian 12 has one of 633 MB; a path is taken too: "
+    "tools/measure.sh VMLINUX"
+)
 OWN = "/sys/kernel/btf/vmlinux"
 TIMER = "/usr/bin/time"
 
@@ -46,12 +50,27 @@ MODULES = ["xfs.ko", "btrfs.ko", "mac80211.ko", "amdgpu.ko"]
 MADE = "a made input of 2,100,224 types"
 MODULE, MODULE_PEER = "a module of a kernel, {}", "{}, by the tool pahole"
 MADE_NUMBER, MADE_LINE = 8388607, b"units 1024, entries 2100224, types 16387, bytes 398366\n"
-# other programs, which tools/real-programs.sh builds: the files of the folder REAL, each by another program too
+# other programs, which tools/real-programs.sh builds: the files of the folder REAL, each by another
+# program too
 REAL, REAL_PEER = "the program {}", "{}, by the tool pahole"
 REAL_NAMES = ["busybox", "git", "postgres", "redis", "sqlite3"]
-ALL = [KERNEL, KERNEL_TWO, KERNEL_ONE, FUNCS, FUNCS_ONE, KERNEL_LAYOUT, PEER, PEER_ONE, TABLE, OVER, *WHATS.values(), WIDE, MADE,
-       *(form.format(name) for name in MODULES for form in (MODULE, MODULE_PEER)),
-       *(form.format(name) for name in REAL_NAMES for form in (REAL, REAL_PEER))]
+ALL = [
+    KERNEL,
+    KERNEL_TWO,
+    KERNEL_ONE,
+    FUNCS,
+    FUNCS_ONE,
+    KERNEL_LAYOUT,
+    PEER,
+    PEER_ONE,
+    TABLE,
+    OVER,
+    *WHATS.values(),
+    WIDE,
+    MADE,
+    *(form.format(name) for name in MODULES for form in (MODULE, MODULE_PEER)),
+    *(form.format(name) for name in REAL_NAMES for form in (REAL, REAL_PEER)),
+]
 
 
 said = []
@@ -64,13 +83,16 @@ def say(line):
 
 
 def run_once(words, folder):
-    """A run's time, and the most memory that it had. Where /usr/bin/time is missing, memory below that of this program isn't seen."""
+    """A run's time, and the most memory that it had. Where /usr/bin/time is missing, memory
+    below that of this program isn't seen."""
     note, timer = f"{folder}/time", []
     if os.access(TIMER, os.X_OK):
         timer = [TIMER, "-q", "-o", note, "-f", "%M"]
     with open(f"{folder}/printed", "wb") as out, open(f"{folder}/complaint", "wb") as err:
         begin = time.perf_counter()
-        process = subprocess.Popen([*timer, *words], cwd=folder, stdin=subprocess.DEVNULL, stdout=out, stderr=err)
+        process = subprocess.Popen(
+            [*timer, *words], cwd=folder, stdin=subprocess.DEVNULL, stdout=out, stderr=err
+        )
         _, status, usage = os.wait4(process.pid, 0)
         wall = time.perf_counter() - begin
     process.returncode = os.waitstatus_to_exitcode(status)
@@ -82,19 +104,26 @@ def run_once(words, folder):
 
 
 def measure(words, folder, runs):
-    """The status of a first run, its memory, and the times of `runs` more by hyperfine, or else the median of as many."""
+    """The status of a first run, its memory, and the times of `runs` more by hyperfine, or else
+    the median of as many."""
     status, first = run_once(words, folder)
     if status != 0:
         return status, first
     if shutil.which("hyperfine"):
         told = f"{folder}/told"
         command = ["hyperfine", "-N", "--runs", str(runs), "--export-json", told, shlex.join(words)]
-        subprocess.run(command, cwd=folder, stdout=subprocess.DEVNULL, stderr=subprocess.DEVNULL, check=True)
+        subprocess.run(
+            command, cwd=folder, stdout=subprocess.DEVNULL, stderr=subprocess.DEVNULL, check=True
+        )
         with open(told) as file:
             one = json.load(file)["results"][0]
         return 0, Run(one["median"], one["user"] + one["system"], first.memory)
     more = [run_once(words, folder)[1] for _ in range(runs)]
-    return 0, Run(statistics.median(one.wall for one in more), statistics.median(one.used for one in more), first.memory)
+    return 0, Run(
+        statistics.median(one.wall for one in more),
+        statistics.median(one.used for one in more),
+        first.memory,
+    )
 
 
 def number(value):
@@ -122,7 +151,8 @@ def outcome(folder):
 
 
 def show(row, folder, runs, more=lambda row: ""):
-    """Prints a row, with more that is found of what was stored; answers the table that was stored."""
+    """Prints a row, with more that is found of what was stored; answers the table that was
+    stored."""
     stored = f"{folder}/o"
     if os.path.exists(stored):
         os.remove(stored)
@@ -131,7 +161,14 @@ def show(row, folder, runs, more=lambda row: ""):
         complaint = read(f"{folder}/complaint").decode(errors="replace").strip()[:200]
         say(f"failed {row.what}: status {status}, {complaint}")
         return b""
-    cells = [row.what, row.given, seconds(run.wall), seconds(run.used), f"{number(round(run.memory / 1e6))} MB", outcome(folder) + more(row)]
+    cells = [
+        row.what,
+        row.given,
+        seconds(run.wall),
+        seconds(run.used),
+        f"{number(round(run.memory / 1e6))} MB",
+        outcome(folder) + more(row),
+    ]
     print(f"| {' | '.join(cells)} |", flush=True)
     return read(stored) if os.path.exists(stored) else b""
 
@@ -156,17 +193,22 @@ def machine(program, runs):
     }
     name = model[1] if model else platform.machine()
     load = os.getloadavg()[0]
-    print(f"Machine: {os.cpu_count()} processors ({name}), {round(memory / 1e9)} GB, Linux {platform.release()}, at a load of {load:.1f}.")
+    print(
+        f"Machine: {os.cpu_count()} processors ({name}), {round(memory / 1e9)} GB, "
+        f"Linux {platform.release()}, at a load of {load:.1f}."
+    )
     print(f"Tools: {', '.join(what + version for what, version in told.items() if version)}.")
-    print(f"The program has {number(os.path.getsize(program))} bytes. Each time is {'that of one run' if runs == 1 else f'the median of {runs} runs'}.")
+    each = "that of one run" if runs == 1 else f"the median of {runs} runs"
+    print(f"The program has {number(os.path.getsize(program))} bytes. Each time is {each}.")
     print()
     print("| What | Input | Time | Processor time | Memory | Answer |")
     print("|---|---|---|---|---|---|", flush=True)
 
 
 def kernel(program, folder, runs, named):
-    """A kernel with its DWARF: its table by as many workers as there are processors and by one, a layout, and the table of another program.
-    Answers the tables, that with functions and that of the other program."""
+    """A kernel with its DWARF: its table by as many workers as there are processors and by one,
+    a layout, and the table of another program. Answers the tables, that with functions and that
+    of the other program."""
     found = [named] if named else sorted(glob.glob(KERNELS))
     if not found:
         say(f"skipped {KERNEL}: there is no {KERNELS}; the package {PACKAGE}")
@@ -174,25 +216,42 @@ def kernel(program, folder, runs, named):
     path, workers = os.path.abspath(found[-1]), min(os.cpu_count(), 256)
     given = f"`{os.path.basename(path)}`, {number(os.path.getsize(path))} bytes"
     encode = [program, "--btf_encode_detached=o"]
-    many = show(Row(KERNEL, f"{given}, `-j{workers}`", [*encode, f"-j{workers}", path]), folder, runs)
+    many = show(
+        Row(KERNEL, f"{given}, `-j{workers}`", [*encode, f"-j{workers}", path]), folder, runs
+    )
     two = show(Row(KERNEL_TWO, "the same, `-j2`", [*encode, "-j2", path]), folder, runs)
     one = show(Row(KERNEL_ONE, "the same, `-j1`", [*encode, "-j1", path]), folder, runs)
     if not many == two == one:
         say(f"failed {KERNEL_ONE}: another table than by more workers")
-    funcs = show(Row(FUNCS, f"the same, `--funcs -j{workers}`", [*encode, "--funcs", f"-j{workers}", path]), folder, runs)
-    if funcs != show(Row(FUNCS_ONE, "the same, `--funcs -j1`", [*encode, "--funcs", "-j1", path]), folder, runs):
+    funcs = show(
+        Row(FUNCS, f"the same, `--funcs -j{workers}`", [*encode, "--funcs", f"-j{workers}", path]),
+        folder,
+        runs,
+    )
+    if funcs != show(
+        Row(FUNCS_ONE, "the same, `--funcs -j1`", [*encode, "--funcs", "-j1", path]), folder, runs
+    ):
         say(f"failed {FUNCS_ONE}: another table than by {workers} workers")
-    show(Row(KERNEL_LAYOUT, "the same, `-C list_head`", [program, "-C", "list_head", path]), folder, runs)
+    show(
+        Row(KERNEL_LAYOUT, "the same, `-C list_head`", [program, "-C", "list_head", path]),
+        folder,
+        runs,
+    )
     if tool(["pahole", "--version"], r"v(\S+)"):
         words = ["pahole", "--btf_encode_detached=o", path]
         show(Row(PEER_ONE, "the same", words), folder, runs)
-        return one, funcs, show(Row(PEER, f"the same, `-j{workers}`", [*words, f"-j{workers}"]), folder, runs)
+        return (
+            one,
+            funcs,
+            show(Row(PEER, f"the same, `-j{workers}`", [*words, f"-j{workers}"]), folder, runs),
+        )
     say(f"skipped {PEER}: it is not installed")
     return one, funcs, b""
 
 
 def read_back(folder):
-    """A reader of what is stored over the kernel's table: the words for a row, where bpftool is installed and reads it."""
+    """A reader of what is stored over the kernel's table: the words for a row, where bpftool is
+    installed and reads it."""
     if not shutil.which("bpftool"):
         say(f"skipped {MODULE.format('read back')}: bpftool is not installed")
         return lambda row: ""
@@ -204,7 +263,8 @@ def read_back(folder):
         lines = len(re.findall(rb"^\[\d+\]", done.stdout, re.M))
         if done.returncode != 0 or lines != count(read(f"{folder}/o")):
             complaint = done.stderr.decode(errors="replace").strip()[:200]
-            say(f"failed {row.what}: bpftool reads {number(lines)} types, status {done.returncode}, {complaint}")
+            had = f"{number(lines)} types, status {done.returncode}, {complaint}"
+            say(f"failed {row.what}: bpftool reads {had}")
             return ""
         return ", read by bpftool"
 
@@ -240,14 +300,28 @@ def real_programs(program, folder, runs):
             continue
         name = os.path.basename(path)
         given = f"`{name}`, {number(os.path.getsize(path))} bytes"
-        show(Row(REAL.format(name), given, [program, "--btf_encode_detached=o", "--funcs", path]), folder, runs)
+        show(
+            Row(REAL.format(name), given, [program, "--btf_encode_detached=o", "--funcs", path]),
+            folder,
+            runs,
+        )
         if has_peer:
-            show(Row(REAL_PEER.format(name), "the same", ["pahole", "--btf_encode_detached=o", path]), folder, runs)
+            show(
+                Row(
+                    REAL_PEER.format(name), "the same", ["pahole", "--btf_encode_detached=o", path]
+                ),
+                folder,
+                runs,
+            )
 
 
 def made_number(program, folder, runs):
     """A file that the program makes itself, from a number."""
-    show(Row(MADE, f"`--selfmade={MADE_NUMBER}`", [program, f"--selfmade={MADE_NUMBER}"]), folder, runs)
+    show(
+        Row(MADE, f"`--selfmade={MADE_NUMBER}`", [program, f"--selfmade={MADE_NUMBER}"]),
+        folder,
+        runs,
+    )
     if read(f"{folder}/printed") != MADE_LINE:
         say(f"failed {MADE}: it prints another line than {MADE_LINE.decode().strip()!r}")
 
@@ -274,9 +348,20 @@ def table(program, root, folder, runs):
     show(Row(TABLE, given, [program, "-F", "btf", path]), folder, runs)
     if not shutil.which("cc"):
         return say(f"skipped {OVER}: there is no C compiler")
-    subprocess.run(["cc", "-g", "-o", f"{folder}/demo", f"{root}/demo/registry.c", f"{root}/demo/main.c"], check=True)
+    subprocess.run(
+        ["cc", "-g", "-o", f"{folder}/demo", f"{root}/demo/registry.c", f"{root}/demo/main.c"],
+        check=True,
+    )
     given = f"{number(os.path.getsize(f'{folder}/demo'))} bytes, over the same table"
-    show(Row(OVER, given, [program, "--btf_encode_detached=o", f"--btf_base={path}", f"{folder}/demo"]), folder, runs)
+    show(
+        Row(
+            OVER,
+            given,
+            [program, "--btf_encode_detached=o", f"--btf_base={path}", f"{folder}/demo"],
+        ),
+        folder,
+        runs,
+    )
 
 
 def made_inputs(program, root, folder, runs):
@@ -284,8 +369,12 @@ def made_inputs(program, root, folder, runs):
     for kind, what in WHATS.items():
         path = f"{folder}/{kind}"
         words = [sys.executable, "-B", f"{root}/checks/lib/made.py", kind, path]
-        made = Made(*map(int, subprocess.run(words, capture_output=True, text=True, check=True).stdout.split()))
-        sizes = f"{number(made.info)} bytes of `.debug_info`, {number(made.units)} unit{'s' * (made.units > 1)}, {number(made.entries)} entries"
+        told = subprocess.run(words, capture_output=True, text=True, check=True).stdout
+        made = Made(*map(int, told.split()))
+        units = f"{number(made.units)} unit{'s' * (made.units > 1)}"
+        sizes = (
+            f"{number(made.info)} bytes of `.debug_info`, {units}, {number(made.entries)} entries"
+        )
         given = f"{sizes}, {number(made.types)} types, {number(made.references)} references"
         stored = show(Row(what, given, [program, "--btf_encode_detached=o", path]), folder, runs)
         if stored and count(stored) != made.table:
@@ -300,7 +389,9 @@ def phases(program, root, named):
     found = [named] if named else sorted(glob.glob(KERNELS))
     if found:
         print(flush=True)
-        subprocess.run([sys.executable, "-B", f"{root}/tools/phases.py", program, found[-1]], check=False)
+        subprocess.run(
+            [sys.executable, "-B", f"{root}/tools/phases.py", program, found[-1]], check=False
+        )
 
 
 def main():

@@ -1,6 +1,8 @@
-"""memory.py PROGRAM LIBRARY CASE..: runs PROGRAM on each case of crates/run_cases/data and refuses it one request for memory, each in turn, by LIBRARY (tools/refuse.c);
-then that one and all later ones. Each time it ends with status 4, its complaint, and nothing printed or stored, or with the case's own answer. The
-environment's STEP tries every STEPth request alone, and MOST bounds how many of each case are tried: they are then spread over all."""
+"""memory.py PROGRAM LIBRARY CASE..: runs PROGRAM on each case of crates/run_cases/data and
+refuses it one request for memory, each in turn, by LIBRARY (tools/refuse.c); then that one and
+all later ones. Each time it ends with status 4, its complaint, and nothing printed or stored, or
+with the case's own answer. The environment's STEP tries every STEPth request alone, and MOST
+bounds how many of each case are tried: they are then spread over all."""
 import os
 import subprocess
 import sys
@@ -31,13 +33,23 @@ class Case:
 
         self.name = name
         self.words = of("words").decode().splitlines()
-        self.files = {file: unhex(of(f"file.{file}.hex")) for file in "abB" if of(f"file.{file}.hex") is not None}
+        self.files = {
+            file: unhex(of(f"file.{file}.hex"))
+            for file in "abB"
+            if of(f"file.{file}.hex") is not None
+        }
         rows = dict(line.split(" ", 1) for line in of("expect").decode().splitlines())
         complaint = f"{rows['complaint']}\n".encode() if "complaint" in rows else b""
-        self.answer = int(rows["status"]), of("printed.txt") or b"", complaint, unhex(of(f"stored.{OUTPUT}.hex"))
+        self.answer = (
+            int(rows["status"]),
+            of("printed.txt") or b"",
+            complaint,
+            unhex(of(f"stored.{OUTPUT}.hex")),
+        )
 
 
-# what a run answers that gets no memory: its status, what it prints, complains and stores. `main` says nothing where it gets none for the words
+# what a run answers that gets no memory: its status, what it prints, complains and stores. `main`
+# says nothing where it gets none for the words
 REFUSED = [(4, b"", complaint, None) for complaint in (b"pahole: out of memory\n", b"")]
 
 
@@ -49,7 +61,14 @@ def run(program, library, case, **settings):
                 file.write(data)
         count = os.path.join(folder, "count")
         asked = {**os.environ, "LD_PRELOAD": library, "REFUSE_COUNT": count, **settings}
-        done = subprocess.run([program, *case.words], cwd=folder, env=asked, capture_output=True, stdin=subprocess.DEVNULL, timeout=SECONDS)
+        done = subprocess.run(
+            [program, *case.words],
+            cwd=folder,
+            env=asked,
+            capture_output=True,
+            stdin=subprocess.DEVNULL,
+            timeout=SECONDS,
+        )
         answer = done.returncode, done.stdout, done.stderr, read(os.path.join(folder, OUTPUT))
         return answer, int(read(count, b"0"))
 
@@ -72,7 +91,8 @@ def faults(program, library, case):
             runs += 1
             refused += answer in REFUSED
             if answer not in (*REFUSED, case.answer):
-                return f"request {number} of {count}{' and all later ones' if later else ''}: {answer}", runs, refused
+                which = f"{number} of {count}{' and all later ones' if later else ''}"
+                return f"request {which}: {answer}", runs, refused
     return None, runs, refused
 
 
@@ -80,9 +100,12 @@ def main():
     program, library, *names = sys.argv[1:]
     wrong = 0
     for name in names:
-        fault, runs, refused = faults(os.path.abspath(program), os.path.abspath(library), Case(name))
+        fault, runs, refused = faults(
+            os.path.abspath(program), os.path.abspath(library), Case(name)
+        )
         wrong += fault is not None
-        print(f"failed memory {name}: {fault}" if fault else f"passed memory {name}: {runs} runs, {refused} refused", flush=True)
+        what = f"passed memory {name}: {runs} runs, {refused} refused"
+        print(f"failed memory {name}: {fault}" if fault else what, flush=True)
     sys.exit(1 if wrong else 0)
 
 

@@ -1,7 +1,8 @@
 #!/usr/bin/env bash
-# plants.sh [CRATE..]: plants wrong bodies in each crate with clauses (or in those named) by `rt plant`, and prints its row of docs/AUDIT.md's
-# table; what is still proved, and what was not tried, is told on standard error. MINUTES and PLANTS bound each crate, by default 60 and
-# 2,000. With WRITE=1 the rows go into the page. No check runs this, for a crate takes minutes: `make plants`.
+# plants.sh [CRATE..]: plants wrong bodies in each crate with clauses (or in those named) by `rt
+# plant`, and prints its row of docs/AUDIT.md's table; what is still proved, and what was not tried,
+# is told on standard error. MINUTES and PLANTS bound each crate, by default 60 and 2,000. With
+# WRITE=1 the rows go into the page. No check runs this, for a crate takes minutes: `make plants`.
 set -u
 export LC_ALL=C.UTF-8
 root=$(cd "$(dirname "$0")/.." && pwd) || exit 2
@@ -11,7 +12,8 @@ scratch=$(mktemp -d) || exit 2
 trap 'rm -rf "$scratch"' EXIT
 page=$root/docs/AUDIT.md
 
-# the crates with clauses, in the order of crates.txt; programs and crates of tests have none that a body can be planted under
+# the crates with clauses, in the order of crates.txt; programs and crates of tests have none that a
+# body can be planted under
 listed() {
   local crate
   while read -r crate _; do
@@ -34,7 +36,8 @@ row() {
 failed=0
 if [ $# = 0 ]; then mapfile -t crates < <(listed); else crates=("$@"); fi
 for crate in "${crates[@]}"; do
-  (cd "$root/crates/$crate" && rt plant --minutes "${MINUTES:-60}" --max "${PLANTS:-2000}") >"$scratch/log" 2>"$scratch/errors"
+  (cd "$root/crates/$crate" && rt plant --minutes "${MINUTES:-60}" --max "${PLANTS:-2000}") \
+    >"$scratch/log" 2>"$scratch/errors"
   told=$(grep '^plants crate=' "$scratch/log")
   if [ -z "$told" ]; then
     echo "failed plants $crate: $(tail -n 1 "$scratch/errors")" >&2

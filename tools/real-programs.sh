@@ -1,10 +1,10 @@
 #!/usr/bin/env bash
-# real-programs.sh FOLDER: builds programs that users have, of Debian's source packages, with `gcc -g -O2` in FOLDER
-# (or with CC and CFLAGS), and prints the path of each: sqlite3, redis, busybox, git and postgres. The largest objects
-# of each, at most 100, or OBJECTS=n, lie beside it in PROGRAM.o.d.
-# PROGRAMS='a b' builds these alone, and JOBS=n has n compilers at work. SOURCES names a folder for the source
-# packages, so that FOLDERs of several compilers share them. Needs Debian's archive, and the headers of zlib for git.
-# What can't be had or built is skipped by name.
+# real-programs.sh FOLDER: builds programs that users have, of Debian's source packages, with `gcc
+# -g -O2` in FOLDER (or with CC and CFLAGS), and prints the path of each: sqlite3, redis, busybox,
+# git and postgres. The largest objects of each, at most 100, or OBJECTS=n, lie beside it in
+# PROGRAM.o.d. PROGRAMS='a b' builds these alone, and JOBS=n has n compilers at work. SOURCES names
+# a folder for the source packages, so that FOLDERs of several compilers share them. Needs Debian's
+# archive, and the headers of zlib for git. What can't be had or built is skipped by name.
 set -u
 export LC_ALL=C
 folder=$(mkdir -p "${1:?FOLDER}" && cd "$1" && pwd) || exit 2
@@ -19,37 +19,41 @@ apt=(apt-get -o Dir::Etc::sourcelist="$sources/sources.list" -o Dir::Etc::source
 # the source package's files, if they aren't there yet
 download() {
   cd "$sources" || return 1
-  compgen -G "$1_*.dsc" >/dev/null || { "${apt[@]}" update && "${apt[@]}" source --download-only "$1"; }
+  compgen -G "$1_*.dsc" >/dev/null && return
+  "${apt[@]}" update && "${apt[@]}" source --download-only "$1"
 }
 
 # the package's folder, of its sources with Debian's patches
 unpack() {
   download "$1" && cd "$folder/src" || return 1
   compgen -G "$1-*/" >/dev/null || dpkg-source --extract "$sources/$1"_*.dsc || return 1
-  cd "$(compgen -G "$1-*/" | head -n 1)"
+  cd "$(compgen -G "$1-*/" | head -n 1)" || return 1
 }
 
 sqlite3() {
   built=sqlite3.out
-  unpack sqlite3 && ./configure CC="$cc" CFLAGS="$flags" --disable-tcl && make -j"$jobs" sqlite3.c shell.c &&
-    "$cc" ${flags} -c shell.c sqlite3.c && "$cc" -o sqlite3.out shell.o sqlite3.o -lpthread -ldl -lm
+  unpack sqlite3 && ./configure CC="$cc" CFLAGS="$flags" --disable-tcl &&
+    make -j"$jobs" sqlite3.c shell.c && "$cc" ${flags} -c shell.c sqlite3.c &&
+    "$cc" -o sqlite3.out shell.o sqlite3.o -lpthread -ldl -lm
 }
 
 redis() {
   built=src/redis-server
-  unpack redis && make -j"$jobs" -C src CC="$cc" CFLAGS="$flags" OPTIMIZATION= MALLOC=libc redis-server
+  unpack redis &&
+    make -j"$jobs" -C src CC="$cc" CFLAGS="$flags" OPTIMIZATION= MALLOC=libc redis-server
 }
 
 busybox() {
   built=busybox_unstripped
-  unpack busybox && make CC="$cc" defconfig && sed -i 's/^CONFIG_TC=y/# CONFIG_TC is not set/' .config &&
+  unpack busybox && make CC="$cc" defconfig &&
+    sed -i 's/^CONFIG_TC=y/# CONFIG_TC is not set/' .config &&
     make -j"$jobs" CC="$cc" CFLAGS="$flags" SKIP_STRIP=y
 }
 
 git() {
   built=git
-  unpack git && make -j"$jobs" CC="$cc" CFLAGS="$flags" NO_CURL=1 NO_EXPAT=1 NO_GETTEXT=1 NO_OPENSSL=1 NO_PERL=1 \
-    NO_PYTHON=1 NO_TCLTK=1 git
+  unpack git && make -j"$jobs" CC="$cc" CFLAGS="$flags" NO_CURL=1 NO_EXPAT=1 NO_GETTEXT=1 \
+    NO_OPENSSL=1 NO_PERL=1 NO_PYTHON=1 NO_TCLTK=1 git
 }
 
 postgres() {
@@ -59,8 +63,8 @@ postgres() {
     make -C src/backend generated-headers && make -j"$jobs" -C src/backend
 }
 
-# Copies the program, and its largest objects, whose names are their paths with `_` for `/`. Those of a build's own
-# tools (scripts/) have no debugging information.
+# Copies the program, and its largest objects, whose names are their paths with `_` for `/`. Those
+# of a build's own tools (scripts/) have no debugging information.
 keep() {
   local path
   cp "$built" "$folder/$1" && mkdir -p "$folder/$1.o.d" || return 1

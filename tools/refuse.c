@@ -1,5 +1,6 @@
-/* Refuses memory to a program that loads this before the C library (LD_PRELOAD). Requests are counted from 1. The request of number REFUSE is
- * refused, and with REFUSE_ALL each later one, too. At the program's end the file that REFUSE_COUNT names holds how many there were. */
+/* Refuses memory to a program that loads this before the C library (LD_PRELOAD). Requests are
+ * counted from 1. The request of number REFUSE is refused, and with REFUSE_ALL each later one, too.
+ * At the program's end the file that REFUSE_COUNT names holds how many there were. */
 #define _GNU_SOURCE
 #include <errno.h>
 #include <stdatomic.h>

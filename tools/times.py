@@ -1,6 +1,8 @@
-"""times.py WATCHED STOP: samples the processes below the process WATCHED until the file STOP is there, and then prints two tables of
-processor times in seconds: for each crate those of its proof, of its tests' proof, of the proof that its edits begin with, and of its edits,
-as `rt ci` starts them, and then the edits that took longest. Where the system has no /proc it prints nothing."""
+"""times.py WATCHED STOP: samples the processes below the process WATCHED until the file STOP is
+there, and then prints two tables of processor times in seconds: for each crate those of its
+proof, of its tests' proof, of the proof that its edits begin with, and of its edits, as `rt ci`
+starts them, and then the edits that took longest. Where the system has no /proc it prints
+nothing."""
 import os
 import re
 import sys
@@ -13,7 +15,8 @@ DEAREST = 20
 
 
 def processes():
-    """For each process: its parent, and its processor time in seconds with that of the children it has waited for."""
+    """For each process: its parent, and its processor time in seconds with that of the children
+    it has waited for."""
     for name in os.listdir("/proc"):
         if name.isdigit():
             try:
@@ -33,12 +36,14 @@ def words(process):
 
 
 def kind(process):
-    """The crate that a process proves, for what, and which edit it tries, counted from 0; None where it proves none."""
+    """The crate that a process proves, for what, and which edit it tries, counted from 0; None
+    where it proves none."""
     said = words(process)
     if "--crate-name" not in said[:-1] or len(said) < 2 or said[1] not in ("build", "check"):
         return None
     crate = said[said.index("--crate-name") + 1]
-    # a program is proved by a check that keeps what it proved (-o), an edit by one that keeps nothing
+    # a program is proved by a check that keeps what it proved (-o), an edit by one that keeps
+    # nothing
     if said[1] == "build" or "-o" in said:
         return crate, "tests" if "--test" in said else "proof", None
     # an edit is tried over what was proved before it, in a folder of its number
@@ -71,7 +76,10 @@ def table(found):
     for (_, (crate, what, _)), spent in found.items():
         row = rows.setdefault(crate, dict.fromkeys(COLUMNS, 0.0))
         row[what] += spent
-    lines = ["| Crate | Proof | Its tests' proof | Proof before its edits | Edits | Together |", "|---|---|---|---|---|---|"]
+    lines = [
+        "| Crate | Proof | Its tests' proof | Proof before its edits | Edits | Together |",
+        "|---|---|---|---|---|---|",
+    ]
     for crate, row in sorted(rows.items(), key=lambda item: -sum(item[1].values())):
         cells = [*(row[column] for column in COLUMNS), sum(row.values())]
         lines.append(f"| {crate} | " + " | ".join(f"{cell:,.0f}" for cell in cells) + " |")
@@ -81,7 +89,9 @@ def table(found):
 def edits_of(crate):
     """The edits of a crate, in the order in which `rt ci` counts them."""
     folder = os.path.join("crates", crate, "must-fail")
-    return sorted(name for name in os.listdir(folder) if name.endswith(".edit")) if os.path.isdir(folder) else []
+    if not os.path.isdir(folder):
+        return []
+    return sorted(name for name in os.listdir(folder) if name.endswith(".edit"))
 
 
 def dearest(found):
@@ -92,7 +102,10 @@ def dearest(found):
             edit = f"{crate}/{names[number].removesuffix('.edit')}"
             spent_on[edit] = spent_on.get(edit, 0.0) + spent
     most = sorted(spent_on.items(), key=lambda item: -item[1])[:DEAREST]
-    return ["", "| Edit | Seconds |", "|---|---|", *(f"| {edit} | {spent:,.0f} |" for edit, spent in most)] if most else []
+    if not most:
+        return []
+    rows = [f"| {edit} | {spent:,.0f} |" for edit, spent in most]
+    return ["", "| Edit | Seconds |", "|---|---|", *rows]
 
 
 def main():

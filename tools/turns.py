@@ -1,6 +1,7 @@
-"""turns.py PROGRAM FILE [TURNS]: how PROGRAM stands to Debian's tool pahole on FILE, also on a machine that other work shares: in each turn both
-encode it with one worker and with four, one after the other. Prints a row for each turn, in seconds, and how one stands to the other, and
-a row of medians."""
+"""turns.py PROGRAM FILE [TURNS]: how PROGRAM stands to Debian's tool pahole on FILE, also on a
+machine that other work shares: in each turn both encode it with one worker and with four, one
+after the other. Prints a row for each turn, in seconds, and how one stands to the other, and a
+row of medians."""
 import os
 import statistics
 import subprocess
@@ -25,22 +26,29 @@ def taken(words):
 
 
 def turn(program, file, out):
-    """Of a turn the processor times with one worker, this program's and pahole's, and the times with four, this program's and pahole's, and at last
-    this program's time with one."""
+    """Of a turn the processor times with one worker, this program's and pahole's, and the times
+    with four, this program's and pahole's, and at last this program's time with one."""
     encode = [f"--btf_encode_detached={out}", file]
-    (one_time, one), (four_time, _) = taken([program, "-j1", *encode]), taken([program, "-j4", *encode])
+    one_time, one = taken([program, "-j1", *encode])
+    four_time, _ = taken([program, "-j4", *encode])
     (_, its_one), (its_four_time, _) = taken(["pahole", *encode]), taken(["pahole", "-j4", *encode])
     return one, its_one, four_time, its_four_time, one_time
 
 
 def row(name, one, its_one, four_time, its_four_time, one_time):
-    return (f"| {name} | {one:.2f} s | {its_one:.2f} s | {one / its_one:.2f} | {four_time:.2f} s | {its_four_time:.2f} s "
-            f"| {four_time / its_four_time:.2f} | {four_time / one_time:.2f} |")
+    return (
+        f"| {name} | {one:.2f} s | {its_one:.2f} s | {one / its_one:.2f} "
+        f"| {four_time:.2f} s | {its_four_time:.2f} s "
+        f"| {four_time / its_four_time:.2f} | {four_time / one_time:.2f} |"
+    )
 
 
 def main():
     program, file, *count = sys.argv[1:]
-    print("| Turn | Processor time, `-j1` | pahole's, one thread | Ratio | Time, `-j4` | pahole's, `-j4` | Ratio | `-j4` to `-j1` |")
+    print(
+        "| Turn | Processor time, `-j1` | pahole's, one thread | Ratio "
+        "| Time, `-j4` | pahole's, `-j4` | Ratio | `-j4` to `-j1` |"
+    )
     print("|---|---|---|---|---|---|---|---|")
     turns = []
     with tempfile.TemporaryDirectory() as folder:

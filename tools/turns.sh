@@ -1,6 +1,7 @@
 #!/usr/bin/env bash
-# turns.sh VMLINUX [TURNS]: the built program (or PAHOLE) and Debian's tool pahole encode a kernel in turn; prints docs/SPEED.md's table of turns, and
-# with WRITE=1 puts it there. No check runs this: its answers depend on the machine.
+# turns.sh VMLINUX [TURNS]: the built program (or PAHOLE) and Debian's tool pahole encode a kernel
+# in turn; prints docs/SPEED.md's table of turns, and with WRITE=1 puts it there. No check runs
+# this: its answers depend on the machine.
 set -u
 export LC_ALL=C.UTF-8 PATH=$PATH:/usr/sbin:/sbin
 . "$(dirname "$0")/../checks/lib/program.sh"

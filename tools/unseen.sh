@@ -1,10 +1,11 @@
 #!/usr/bin/env bash
-# unseen.sh [NAME..]: applies each edit of tools/unseen (or those named) to a copy of the repository, and proves the edited crate. Each
-# is a wrong program, or an equal one, that docs/AUDIT.md says no clause refuses. An edit has the form of a must-fail edit, behind a line
-# `crate: NAME`; it may change several files, each behind a line `file: PATH` of its own, and a line `and: TEXT` adds one
-# behind the new one. What its proof needs besides lies in a folder of the edit's name, each file with `.txt` behind its name, and is put beside
-# the crate's.
-# `passed` is what is proved. No check runs this, for each edit costs a check of its crate: `make unseen`.
+# unseen.sh [NAME..]: applies each edit of tools/unseen (or those named) to a copy of the
+# repository, and proves the edited crate. Each is a wrong program, or an equal one, that
+# docs/AUDIT.md says no clause refuses. An edit has the form of a must-fail edit, behind a line
+# `crate: NAME`; it may change several files, each behind a line `file: PATH` of its own, and a line
+# `and: TEXT` adds one behind the new one. What its proof needs besides lies in a folder of the
+# edit's name, each file with `.txt` behind its name, and is put beside the crate's. `passed` is
+# what is proved. No check runs this, for each edit costs a check of its crate: `make unseen`.
 set -u
 export LC_ALL=C.UTF-8
 root=$(cd "$(dirname "$0")/.." && pwd) || exit 2
@@ -13,9 +14,11 @@ need unseen rt python3
 scratch=$(mktemp -d) || exit 2
 trap 'rm -rf "$scratch"' EXIT
 
-# The copy has the sources, and of each crate that was checked here what its check kept, so that the edited crate alone is proved.
+# The copy has the sources, and of each crate that was checked here what its check kept, so that the
+# edited crate alone is proved.
 mkdir "$scratch/copy"
-(cd "$root" && cp -r crates.txt HANDLES "$scratch/copy" && cp -a crates "$scratch/copy/crates") || exit 2
+cp -r "$root/crates.txt" "$root/HANDLES" "$scratch/copy" || exit 2
+cp -a "$root/crates" "$scratch/copy/crates" || exit 2
 
 # An edit's lines, put into the crate's files; prints why it can't be.
 apply() {
@@ -35,8 +38,9 @@ with open(edit) as lines:
             new = text.strip() if word == "new" else f"{old}\n{text}"
             with open(path) as file:
                 whole = file.read()
-            if whole.count(old) != 1:
-                sys.exit(f"{old!r} stands {whole.count(old)} times in {path.removeprefix(folder + '/')}")
+            count = whole.count(old)
+            if count != 1:
+                sys.exit(f"{old!r} stands {count} times in {path.removeprefix(folder + '/')}")
             with open(path, "w") as file:
                 file.write(whole.replace(old, new))
             old = new
@@ -60,12 +64,14 @@ for name in "${edits[@]}"; do
   elif (cd "$folder" && rt check) >"$scratch/log" 2>&1; then
     echo "passed $name: $crate is proved with it, as docs/AUDIT.md says"
   else
-    echo "failed $name: $crate is not proved with it: $(grep -m 1 -E ': error|error\[' "$scratch/log" || tail -n 1 "$scratch/log")"
+    why=$(grep -m 1 -E ': error|error\[' "$scratch/log" || tail -n 1 "$scratch/log")
+    echo "failed $name: $crate is not proved with it: $why"
     failed=1
   fi
   for part in src specs proofs; do
     rm -rf "${folder:?}/$part"
-    if [ -d "$root/crates/$crate/$part" ]; then cp -a "$root/crates/$crate/$part" "$folder/$part"; fi
+    whole=$root/crates/$crate/$part
+    if [ -d "$whole" ]; then cp -a "$whole" "$folder/$part"; fi
   done
 done
 exit $failed

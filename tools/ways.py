@@ -1,7 +1,8 @@
-"""ways.py PROGRAM FOLDER..: three tables on the programs that tools/real-programs.sh built in each FOLDER. First how
-many types PROGRAM and Debian's tool pahole write alike, and how many differ, by cause (tools/agree.py), for each
-program and for its objects, each alone; then the names of the types that differ, by cause; and then the functions of
-the programs. What differs without a known cause, and what one of the two refuses, is told on standard error."""
+"""ways.py PROGRAM FOLDER..: three tables on the programs that tools/real-programs.sh built in
+each FOLDER. First how many types PROGRAM and Debian's tool pahole write alike, and how many
+differ, by cause (tools/agree.py), for each program and for its objects, each alone; then the
+names of the types that differ, by cause; and then the functions of the programs. What differs
+without a known cause, and what one of the two refuses, is told on standard error."""
 import collections
 import glob
 import multiprocessing
@@ -16,7 +17,10 @@ from agree import differing, differing_functions, head, tables, told_causes
 PROGRAMS = ("sqlite3", "redis", "busybox", "git", "postgres")
 TYPES = "| Program | Built by | Linked: the same | Others | Objects | Of these: the same | Others |"
 CAUSES = "| Cause | Types |"
-FUNCTIONS = "| Program | Built by | The same | Here alone | Of these with a symbol | There alone | Another prototype |"
+FUNCTIONS = (
+    "| Program | Built by | The same | Here alone | Of these with a symbol "
+    "| There alone | Another prototype |"
+)
 UNKNOWN = "no known cause"
 
 
@@ -47,7 +51,8 @@ class Tally:
         self.same, self.whys, self.names = 0, [], names
 
     def add(self, program, path, folder, options=()):
-        """Counts a file, and answers its two tables; nothing where one of the programs refuses it."""
+        """Counts a file, and answers its two tables; nothing where one of the programs refuses
+        it."""
         ours, theirs, complaint = tables(program, path, folder, options)
         if ours is None or theirs is None:
             complain(path, complaint)
@@ -70,12 +75,14 @@ def cells_of_functions(path, ours, theirs):
     """The cells on the functions of a linked program."""
     same, parts = differing_functions(ours, theirs)
     other, here, there = (names for _, names in parts)
-    return f"{same:,} | {len(here):,} | {len(symbols(path) & set(here))} | {len(there)} | {len(other)}"
+    return (
+        f"{same:,} | {len(here):,} | {len(symbols(path) & set(here))} | {len(there)} | {len(other)}"
+    )
 
 
 def compared(program, one, folder):
-    """What the two tools write of a program of a folder and of its objects: its row on types, its row on functions or
-    nothing, and the names of the types that differ, by each cause."""
+    """What the two tools write of a program of a folder and of its objects: its row on types,
+    its row on functions or nothing, and the names of the types that differ, by each cause."""
     names = collections.defaultdict(set)
     linked, start = f"{folder}/{one}", f"| {one} | {way(folder)} |"
     objects = sorted(glob.glob(f"{linked}.o.d/*.o"))
@@ -99,7 +106,10 @@ def main():
     for _, _, differing_names in found:
         for why, some in differing_names.items():
             names[why] |= some
-    rows = [f"| {why} | {', '.join(f'`{name}`' for name in sorted(some))} |" for why, some in sorted(names.items())]
+    rows = [
+        f"| {why} | {', '.join(f'`{name}`' for name in sorted(some))} |"
+        for why, some in sorted(names.items())
+    ]
     print_table("\n" + CAUSES, rows)
     print_table("\n" + FUNCTIONS, [functions for _, functions, _ in found if functions])
 

@@ -1,8 +1,9 @@
 #!/usr/bin/env bash
-# ways.sh FOLDER: builds the programs of tools/real-programs.sh by gcc and clang, with DWARF 4 and 5, each in a folder
-# of its own in FOLDER, where that is not there yet, and prints docs/AGREEMENT.md's tables on them: what the built
-# program (or PAHOLE) and Debian's tool pahole write of them, and of their objects. With WRITE=1 the tables go into
-# that page. No check runs this: it takes an hour, and needs what tools/real-programs.sh needs.
+# ways.sh FOLDER: builds the programs of tools/real-programs.sh by gcc and clang, with DWARF 4 and
+# 5, each in a folder of its own in FOLDER, where that is not there yet, and prints
+# docs/AGREEMENT.md's tables on them: what the built program (or PAHOLE) and Debian's tool pahole
+# write of them, and of their objects. With WRITE=1 the tables go into that page. No check runs
+# this: it takes an hour, and needs what tools/real-programs.sh needs.
 set -u
 export LC_ALL=C.UTF-8 PATH=$PATH:/usr/sbin:/sbin
 . "$(dirname "$0")/../checks/lib/program.sh"

@@ -1,4 +1,5 @@
-"""A small reader of BTF (the Linux kernel's BTF documentation): structures and unions with their sizes and members."""
+"""A small reader of BTF (the Linux kernel's BTF documentation): structures and unions with their
+sizes and members."""
 import collections
 import struct
 
@@ -9,12 +10,16 @@ STRUCTURES = (4, 5)
 TYPEDEF = 8
 
 Type = collections.namedtuple("Type", "kind name last rows")
-# a member's bit offset from the structure's beginning, and its number of bits where it is a bit field, else 0
+# a member's bit offset from the structure's beginning, and its number of bits where it is a bit
+# field, else 0
 Member = collections.namedtuple("Member", "bit bits")
 
 
-KINDS = ["void", "INT", "PTR", "ARRAY", "STRUCT", "UNION", "ENUM", "FWD", "TYPEDEF", "VOLATILE", "CONST", "RESTRICT", "FUNC", "FUNC_PROTO", "VAR",
-         "DATASEC", "FLOAT", "DECL_TAG", "TYPE_TAG", "ENUM64"]
+# the kinds by their numbers
+KINDS = (
+    "void INT PTR ARRAY STRUCT UNION ENUM FWD TYPEDEF VOLATILE CONST RESTRICT FUNC FUNC_PROTO VAR "
+    "DATASEC FLOAT DECL_TAG TYPE_TAG ENUM64"
+).split()
 
 
 def kinds(data):
@@ -36,25 +41,29 @@ def count(data):
 
 
 def types(data):
-    """All types of a table, by id; a structure's rows are the names, types and Members of its members."""
+    """All types of a table, by id; a structure's rows are the names, types and Members of its
+    members."""
     order = "<" if data[:2] == b"\x9f\xeb" else ">"
-    _, version, flags, length, type_at, type_len, text_at, text_len = struct.unpack_from(order + "HBBIIIII", data)
+    _, version, flags, length, type_at, type_len, text_at, text_len = struct.unpack_from(
+        order + "HBBIIIII", data
+    )
     assert (version, flags, length, type_at, text_at) == (1, 0, 24, 0, type_len)
     assert len(data) == 24 + type_len + text_len
-    texts = data[24 + text_at:]
+    texts = data[24 + text_at :]
     words = struct.unpack_from(f"{order}{type_len // 4}I", data, 24)
 
     def text(at):
-        return texts[at:texts.index(b"\0", at)].decode()
+        return texts[at : texts.index(b"\0", at)].decode()
 
     found, at = {}, 0
     while at < len(words):
-        name, info, last = words[at:at + 3]
+        name, info, last = words[at : at + 3]
         kind, vlen, flag, rows = info >> 24 & 0x1F, info & 0xFFFF, info >> 31, []
         if kind in STRUCTURES:
             for i in range(at + 3, at + 3 + 3 * vlen, 3):
                 place = words[i + 2]
-                rows.append((text(words[i]), words[i + 1], Member(place & 0xFFFFFF, place >> 24) if flag else Member(place, 0)))
+                member = Member(place & 0xFFFFFF, place >> 24) if flag else Member(place, 0)
+                rows.append((text(words[i]), words[i + 1], member))
         found[len(found) + 1] = Type(kind, text(name), last, rows)
         at += 3 + FIXED.get(kind, 0) + EACH.get(kind, 0) * vlen
     assert at == len(words)
@@ -62,8 +71,10 @@ def types(data):
 
 
 def structures(data):
-    """The structures and unions with a name, and those that a typedef names: name -> (size, {member: Member}, inner).
-    Members of a structure without a name inside another one count as the other one's, and are `inner`."""
+    """The structures and unions with a name, and those that a typedef names: name -> (size,
+    {member: Member}, inner). Members of a structure without a name inside another one count as the
+    other one's, and are `inner`.
+    """
     table, named = types(data), {}
     for one in table.values():
         if one.kind in STRUCTURES and one.name:
@@ -84,5 +95,9 @@ def structures(data):
     found = {}
     for name, one in named.items():
         rows = list(members(one, 0))
-        found[name] = (one.last, {member: place for member, place, _ in rows}, {member for member, _, own in rows if not own})
+        found[name] = (
+            one.last,
+            {member: place for member, place, _ in rows},
+            {member for member, _, own in rows if not own},
+        )
     return found

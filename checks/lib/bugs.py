@@ -1,6 +1,7 @@
-"""bugs.py ROOT [write]: the tables of planted bugs on the page docs/AUDIT.md, from the edits themselves: each edit's first line says its class.
-Prints whether the page has these tables, or puts them there. An edit in parentheses stands in crates/NAME/more-edits: the gate does not try it,
-and `make edits` does."""
+"""bugs.py ROOT [write]: the tables of planted bugs on the page docs/AUDIT.md, from the edits
+themselves: each edit's first line says its class. Prints whether the page has these tables, or
+puts them there. An edit in parentheses stands in crates/NAME/more-edits: the gate does not try
+it, and `make edits` does."""
 import collections
 import glob
 import os
@@ -9,7 +10,17 @@ import sys
 ROOT = os.path.abspath(sys.argv[1])
 PAGE = os.path.join(ROOT, "docs/AUDIT.md")
 BEGIN, END = "<!-- tables -->", "<!-- end of tables -->"
-CLASSES = ["swapped field", "lost case", "off by one", "fault elsewhere", "slice", "stale value", "missed refusal", "early give-up", "another value"]
+CLASSES = [
+    "swapped field",
+    "lost case",
+    "off by one",
+    "fault elsewhere",
+    "slice",
+    "stale value",
+    "missed refusal",
+    "early give-up",
+    "another value",
+]
 LAYERS = {
     "Numbers": ["dw_base"],
     "ELF": ["elf_sections"],
@@ -45,27 +56,47 @@ def edits():
             faults.append(f"{crate}/{name} names no class")
         found.append(Edit(crate, name[:-5], kind, folder == "must-fail"))
     listed = {crate for crates in LAYERS.values() for crate in crates}
-    faults += [f"{crate} has edits and no layer" for crate in sorted({edit.crate for edit in found} - listed)]
+    faults += [
+        f"{crate} has edits and no layer"
+        for crate in sorted({edit.crate for edit in found} - listed)
+    ]
     return found, faults
 
 
 def layer_lines(layer, mine):
     crates = [crate for crate in LAYERS[layer] if any(edit.crate == crate for edit in mine)]
-    yield from ["", f"### {layer} ({', '.join(f'`{crate}`' for crate in crates)})", "", "| Class | Edits |", "|---|---|"]
+    yield from [
+        "",
+        f"### {layer} ({', '.join(f'`{crate}`' for crate in crates)})",
+        "",
+        "| Class | Edits |",
+        "|---|---|",
+    ]
     for kind in CLASSES:
-        names = [f"`{edit.name}`" if edit.in_gate else f"(`{edit.name}`)" for edit in mine if edit.kind == kind]
+        names = [
+            f"`{edit.name}`" if edit.in_gate else f"(`{edit.name}`)"
+            for edit in mine
+            if edit.kind == kind
+        ]
         if names:
             yield f"| {kind} | {', '.join(names)} |"
 
 
 def tables(found):
-    by_layer = {layer: [edit for edit in found if edit.crate in crates] for layer, crates in LAYERS.items()}
-    lines = ["", f"| Layer | {' | '.join(CLASSES)} | all | of the gate |", "|---" * (len(CLASSES) + 3) + "|"]
+    by_layer = {
+        layer: [edit for edit in found if edit.crate in crates] for layer, crates in LAYERS.items()
+    }
+    lines = [
+        "",
+        f"| Layer | {' | '.join(CLASSES)} | all | of the gate |",
+        "|---" * (len(CLASSES) + 3) + "|",
+    ]
     for layer, mine in by_layer.items():
         if mine:
             counts = collections.Counter(edit.kind for edit in mine)
             cells = [str(counts[kind] or "") for kind in CLASSES]
-            lines.append(f"| {layer} | {' | '.join(cells)} | {len(mine)} | {sum(edit.in_gate for edit in mine)} |")
+            in_gate = sum(edit.in_gate for edit in mine)
+            lines.append(f"| {layer} | {' | '.join(cells)} | {len(mine)} | {in_gate} |")
     for layer, mine in by_layer.items():
         if mine:
             lines += layer_lines(layer, mine)

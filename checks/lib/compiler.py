@@ -1,18 +1,21 @@
-"""What a C compiler says of the types of a program: sizes, and the places of members, bit fields included. The compiler writes them into
-sections of an object file, which is read and never run; so a compiler for another machine will do."""
+"""What a C compiler says of the types of a program: sizes, and the places of members, bit fields
+included. The compiler writes them into sections of an object file, which is read and never run;
+so a compiler for another machine will do."""
 import struct
 import subprocess
 
 from btf import Member
 from elf import content, order_of
 
-# the structures and unions of demo/ with all their members; a bit field has `:`, a flexible array `[]`
+# the structures and unions of demo/ with all their members; a bit field has `:`, a flexible array
+# `[]`
 STRUCTURES = {
     "struct list_head": "next prev",
     "point": "x y weight exact",
     "union word": "whole halves low high rest",
     "struct packet": "kind: last: sequence at raw reply payload[]",
-    "struct registry": "tag count entries store state bound compare report mapped users digest grid ready: level: delta:",
+    "struct registry": "tag count entries store state bound compare report mapped users digest "
+    "grid ready: level: delta:",
     "struct store": "owner packets used",
     "struct cursor": "registry position",
 }
@@ -25,31 +28,40 @@ def build(compiler, flags, out, sources):
 
 
 def question(demo):
-    """A C file whose sections .says.N hold numbers of 64 bits, and .bits.N.M structures with one bit field of ones."""
+    """A C file whose sections .says.N hold numbers of 64 bits, and .bits.N.M structures with one
+    bit field of ones."""
     lines = [f'#include "{demo}/registry.c"', f'#include "{demo}/main.c"']
     for n, (name, members) in enumerate(STRUCTURES.items()):
         numbers = [f"sizeof({name})"]
         for m, member in enumerate(members.split(" ")):
             plain = member.rstrip(":[]")
             if member.endswith(":"):
-                lines.append(f'{name} bits_{n}_{m} __attribute__((section(".bits.{n}.{m}"))) = {{ .{plain} = -1 }};')
+                there = f'__attribute__((section(".bits.{n}.{m}")))'
+                lines.append(f"{name} bits_{n}_{m} {there} = {{ .{plain} = -1 }};")
             else:
                 size = "0" if member.endswith("]") else f"sizeof((({name} *)0)->{plain})"
                 numbers += [f"offsetof({name}, {plain})", size]
-        lines.append(f'unsigned long long says_{n}[] __attribute__((section(".says.{n}"))) = {{ {", ".join(numbers)} }};')
+        there = f'__attribute__((section(".says.{n}")))'
+        lines.append(f"unsigned long long says_{n}[] {there} = {{ {', '.join(numbers)} }};")
     return "\n".join(lines) + "\n"
 
 
 def ones(order, data):
     """The place of the bits that are set; they are counted as the machine lays bit fields out."""
     little = order == "<"
-    found = [8 * i + bit for i, byte in enumerate(data) for bit in range(8) if byte >> (bit if little else 7 - bit) & 1]
+    found = [
+        8 * i + bit
+        for i, byte in enumerate(data)
+        for bit in range(8)
+        if byte >> (bit if little else 7 - bit) & 1
+    ]
     assert found == list(range(found[0], found[0] + len(found)))
     return Member(found[0], len(found))
 
 
 def says(compiler, demo, flags):
-    """What the compiler says: name -> (size, {member: Member}, {member: bytes}); nothing where it can't compile the question."""
+    """What the compiler says: name -> (size, {member: Member}, {member: bytes}); nothing where
+    it can't compile the question."""
     with open("says.c", "w") as file:
         file.write(question(demo))
     if not build(compiler, [*flags, "-c"], "says.o", ["says.c"]):

@@ -1,5 +1,6 @@
-"""damage.py PROGRAM FOLDER [RUNS]: runs PROGRAM so often (by default RUNS of this file) on damaged copies of FOLDER's files elf.*, btf.base and btf.split, in turn, with
-options that change from run to run."""
+"""damage.py PROGRAM FOLDER [RUNS]: runs PROGRAM so often (by default RUNS of this file) on
+damaged copies of FOLDER's files elf.*, btf.base and btf.split, in turn, with options that change
+from run to run."""
 import collections
 import glob
 import os
@@ -16,7 +17,8 @@ LINE = re.compile(
     rb"pahole: (a|B|-): (image|\.debug_info|\.debug_abbrev|btf|table) \d+: error \d+( -?\d+){0,2}\n"
     rb"|pahole: out of memory\n|pahole: no type [a-z]+\n"
 )
-# the words for a damaged ELF file, for a damaged BTF file, and for a table over a base, whatever of the two is damaged
+# the words for a damaged ELF file, for a damaged BTF file, and for a table over a base, whatever of
+# the two is damaged
 OF_ELF = [
     ["--btf_encode_detached=o"],
     ["--btf_encode_detached=o", "--funcs"],
@@ -28,7 +30,11 @@ OF_ELF = [
     ["-C", "registry,point,word", "-c", "32"],
     ["-F", "dwarf", "-j3"],
 ]
-OF_BTF = [["-F", "btf"], ["-F", "btf", "-s", "-H", "1"], ["-F", "btf", "-C", "packet,registry", "-c", "16"]]
+OF_BTF = [
+    ["-F", "btf"],
+    ["-F", "btf", "-s", "-H", "1"],
+    ["-F", "btf", "-C", "packet,registry", "-c", "16"],
+]
 OVER_BASE = [words + ["--btf_base=B"] for words in OF_BTF]
 
 Input = collections.namedtuple("Input", "whole ranges")
@@ -36,7 +42,11 @@ Input = collections.namedtuple("Input", "whole ranges")
 
 def debug_ranges(elf):
     """The places of the sections `.debug_*`, as pairs of begin and end."""
-    return [(one.offset, one.offset + one.size) for one in sections(elf) if one.name.startswith(".debug_") and one.size]
+    return [
+        (one.offset, one.offset + one.size)
+        for one in sections(elf)
+        if one.name.startswith(".debug_") and one.size
+    ]
 
 
 def damaged(file, dice):
@@ -76,7 +86,8 @@ def write(path, data):
 
 
 def plans(folder):
-    """What is run in turn: the file that is damaged, the name under which it is read, the other files, and the lists of words."""
+    """What is run in turn: the file that is damaged, the name under which it is read, the other
+    files, and the lists of words."""
     base, split = (Input(read(f"{folder}/btf.{name}"), []) for name in ("base", "split"))
     for path in sorted(glob.glob(f"{folder}/elf.*")):
         elf = read(path)
@@ -94,10 +105,13 @@ def run(program, folder, words):
     if os.path.exists(out):
         os.remove(out)
     try:
-        ended = subprocess.run([program, *words, "a"], cwd=folder, capture_output=True, timeout=SECONDS)
+        ended = subprocess.run(
+            [program, *words, "a"], cwd=folder, capture_output=True, timeout=SECONDS
+        )
     except subprocess.TimeoutExpired:
         return None, f"no end within {SECONDS} seconds"
-    return ended.returncode, wrong(ended.returncode, ended.stderr, ended.stdout, os.path.exists(out))
+    is_stored = os.path.exists(out)
+    return ended.returncode, wrong(ended.returncode, ended.stderr, ended.stdout, is_stored)
 
 
 def main():

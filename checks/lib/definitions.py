@@ -1,14 +1,18 @@
-"""definitions.py ROOT [write]: docs/DEFINITIONS.md lists every definition on the way from the clauses of `run` to bytes, with its sentence. The way is
-followed through `specs/`: from the names that the clauses cite to those that their definitions cite, and so on."""
+"""definitions.py ROOT [write]: docs/DEFINITIONS.md lists every definition on the way from the
+clauses of `run` to bytes, with its sentence. The way is followed through `specs/`: from the
+names that the clauses cite to those that their definitions cite, and so on."""
 import collections
 import itertools
 import os
 import re
 import sys
+import textwrap
 
 ROOT = sys.argv[1]
 START = "crates/pahole_run/src/top.rt"
 PAGE = f"{ROOT}/docs/DEFINITIONS.md"
+# the most characters of a line of that page
+WIDTH = 100
 NAME = re.compile(r"[A-Za-z]\w*")
 USE = re.compile(r"^(?:ghost )?use Rattle\.([\w.]+)\.\{([^}]*)\}", re.M)
 DEFINED = re.compile(r"^(?:abbrev|unfoldable) pub (\w+)|^pub (?:record|data) (\w+)")
@@ -23,7 +27,8 @@ def read(path):
 
 
 def imports(text):
-    """The names that a file takes from others: what each stands for, and the file of specs/ that has it."""
+    """The names that a file takes from others: what each stands for, and the file of specs/ that
+    has it."""
     found = {}
     for path, names in USE.findall(text):
         parts = path.split(".")
@@ -45,7 +50,7 @@ def headline(text):
 def definitions(text):
     """The definitions of a file by name: the comment above each, and its lines."""
     found, comment, name = {}, [], None
-    for line in text.splitlines()[len(headline(text)):]:
+    for line in text.splitlines()[len(headline(text)) :]:
         head = DEFINED.match(line)
         if head:
             name = head[1] or head[2]
@@ -90,7 +95,7 @@ class Reader:
 def reached():
     """All definitions on the way, by file, and the reader that knows them."""
     reader, top = Reader(), read(START)
-    clauses = " ".join(re.findall(r"^    ensures .*", top[:top.index("fn run_words")], re.M))
+    clauses = " ".join(re.findall(r"^    ensures .*", top[: top.index("fn run_words")], re.M))
     taken = imports(top)
     todo = [taken[name] for name in NAME.findall(clauses) if name in taken]
     seen = set()
@@ -104,33 +109,48 @@ def reached():
     return seen, reader
 
 
+def wrapped(text, indent=""):
+    """The lines of a paragraph, where a word is never cut."""
+    return textwrap.wrap(
+        text, WIDTH, subsequent_indent=indent, break_long_words=False, break_on_hyphens=False
+    )
+
+
+def rows_of(known, cited):
+    """The definitions of a file that are cited, each with its sentence; those that stand under one
+    sentence are one row."""
+    rows = []
+    for name in known:
+        if name not in cited:
+            continue
+        if known[name].sentence or not rows:
+            rows.append(([name], known[name].sentence))
+        else:
+            rows[-1][0].append(name)
+    return rows
+
+
 def page():
     seen, reader = reached()
     by_file = collections.defaultdict(list)
     for file, name in seen:
         by_file[file].append(name)
-    order = [line.split()[0].rstrip(":") for line in read("crates.txt").splitlines() if line.strip()]
-    rank = {crate: place for place, crate in enumerate(order)}
-    lines = [
-        "# The definitions that `run` stands on",
-        "",
-        f"Made by `checks/lib/definitions.py`, and looked at by `checks/docs.sh`: the {len(seen)} definitions in {len(by_file)} files that are cited on the way from",
-        "the clauses of `run` (`pahole_run/src/top.rt`) to bytes, each with the sentence that stands above it. `docs/HEADLINE.md` tells those that a reader",
-        "begins with. Those that stand under one sentence stand in one row.",
-    ]
+    crates = [line.split()[0] for line in read("crates.txt").splitlines() if line.strip()]
+    rank = {crate.rstrip(":"): place for place, crate in enumerate(crates)}
+    lines = ["# The definitions that `run` stands on", ""]
+    lines += wrapped(
+        "Made by `checks/lib/definitions.py`, and looked at by `checks/docs.sh`: the "
+        f"{len(seen)} definitions in {len(by_file)} files that are cited on the way from the "
+        "clauses of `run` (`pahole_run/src/top.rt`) to bytes, each with the sentence that stands "
+        "above it. `docs/HEADLINE.md` tells those that a reader begins with. Those that stand "
+        "under one sentence stand in one row."
+    )
     for file in sorted(by_file, key=lambda path: (-rank.get(path.split("/")[1], -1), path)):
         told = " ".join(line[2:].strip() for line in headline(read(file)))
-        lines += ["", f"## `{file[7:]}`", "", told, ""]
-        known, rows = reader.of(file)[1], []
-        for name in known:
-            if name not in by_file[file]:
-                continue
-            if known[name].sentence or not rows:
-                rows.append(([name], known[name].sentence))
-            else:
-                rows[-1][0].append(name)
-        for names, sentence in rows:
-            lines.append(f"- {', '.join(f'`{name}`' for name in names)}{': ' + sentence if sentence else ''}")
+        lines += ["", f"## `{file[7:]}`", "", *wrapped(told), ""]
+        for names, sentence in rows_of(reader.of(file)[1], by_file[file]):
+            told = ", ".join(f"`{name}`" for name in names)
+            lines += wrapped(f"- {told}: {sentence}" if sentence else f"- {told}", "  ")
     return "\n".join(lines) + "\n", len(seen)
 
 
@@ -140,8 +160,11 @@ def main():
         with open(PAGE, "w", encoding="utf-8") as file:
             file.write(text)
     same = os.path.exists(PAGE) and open(PAGE, encoding="utf-8").read() == text
-    print(f"passed docs definitions: {count} on the way from `run` to bytes" if same
-          else "failed docs definitions: docs/DEFINITIONS.md is not what `python3 checks/lib/definitions.py . write` makes")
+    if same:
+        print(f"passed docs definitions: {count} on the way from `run` to bytes")
+    else:
+        made = "`python3 checks/lib/definitions.py . write` makes"
+        print(f"failed docs definitions: docs/DEFINITIONS.md is not what {made}")
 
 
 main()

@@ -29,12 +29,16 @@ def exists(path):
 
 
 def crates():
-    return [line.split(":")[0].split()[0] for line in read("crates.txt").splitlines() if line and not line.startswith("#")]
+    return [
+        line.split(":")[0].split()[0]
+        for line in read("crates.txt").splitlines()
+        if line and not line.startswith("#")
+    ]
 
 
 def check_paths(page):
-    """Each path is one from the repository's top, from crates/, from a crate that its block, its heading or the last block on one crate
-    names, or a folder that each crate has."""
+    """Each path is one from the repository's top, from crates/, from a crate that its block, its
+    heading or the last block on one crate names, or a folder that each crate has."""
     faults, heading, number = [], "", 0
     for block in blocks(read(page)):
         if block.startswith("#"):
@@ -65,7 +69,9 @@ def check_headline():
     faults, number = [], 0
     for line in blocks(read("docs/HEADLINE.md")):
         words = CODE.findall(line)
-        paths = [word for word in words if re.fullmatch(r"\w+/(?:specs|src)/\w+\.(?:antt|rt)", word)]
+        paths = [
+            word for word in words if re.fullmatch(r"\w+/(?:specs|src)/\w+\.(?:antt|rt)", word)
+        ]
         texts = [read(f"crates/{path}") for path in paths]
         for word in words:
             if NAME.fullmatch(word) and not word.islower() or "_" in word and NAME.fullmatch(word):
@@ -84,8 +90,14 @@ def check_map():
             rows[cells[1].strip("`")] = set(CODE.findall(cells[4]))
     faults = [f"{crate} is not in the map" for crate in crates() if crate not in rows]
     for crate, told in rows.items():
-        files = {os.path.basename(path)[:-5] for path in glob.glob(f"{ROOT}/crates/{crate}/specs/*.antt")} - {"Lib"}
-        told = {name for name in told if name[0].isupper() and exists(f"crates/{crate}/specs/{name}.antt")}
+        files = {
+            os.path.basename(path)[:-5] for path in glob.glob(f"{ROOT}/crates/{crate}/specs/*.antt")
+        } - {"Lib"}
+        told = {
+            name
+            for name in told
+            if name[0].isupper() and exists(f"crates/{crate}/specs/{name}.antt")
+        }
         faults += [f"{crate} has {name}" for name in sorted(files - told)]
     return faults, f"{len(rows)} crates"
 
@@ -102,8 +114,16 @@ def check_refusals():
     # a definition that goes on in indented lines is one line here
     layers = re.sub(r"\n +", " ", read("crates/pahole_run/specs/Layers.antt"))
     names = {new: old for old, new in re.findall(r"(\w+) as (\w+)", layers)}
-    numbers = dict(re.findall(r"^pub const (\w+): u32 = (\d+);", read("crates/pahole_run/src/numbers.rt"), re.M))
-    faults = [f"{name} has the number of another refusal" for name, number in numbers.items() if list(numbers.values()).count(number) > 1]
+    numbers = dict(
+        re.findall(
+            r"^pub const (\w+): u32 = (\d+);", read("crates/pahole_run/src/numbers.rt"), re.M
+        )
+    )
+    faults = [
+        f"{name} has the number of another refusal"
+        for name, number in numbers.items()
+        if list(numbers.values()).count(number) > 1
+    ]
     known = set()
     for left, right in re.findall(r"^((?:of_\w+|mixed) .*?) = (.*)$", layers, re.M):
         number = re.search(r"\bnumbers\.(\w+)", right)
@@ -111,21 +131,42 @@ def check_refusals():
             fault = re.findall(r"\b(mixed|[A-Z]\w*)", left)[-1]
             known.add((numbers[number[1]], names.get(fault, fault)))
     told = set(re.findall(r"^\| (\d+) \| (\w+) \|", read("docs/REFUSALS.md"), re.M))
-    faults += [f"{name} is told of no fault" for name, number in numbers.items() if number not in {one for one, _ in known}]
+    faults += [
+        f"{name} is told of no fault"
+        for name, number in numbers.items()
+        if number not in {one for one, _ in known}
+    ]
     faults += [f"{pair} is not told" for pair in sorted(known - told)]
     for page in ("docs/REFUSALS.md", "docs/DECISIONS.md"):
         free = re.findall(r"No refusal has the number (\d+)", read(page))
-        faults += [f"{page} says that {one} is free" for one in free if one in {number for number, _ in known}]
-    return faults + [f"{pair} is told and not known" for pair in sorted(told - known)], f"{len(told)} refusals"
+        faults += [
+            f"{page} says that {one} is free"
+            for one in free
+            if one in {number for number, _ in known}
+        ]
+    return (
+        faults + [f"{pair} is told and not known" for pair in sorted(told - known)],
+        f"{len(told)} refusals",
+    )
 
 
 def main():
-    checks = [(f"paths of {page}", lambda page=page: check_paths(page)) for page in ["README.md"] + [
-        os.path.relpath(path, ROOT) for path in sorted(glob.glob(f"{ROOT}/docs/*.md"))]]
-    checks += [("headline", check_headline), ("map", check_map), ("promises", check_promises), ("refusals", check_refusals)]
+    checks = [
+        (f"paths of {page}", lambda page=page: check_paths(page))
+        for page in ["README.md"]
+        + [os.path.relpath(path, ROOT) for path in sorted(glob.glob(f"{ROOT}/docs/*.md"))]
+    ]
+    checks += [
+        ("headline", check_headline),
+        ("map", check_map),
+        ("promises", check_promises),
+        ("refusals", check_refusals),
+    ]
     for name, check in checks:
         faults, what = check()
-        print(f"failed docs {name}: {'; '.join(faults)}" if faults else f"passed docs {name}: {what}")
+        print(
+            f"failed docs {name}: {'; '.join(faults)}" if faults else f"passed docs {name}: {what}"
+        )
 
 
 if __name__ == "__main__":

@@ -1,6 +1,7 @@
-"""examples.py PROGRAM FOLDER PAGE..: runs the commands `$ ..` of pages in FOLDER, in their order, with PROGRAM as `pahole`, and compares what they
-print with the page. A line `FILE: N bytes of WHAT` is compared with the file that lies there, where the compiler is the one that the pages' numbers
-are from."""
+"""examples.py PROGRAM FOLDER PAGE..: runs the commands `$ ..` of pages in FOLDER, in their
+order, with PROGRAM as `pahole`, and compares what they print with the page. A line `FILE: N
+bytes of WHAT` is compared with the file that lies there, where the compiler is the one that the
+pages' numbers are from."""
 import os
 import re
 import subprocess
@@ -47,15 +48,24 @@ def sizes(page, folder):
 
 
 def laid_out(text):
-    """A text without tabs, and without spaces at the ends of its lines, which a page does not keep."""
+    """A text without tabs, and without spaces at the ends of its lines, which a page does not
+    keep."""
     return "\n".join(line.expandtabs().rstrip() for line in text.splitlines()).rstrip()
 
 
 def run(command, folder):
-    """What a command prints and complains, and whether it did what it is for: `diff` ends with 1 where it finds something, and so does a refusal."""
+    """What a command prints and complains, and whether it did what it is for: `diff` ends with 1
+    where it finds something, and so does a refusal."""
     words = ["bash", "-o", "pipefail", "-c", command]
     path = f"{folder}/bin:{os.environ['PATH']}"
-    done = subprocess.run(words, cwd=folder, env={**os.environ, "PATH": path}, capture_output=True, text=True, timeout=120)
+    done = subprocess.run(
+        words,
+        cwd=folder,
+        env={**os.environ, "PATH": path},
+        capture_output=True,
+        text=True,
+        timeout=120,
+    )
     had = laid_out(done.stdout + done.stderr)
     expected = 1 if command.startswith("diff ") or had.startswith("pahole: ") else 0
     return had, done.returncode == expected
@@ -65,7 +75,9 @@ def main():
     program, folder, *pages = (os.path.abspath(word) for word in sys.argv[1:])
     os.mkdir(f"{folder}/bin")
     os.symlink(program, f"{folder}/bin/pahole")
-    is_same_compiler = COMPILER in subprocess.run(["cc", "--version"], capture_output=True, text=True).stdout
+    is_same_compiler = (
+        COMPILER in subprocess.run(["cc", "--version"], capture_output=True, text=True).stdout
+    )
     for page in pages:
         for command, wanted in examples(page):
             had, ended = run(command, folder)

@@ -1,5 +1,6 @@
-"""functions.py PROGRAM SOURCE DEMO FOLDER: encodes the functions of programs that compilers build of SOURCE in FOLDER, and compares them with what
-clang says of them; and those of the program of DEMO."""
+"""functions.py PROGRAM SOURCE DEMO FOLDER: encodes the functions of programs that compilers
+build of SOURCE in FOLDER, and compares them with what clang says of them; and those of the
+program of DEMO."""
 import os
 import shutil
 import subprocess
@@ -16,8 +17,16 @@ BUILT = {
 }
 # what the BPF target can't have
 OTHERS = {
-    "external_of_structures": (True, "FUNC_PROTO  INT int 0 {node@0x0 STRUCT node; either@0x0 UNION either}", ["node", "either"]),
-    "external_with_more": (True, "FUNC_PROTO  INT int 0 {count@0x0 INT int; @0x0 void}", ["count", ""]),
+    "external_of_structures": (
+        True,
+        "FUNC_PROTO  INT int 0 {node@0x0 STRUCT node; either@0x0 UNION either}",
+        ["node", "either"],
+    ),
+    "external_with_more": (
+        True,
+        "FUNC_PROTO  INT int 0 {count@0x0 INT int; @0x0 void}",
+        ["count", ""],
+    ),
 }
 
 
@@ -35,12 +44,14 @@ def contents(path):
 
 
 def of_clang(source):
-    """The functions that clang writes as BTF, or why there are none. It knows parameters' names where it optimizes."""
+    """The functions that clang writes as BTF, or why there are none. It knows parameters' names
+    where it optimizes."""
     cutter = shutil.which("llvm-objcopy") or shutil.which("objcopy")
     if not shutil.which("clang") or not cutter:
         return None
-    clang = ["clang", "-target", "bpf", "-w", "-g", "-O1", "-fno-inline", "-c", "-o", "bpf.o", source]
-    if run(clang).returncode or run([cutter, "--dump-section", ".BTF=bpf.btf", "bpf.o", os.devnull]).returncode:
+    clang = "clang -target bpf -w -g -O1 -fno-inline -c -o bpf.o".split()
+    cut = [cutter, "--dump-section", ".BTF=bpf.btf", "bpf.o", os.devnull]
+    if run([*clang, source]).returncode or run(cut).returncode:
         return None
     return Described(contents("bpf.btf")).functions()
 
@@ -77,7 +88,8 @@ def beside_pahole():
 
 
 def of_demo(program, demo):
-    """What is wrong with the functions of the program of demo/, as this program and bpftool tell them, and libbpf reads them."""
+    """What is wrong with the functions of the program of demo/, as this program and bpftool tell
+    them, and libbpf reads them."""
     if run(["cc", "-w", "-g", "-o", "a", f"{demo}/registry.c", f"{demo}/main.c"]).returncode:
         return "it can't be built"
     had, data = encoded(program, "--funcs")
@@ -86,7 +98,10 @@ def of_demo(program, demo):
     if {name: told[0] for name, told in had.items()} != OF_DEMO:
         return f"it has {sorted(had)}"
     reader = f"{os.path.dirname(os.path.abspath(__file__))}/structures.c"
-    if run(["cc", "-o", "structures", reader, "-lbpf"]).returncode == 0 and run(["./structures", "o"]).returncode:
+    if (
+        run(["cc", "-o", "structures", reader, "-lbpf"]).returncode == 0
+        and run(["./structures", "o"]).returncode
+    ):
         return "libbpf refuses it"
     if not shutil.which("bpftool"):
         return None
@@ -115,9 +130,18 @@ def main():
             wrong = fault(program, told)
             print(f"failed {name}: {wrong}" if wrong else f"passed {name}: {len(told)} functions")
     wrong = of_demo(program, demo)
-    print(f"failed functions demo: {wrong}" if wrong else f"passed functions demo: {len(OF_DEMO)} functions")
-    if run(["cc", "-w", "-g", "-o", "a", source]).returncode == 0 and run([program, "--btf_encode_detached=o", "--funcs", "a"]).returncode == 0:
-        peers = [("bpftool", lambda: run(["bpftool", "btf", "dump", "file", "o"]).stderr.strip()), ("pahole", beside_pahole)]
+    if wrong:
+        print(f"failed functions demo: {wrong}")
+    else:
+        print(f"passed functions demo: {len(OF_DEMO)} functions")
+    if (
+        run(["cc", "-w", "-g", "-o", "a", source]).returncode == 0
+        and run([program, "--btf_encode_detached=o", "--funcs", "a"]).returncode == 0
+    ):
+        peers = [
+            ("bpftool", lambda: run(["bpftool", "btf", "dump", "file", "o"]).stderr.strip()),
+            ("pahole", beside_pahole),
+        ]
         for peer, asked in peers:
             if not shutil.which(peer):
                 print(f"skipped functions {peer}: it is not installed")

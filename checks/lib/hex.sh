@@ -1,3 +1,4 @@
+# shellcheck shell=bash
 # Sourced by the checks: the files *.hex of the cases as bytes.
 
 # Lower-case hex on standard input to bytes on standard output.

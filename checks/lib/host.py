@@ -1,4 +1,5 @@
-"""host.py PROGRAM FOLDER: runs PROGRAM in FOLDER, on its file `a`, where the host fails in one way or another; `disk` is a small full disk, if it is there."""
+"""host.py PROGRAM FOLDER: runs PROGRAM in FOLDER, on its file `a`, where the host fails in one
+way or another; `disk` is a small full disk, if it is there."""
 import os
 import shutil
 import subprocess
@@ -6,7 +7,8 @@ import sys
 import threading
 
 SECONDS = 60
-# the most bytes of a file, and what else a run reads: its libraries' beginnings, and what this program reads of its complaint
+# the most bytes of a file, and what else a run reads: its libraries' beginnings, and what this
+# program reads of its complaint
 LIMIT = 1 << 30
 BESIDE = 1 << 16
 # words that run a program as nobody, for a user who may read every file
@@ -20,7 +22,8 @@ def read(path):
 
 
 def run(program, words, **how):
-    """The status of a run, and its complaint. Python gives the program the signals' usual actions."""
+    """The status of a run, and its complaint. Python gives the program the signals' usual
+    actions."""
     how = {"stdout": subprocess.PIPE, "stderr": subprocess.PIPE, "stdin": subprocess.DEVNULL, **how}
     done = subprocess.run([program, *words], timeout=SECONDS, **how)
     return done.returncode, done.stderr, done.stdout
@@ -49,8 +52,14 @@ def prints_to(program, output):
 
 def prints_nowhere(program):
     """Standard output is closed before the program begins."""
-    done = subprocess.run(["sh", "-c", '"$0" -s a >&-', program], capture_output=True, timeout=SECONDS)
-    return None if (done.returncode, done.stderr) == (3, b"pahole: cannot print\n") else f"status {done.returncode}, {done.stderr!r}"
+    done = subprocess.run(
+        ["sh", "-c", '"$0" -s a >&-', program], capture_output=True, timeout=SECONDS
+    )
+    return (
+        None
+        if (done.returncode, done.stderr) == (3, b"pahole: cannot print\n")
+        else f"status {done.returncode}, {done.stderr!r}"
+    )
 
 
 def complains_to(program, output):
@@ -129,19 +138,37 @@ def cases(program):
     yield "standard output is closed", lambda: prints_nowhere(program)
     yield "standard error is full", lambda: complains_to(program, full)
     yield "standard error is a pipe without a reader", lambda: complains_to(program, to_nobody())
-    yield "a file is missing", lambda: ends(program, ["missing"], 3, "pahole: cannot read missing\n")
+    yield "a file is missing", lambda: ends(
+        program, ["missing"], 3, "pahole: cannot read missing\n"
+    )
     yield "a file is a folder", lambda: ends(program, ["."], 3, "pahole: cannot read .\n")
     if os.path.exists("/proc/self/io"):
         yield "a file never ends", lambda: reads_no_more_than_the_limit(program)
     else:
-        yield "a file never ends", lambda: ends(program, ["/dev/zero"], 1, "pahole: /dev/zero: image 0: error 110\n")
-        print("skipped host how much is read of a file that never ends: this machine does not tell it")
-    yield "the second of two files vanished", lambda: keeps(program, ["a", "missing"], 3, "pahole: cannot read missing\n")
-    yield "the base vanished", lambda: keeps(program, ["--btf_base=missing", "a"], 3, "pahole: cannot read missing\n")
-    yield "a refused file keeps an old output", lambda: keeps(program, ["/dev/null"], 1, "pahole: /dev/null: image 0: error 10\n")
-    yield "the output's folder is missing", lambda: ends(program, [ENCODE + "missing/o", "a"], 3, "pahole: cannot store missing/o\n")
-    yield "the output is a folder", lambda: ends(program, [ENCODE + ".", "a"], 3, "pahole: cannot store .\n")
-    yield "the output is full", lambda: ends(program, [ENCODE + "/dev/full", "a"], 3, "pahole: cannot store /dev/full\n")
+        yield "a file never ends", lambda: ends(
+            program, ["/dev/zero"], 1, "pahole: /dev/zero: image 0: error 110\n"
+        )
+        print(
+            "skipped host how much is read of a file that never ends: this machine does not tell it"
+        )
+    yield "the second of two files vanished", lambda: keeps(
+        program, ["a", "missing"], 3, "pahole: cannot read missing\n"
+    )
+    yield "the base vanished", lambda: keeps(
+        program, ["--btf_base=missing", "a"], 3, "pahole: cannot read missing\n"
+    )
+    yield "a refused file keeps an old output", lambda: keeps(
+        program, ["/dev/null"], 1, "pahole: /dev/null: image 0: error 10\n"
+    )
+    yield "the output's folder is missing", lambda: ends(
+        program, [ENCODE + "missing/o", "a"], 3, "pahole: cannot store missing/o\n"
+    )
+    yield "the output is a folder", lambda: ends(
+        program, [ENCODE + ".", "a"], 3, "pahole: cannot store .\n"
+    )
+    yield "the output is full", lambda: ends(
+        program, [ENCODE + "/dev/full", "a"], 3, "pahole: cannot store /dev/full\n"
+    )
     yield "a file is a pipe", lambda: reads_a_pipe(program)
     yield "the output is an input", lambda: stores_over_its_input(program)
     if os.path.isdir("disk"):
@@ -150,7 +177,8 @@ def cases(program):
         print("skipped host the disk is full: no small disk can be mounted here")
     starts = AS_NOBODY if os.getuid() == 0 else []
     if starts and (not shutil.which(starts[0]) or subprocess.run([*starts, "true"]).returncode):
-        print("skipped host a file that may not be read: this user may read every file, and can be no other")
+        why = "this user may read every file, and can be no other"
+        print(f"skipped host a file that may not be read: {why}")
     else:
         yield "a file that may not be read", lambda: may_not_read(program, starts)
 

@@ -1,6 +1,7 @@
-"""layouts.py PROGRAM DEMO FOLDER: prints the layouts of programs that the compiler builds in FOLDER, and compares them with what the
-compiler says. A type is a dict: `c`, how C names it; `name`, how it is printed; `members`, in order, each its name (None where it has
-none) and whether it is a bit field."""
+"""layouts.py PROGRAM DEMO FOLDER: prints the layouts of programs that the compiler builds in
+FOLDER, and compares them with what the compiler says. A type is a dict: `c`, how C names it;
+`name`, how it is printed; `members`, in order, each its name (None where it has none) and
+whether it is a bit field."""
 import os
 import random
 import re
@@ -15,25 +16,80 @@ DEMO = [
     ("struct list_head", ["next", "prev"]),
     ("union word", ["whole", "halves", None]),
     ("struct packet", ["kind:", "last:", "sequence", None, "reply", "payload"]),
-    ("struct registry", ["tag", "count", "entries", "store", "state", "bound", "compare", "report", "mapped", "users", "digest", "grid",
-                         "ready:", "level:", "delta:"]),
+    (
+        "struct registry",
+        [
+            "tag",
+            "count",
+            "entries",
+            "store",
+            "state",
+            "bound",
+            "compare",
+            "report",
+            "mapped",
+            "users",
+            "digest",
+            "grid",
+            "ready:",
+            "level:",
+            "delta:",
+        ],
+    ),
     ("struct store", ["owner", "packets", "used"]),
     ("point", ["x", "y", "weight", "exact"]),
 ]
 
-WHOLE = ["char", "signed char", "short", "unsigned short", "int", "unsigned", "long", "unsigned long", "long long", "float", "double",
-         "long double", "_Bool", "void *", "int (*{})(int, char *)", "const char *const", "enum two"]
-FIELDS = {"unsigned char": 8, "short": 16, "unsigned short": 16, "int": 32, "unsigned": 32, "long long": 64, "unsigned long long": 64,
-          "_Bool": 1}
-ATTRIBUTES = ["", "", "", "__attribute__((packed))", "__attribute__((aligned(32)))", "__attribute__((packed, aligned(4)))"]
+WHOLE = [
+    "char",
+    "signed char",
+    "short",
+    "unsigned short",
+    "int",
+    "unsigned",
+    "long",
+    "unsigned long",
+    "long long",
+    "float",
+    "double",
+    "long double",
+    "_Bool",
+    "void *",
+    "int (*{})(int, char *)",
+    "const char *const",
+    "enum two",
+]
+FIELDS = {
+    "unsigned char": 8,
+    "short": 16,
+    "unsigned short": 16,
+    "int": 32,
+    "unsigned": 32,
+    "long long": 64,
+    "unsigned long long": 64,
+    "_Bool": 1,
+}
+ATTRIBUTES = [
+    "",
+    "",
+    "",
+    "__attribute__((packed))",
+    "__attribute__((aligned(32)))",
+    "__attribute__((packed, aligned(4)))",
+]
 
 
 def named(c, members):
-    return {"c": c, "name": c.split()[-1], "members": [(m and m.rstrip(":"), bool(m) and m.endswith(":")) for m in members]}
+    return {
+        "c": c,
+        "name": c.split()[-1],
+        "members": [(m and m.rstrip(":"), bool(m) and m.endswith(":")) for m in members],
+    }
 
 
 def made_member(dice, place, flat):
-    """A member as C writes it, its name, and whether it is a bit field. `flat` are types that hold no other one."""
+    """A member as C writes it, its name, and whether it is a bit field. `flat` are types that
+    hold no other one."""
     name, sort = f"m{place}", dice.random()
     if sort < 0.35:
         base = dice.choice(list(FIELDS))
@@ -41,7 +97,8 @@ def made_member(dice, place, flat):
     if sort < 0.4:
         return f"{dice.choice(['int', 'long long'])} : {dice.choice([0, 0, 3])};", None, True
     if sort < 0.5:
-        return f"union {{ char a{place}; {dice.choice(['short', 'int', 'double'])} b{place}[{dice.randint(1, 3)}]; }};", None, False
+        item = f"{dice.choice(['short', 'int', 'double'])} b{place}[{dice.randint(1, 3)}]"
+        return f"union {{ char a{place}; {item}; }};", None, False
     base = dice.choice(flat) if flat and sort < 0.65 else dice.choice(WHOLE)
     bounds = "".join(f"[{dice.randint(1, 4)}]" for _ in range(dice.choice([0, 0, 0, 1, 2])))
     if "{}" in base:
@@ -78,7 +135,9 @@ def made_types(dice):
 
 
 def built(flags, out, sources):
-    done = subprocess.run(["cc", "-g", "-gdwarf-5", "-w", *flags, "-o", out, *sources], capture_output=True)
+    done = subprocess.run(
+        ["cc", "-g", "-gdwarf-5", "-w", *flags, "-o", out, *sources], capture_output=True
+    )
     return done.returncode == 0
 
 
@@ -98,9 +157,17 @@ BITS = """static void bits(const unsigned char *bytes, size_t count)
 
 
 def says(flags, header, types):
-    """What the compiler says of each type: its bytes, and the first bit and the bits of each member with a name; None where its program
-    can't be built or run."""
-    lines = [f'#include "{header}"', "#include <stddef.h>", "#include <stdio.h>", "#include <string.h>", BITS, "int main(int argc, char **argv)", "{"]
+    """What the compiler says of each type: its bytes, and the first bit and the bits of each
+    member with a name; None where its program can't be built or run."""
+    lines = [
+        f'#include "{header}"',
+        "#include <stddef.h>",
+        "#include <stdio.h>",
+        "#include <string.h>",
+        BITS,
+        "int main(int argc, char **argv)",
+        "{",
+    ]
     for t in types:
         c = t["c"]
         lines.append(f'\tprintf("{t["name"]} %zu", sizeof({c}));')
@@ -108,11 +175,17 @@ def says(flags, header, types):
             if name is None:
                 continue
             if field:
-                lines.append(f"\t{{ {c} all; memset(&all, 0, sizeof all); all.{name} = -argc; bits((unsigned char *)&all, sizeof all); }}")
+                lines.append(
+                    f"\t{{ {c} all; memset(&all, 0, sizeof all); all.{name} = -argc; "
+                    "bits((unsigned char *)&all, sizeof all); }"
+                )
             elif name == "payload":
                 lines.append(f'\tprintf(" %zu 0", 8 * offsetof({c}, {name}));')
             else:
-                lines.append(f'\tprintf(" %zu %zu", 8 * offsetof({c}, {name}), 8 * sizeof((({c} *)0)->{name}));')
+                lines.append(
+                    f'\tprintf(" %zu %zu", 8 * offsetof({c}, {name}), '
+                    f"8 * sizeof((({c} *)0)->{name}));"
+                )
         lines.append('\tputs("");')
     lines += ["\treturn 0;", "}", ""]
     with open("says.c", "w") as file:
@@ -146,13 +219,16 @@ def printed(text):
     for part in re.split(r"\n\n(?=(?:struct|union|typedef) )", text):
         lines = part.rstrip("\n").split("\n")
         name = lines[0].split(" ")[1] if not lines[0].startswith("typedef") else lines[-1][2:-1]
-        size = next(int(re.search(r"size: (\d+)", line)[1]) for line in lines if "/* size: " in line)
+        size = next(
+            int(re.search(r"size: (\d+)", line)[1]) for line in lines if "/* size: " in line
+        )
         found[name] = (size, [member(line) for line in lines[1:] if PLACE.search(line)])
     return found
 
 
 def wrong(t, told, had):
-    """What differs between the layout of a type that is printed and what the compiler says, or nothing."""
+    """What differs between the layout of a type that is printed and what the compiler says, or
+    nothing."""
     size, places = told
     if had[0] != size:
         return f"{had[0]} bytes, the compiler says {size}"
@@ -166,7 +242,8 @@ def wrong(t, told, had):
             return f"no member {name} in {text!r}"
         wanted = next(rest)
         if (first, bits) != wanted:
-            return f"{name} has {bits} bits from {first} on, the compiler says {wanted[1]} from {wanted[0]} on"
+            says = f"{wanted[1]} from {wanted[0]} on"
+            return f"{name} has {bits} bits from {first} on, the compiler says {says}"
         if field != bool(re.search(rf"\b{name}:{bits};", text)):
             return f"{name} in {text!r}"
     return None
@@ -182,7 +259,9 @@ def checked(program, flags, header, sources, types):
     lines = subprocess.run([program, "-s", "a"], capture_output=True, text=True, timeout=120)
     if done.returncode or lines.returncode:
         return "failed", f"status {done.returncode} and {lines.returncode}, {done.stderr!r}"
-    had, sizes = printed(done.stdout), dict(line.split("\t")[:2] for line in lines.stdout.splitlines())
+    had, sizes = printed(done.stdout), dict(
+        line.split("\t")[:2] for line in lines.stdout.splitlines()
+    )
     for t in types:
         name = t["name"]
         if name not in had:
@@ -193,22 +272,26 @@ def checked(program, flags, header, sources, types):
         if fault:
             return "failed", f"{name}: {fault}"
     count = sum(name is not None for t in types for name, _ in t["members"])
-    return "passed", f"{len(types)} structures and unions with {count} members are as the compiler lays them out"
+    what = f"{len(types)} structures and unions with {count} members"
+    return "passed", f"{what} are as the compiler lays them out"
 
 
 HOLE = "struct s { int a : 1; int b; } kept;\nint main(void) { return 0; }\n"
 
 
 def behind_a_bit_field(program):
-    """The holes with whole bytes behind a bit of an int: here 31 bits are 3 bytes and 7 bits, and for Debian's tool pahole, which counts
-    them by the field's type, 31 bits."""
+    """The holes with whole bytes behind a bit of an int: here 31 bits are 3 bytes and 7 bits,
+    and for Debian's tool pahole, which counts them by the field's type, 31 bits."""
     if not shutil.which("pahole"):
         return "skipped", "pahole is not installed"
     with open("hole.c", "w") as file:
         file.write(HOLE)
     if not built([], "hole", ["hole.c"]):
         return "skipped", "the compiler can't build it"
-    ours, theirs = (subprocess.run([tool, "-s", "hole"], capture_output=True, text=True).stdout for tool in (program, "pahole"))
+    ours, theirs = (
+        subprocess.run([tool, "-s", "hole"], capture_output=True, text=True).stdout
+        for tool in (program, "pahole")
+    )
     if (ours, theirs) != ("s\t8\t1\n", "s\t8\t0\n"):
         return "failed", f"{ours!r}, and Debian's pahole says {theirs!r}"
     return "passed", "one hole of whole bytes here, none by Debian's pahole"
@@ -226,7 +309,12 @@ def main():
         with open(f"{demo}/registry.c") as source:
             file.write(source.read().replace('"registry.h"', f'"{demo}/registry.h"'))
     programs = [
-        ("demo", "demo.h", [f"{demo}/registry.c", f"{demo}/main.c"], [named(c, members) for c, members in DEMO]),
+        (
+            "demo",
+            "demo.h",
+            [f"{demo}/registry.c", f"{demo}/main.c"],
+            [named(c, members) for c, members in DEMO],
+        ),
         ("made", "made.h", ["made.c"], types),
     ]
     for flags in WAYS:

@@ -1,3 +1,4 @@
+# shellcheck shell=bash
 # Sourced by the checks and tools.
 
 # need NAME TOOL..: where a tool is missing, says that NAME is skipped, and ends.

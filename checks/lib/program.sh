@@ -1,3 +1,4 @@
+# shellcheck shell=bash
 # Sourced by the checks: sets `program` to the built program, or says why there is none.
 # PAHOLE names another program to look at.
 root=$(cd "$(dirname "${BASH_SOURCE[0]}")/../.." && pwd)

@@ -1,4 +1,5 @@
-"""programs.py PROGRAM DEMO FOLDER: encodes and shows programs that compilers build of DEMO's sources in FOLDER."""
+"""programs.py PROGRAM DEMO FOLDER: encodes and shows programs that compilers build of DEMO's
+sources in FOLDER."""
 import os
 import re
 import shutil
@@ -11,17 +12,41 @@ from described import Described
 from elf import sections, units
 from larger import larger
 
-# compilers, each with the ways in which it builds the program: for this machine, for others with big-endian numbers of 64 bits (two) and
-# of 32 bits, for AArch64, and clang, which places bit fields as DWARF 5 has it with -glldb alone; -r links to a relocatable object
+# compilers, each with the ways in which it builds the program: for this machine, for others with
+# big-endian numbers of 64 bits (two) and of 32 bits, for AArch64, and clang, which places bit
+# fields as DWARF 5 has it with -glldb alone; -r links to a relocatable object
 ACCEPTED = {
-    "cc": ["", "-static", "-static-pie", "-m32", "-m32 -static", "-gdwarf64", "-m32 -gdwarf64", "-g3", "-flto", "-O2", "-shared -fPIC",
-           "-fshort-enums -fpack-struct=2", "-gdwarf-4", "-gdwarf-4 -m32", "-gdwarf-4 -gdwarf64", "-r -nostdlib",
-           "-gdwarf-4 -r -nostdlib"],
+    "cc": [
+        "",
+        "-static",
+        "-static-pie",
+        "-m32",
+        "-m32 -static",
+        "-gdwarf64",
+        "-m32 -gdwarf64",
+        "-g3",
+        "-flto",
+        "-O2",
+        "-shared -fPIC",
+        "-fshort-enums -fpack-struct=2",
+        "-gdwarf-4",
+        "-gdwarf-4 -m32",
+        "-gdwarf-4 -gdwarf64",
+        "-r -nostdlib",
+        "-gdwarf-4 -r -nostdlib",
+    ],
     "powerpc64-linux-gnu-gcc": ["", "-static", "-gdwarf64", "-g3", "-flto", "-gdwarf-4"],
     "s390x-linux-gnu-gcc": ["", "-static", "-gdwarf-4"],
     "mips-linux-gnu-gcc": ["", "-static", "-gdwarf64", "-gdwarf-4"],
     "aarch64-linux-gnu-gcc": ["", "-r -nostdlib", "-gdwarf-4 -r -nostdlib"],
-    "clang": ["-glldb", "-glldb -flto -fuse-ld=lld", "-glldb -m32", "-gdwarf-4", "-gdwarf-4 -m32", "-glldb -r -nostdlib"],
+    "clang": [
+        "-glldb",
+        "-glldb -flto -fuse-ld=lld",
+        "-glldb -m32",
+        "-gdwarf-4",
+        "-gdwarf-4 -m32",
+        "-glldb -r -nostdlib",
+    ],
 }
 # how a file is built, and what a tool then makes of it that is still accepted
 TREATED = [
@@ -31,7 +56,13 @@ TREATED = [
 ]
 # flags that change how the types lie
 OF_LAYOUT = {"-m32", "-fshort-enums", "-fpack-struct=2"}
-DEBUG_SECTIONS = [".debug_info", ".debug_abbrev", ".debug_str", ".debug_line_str", ".debug_str_offsets"]
+DEBUG_SECTIONS = [
+    ".debug_info",
+    ".debug_abbrev",
+    ".debug_str",
+    ".debug_line_str",
+    ".debug_str_offsets",
+]
 
 
 def run(words):
@@ -65,31 +96,38 @@ def fault_of_table(told, had):
     return None
 
 
-# a member's line: its name, behind which may stand brackets or the bits of a bit field, and its place
+# a member's line: its name, behind which may stand brackets or the bits of a bit field, and its
+# place
 LINE = re.compile(r"\t.*?(\w+)(?:\[\d*\])*(?::\d+)?; */\* +(\d+)(?::(\d+))? +(\d+) \*/")
 SIZE = re.compile(r"\t/\* size: (\d+),")
 
 
 def fault_of_layouts(program, told, had):
-    """What differs between the printed layouts and what the compiler says; inner members are not printed."""
+    """What differs between the printed layouts and what the compiler says; inner members are not
+    printed."""
     for name, (size, places, sizes) in told.items():
         one, four = run([program, "-C", name, "a"]), run([program, "-j4", "-C", name, "a"])
         if one.returncode != 0 or one.stdout != four.stdout:
-            return f"-C {name}: status {one.returncode}, {one.stderr!r}; equal texts: {one.stdout == four.stdout}"
+            same = one.stdout == four.stdout
+            return f"-C {name}: status {one.returncode}, {one.stderr!r}; equal texts: {same}"
         text = one.stdout.decode()
         printed = {}
         for member, byte, bit, count in LINE.findall(text):
             field = places[member].bits != 0
             printed[member] = Member(8 * int(byte) + int(bit or 0), int(count) if field else 0)
             if not field and int(count) != sizes[member]:
-                return f"{name}.{member} is shown with {count} bytes, the compiler says {sizes[member]}"
+                says = f"the compiler says {sizes[member]}"
+                return f"{name}.{member} is shown with {count} bytes, {says}"
         wanted = {member: place for member, place in places.items() if member not in had[name][2]}
         if printed != wanted:
             return f"{name} is shown as {printed}, the compiler says {wanted}"
         if SIZE.findall(text) != [str(size)]:
             return f"{name} is shown with {SIZE.findall(text)} bytes, the compiler says {size}"
         # the program of 32 bits has no type `long` to tell the width of pointers by
-        if contents("a")[4] == 2 and run([program, "-F", "btf", "-C", name, "o"]).stdout != one.stdout:
+        if (
+            contents("a")[4] == 2
+            and run([program, "-F", "btf", "-C", name, "o"]).stdout != one.stdout
+        ):
             return f"{name} is shown otherwise from the BTF file"
     return None
 
@@ -97,13 +135,19 @@ def fault_of_layouts(program, told, had):
 def fault_of_readers(readers, told):
     """What other readers of BTF, where they are installed, make of the stored file."""
     for form in ("raw", "c"):
-        if "bpftool" in readers and run([readers["bpftool"], "btf", "dump", "file", "o", "format", form]).returncode != 0:
+        if (
+            "bpftool" in readers
+            and run([readers["bpftool"], "btf", "dump", "file", "o", "format", form]).returncode
+            != 0
+        ):
             return f"bpftool refuses it as {form}"
     if "pahole" in readers:
         for line in run([readers["pahole"], "-s", "a"]).stdout.decode().splitlines():
             name, size, _ = line.split("\t")
             if name in told and told[name][0] != int(size):
-                return f"pahole says that {name} has {size} bytes, the compiler says {told[name][0]}"
+                return (
+                    f"pahole says that {name} has {size} bytes, the compiler says {told[name][0]}"
+                )
     if "libbpf" not in readers:
         return None
     done = run([readers["libbpf"], "o"])
@@ -113,7 +157,10 @@ def fault_of_readers(readers, told):
     for line in done.stdout.decode().splitlines():
         name, size, *members = line.split(" ")
         rows = (re.match(r"(.*)=(\d+):(\d+)", member).groups() for member in members)
-        read[name] = (int(size), {member: Member(int(bit), int(bits)) for member, bit, bits in rows})
+        read[name] = (
+            int(size),
+            {member: Member(int(bit), int(bits)) for member, bit, bits in rows},
+        )
     for name in read.keys() & told.keys():
         size, places, _ = told[name]
         if read[name][0] != size or not read[name][1].items() <= places.items():
@@ -128,12 +175,23 @@ def verdict_on(program, demo, readers, compiler, flags):
         return "skipped", "the compiler can't build what it is asked for sizes by"
     one, four = encoded(program, "-j1"), encoded(program, "-j4")
     if one[0] != 0 or one != four:
-        return "failed", f"one worker: {one[:2]}, four: {four[:2]}, equal bytes: {one[2] == four[2]}"
+        return (
+            "failed",
+            f"one worker: {one[:2]}, four: {four[:2]}, equal bytes: {one[2] == four[2]}",
+        )
     had = structures(one[2])
-    fault = fault_of_table(told, had) or fault_of_readers(readers, told) or fault_of_layouts(program, told, had)
+    fault = (
+        fault_of_table(told, had)
+        or fault_of_readers(readers, told)
+        or fault_of_layouts(program, told, had)
+    )
     if not fault and encoded(program, "-j1", ("a", "a"))[2] != one[2]:
         fault = "the file given twice stores other bytes"
-    return ("failed", fault) if fault else ("passed", f"{os.path.getsize('a')} bytes of ELF, {len(one[2])} bytes of BTF")
+    return (
+        ("failed", fault)
+        if fault
+        else ("passed", f"{os.path.getsize('a')} bytes of ELF, {len(one[2])} bytes of BTF")
+    )
 
 
 def accepted(program, demo, readers, compiler, flags):
@@ -193,14 +251,19 @@ def is_refused(program, files, line):
 
 def mixed(program, demo):
     """Two files of different classes."""
-    if not build("cc", [], "a", sources_of(demo)) or not build("cc", ["-m32"], "b", sources_of(demo)):
+    if not build("cc", [], "a", sources_of(demo)) or not build(
+        "cc", ["-m32"], "b", sources_of(demo)
+    ):
         return "skipped", "the compiler can't build them"
     return is_refused(program, ("a", "b"), "pahole: b: image 4: error 16\n")
 
 
 def without_strings(program, demo):
     """A file without its section of strings."""
-    if not build("cc", [], "a", sources_of(demo)) or run(["objcopy", "-R", ".debug_str", "a"]).returncode != 0:
+    if (
+        not build("cc", [], "a", sources_of(demo))
+        or run(["objcopy", "-R", ".debug_str", "a"]).returncode != 0
+    ):
         return "skipped", "it can't be made"
     return is_refused(program, ("a",), r"pahole: a: \.debug_info \d+: error 42 \d+\n")
 
@@ -215,13 +278,18 @@ def without_offsets(program, demo):
 
 
 def old_bit_fields(program, demo):
-    """clang 14 places bit fields by an attribute that DWARF 5 no longer has, unless -glldb is given: they seem to begin at the member's first byte."""
-    if b"version 14." not in run(["clang", "--version"]).stdout or not build("clang", [], "a", sources_of(demo)):
+    """clang 14 places bit fields by an attribute that DWARF 5 no longer has, unless -glldb is
+    given: they seem to begin at the member's first byte."""
+    if b"version 14." not in run(["clang", "--version"]).stdout or not build(
+        "clang", [], "a", sources_of(demo)
+    ):
         return "skipped", "clang 14 can't build it"
     status, complaint, stored = encoded(program, "-j1")
     if status != 0:
         return "failed", f"status {status}, {complaint!r}"
-    fields = {name: place for name, place in structures(stored)["registry"][1].items() if place.bits}
+    fields = {
+        name: place for name, place in structures(stored)["registry"][1].items() if place.bits
+    }
     if not fields or any(place.bit % 8 for place in fields.values()):
         return "failed", f"the bit fields are {fields}"
     return "passed", f"{len(fields)} bit fields begin at a member's first byte"
@@ -230,7 +298,8 @@ def old_bit_fields(program, demo):
 def supplementary(program, demo):
     """A file whose types refer to a supplementary file."""
     with open("more.c", "w") as file:
-        file.write(f'#include "{demo}/registry.h"\nstruct more {{ struct packet packet; union word *word; }} more;\n')
+        file.write(f'#include "{demo}/registry.h"\n')
+        file.write("struct more { struct packet packet; union word *word; } more;\n")
     for out, sources in (("a", [*sources_of(demo), "more.c"]), ("b", sources_of(demo))):
         if not build("cc", [], out, sources):
             return "skipped", "the compiler can't build it"
@@ -240,7 +309,8 @@ def supplementary(program, demo):
 
 
 def strange(alone, linked):
-    """A named type of one table that another doesn't have; what is only declared in the one may be defined in the other."""
+    """A named type of one table that another doesn't have; what is only declared in the one may
+    be defined in the other."""
     heads = {tuple(told.split(" ", 2)[:2]) for told in linked}
     for told in sorted(alone - linked):
         kind, name, _, flag = told.split(" ")[:4]
@@ -250,7 +320,8 @@ def strange(alone, linked):
 
 
 def objects(program, sources, compiler, flags):
-    """The objects of a program, as files of one run, give the table of the linked program, and each alone some of its types."""
+    """The objects of a program, as files of one run, give the table of the linked program, and
+    each alone some of its types."""
     if not shutil.which(compiler):
         return "skipped", "it is not installed"
     apart = [f"{number}.o" for number in range(len(sources))]
@@ -259,7 +330,9 @@ def objects(program, sources, compiler, flags):
             return "skipped", f"the compiler can't build {out}"
     linked, together = encoded(program, "-j1", ("linked",)), encoded(program, "-j1", apart)
     if together != encoded(program, "-j4", apart) or together != linked or linked[0] != 0:
-        return "failed", f"the objects: {together[:2]}, the linked program: {linked[:2]}, equal bytes: {together[2] == linked[2]}"
+        same = together[2] == linked[2]
+        both = f"the objects: {together[:2]}, the linked program: {linked[:2]}"
+        return "failed", f"{both}, equal bytes: {same}"
     known, counts = Described(linked[2]).named(), []
     for out in apart:
         status, complaint, stored = encoded(program, "-j1", (out,))
@@ -268,16 +341,26 @@ def objects(program, sources, compiler, flags):
         named = Described(stored).named()
         other = strange(named, known)
         if other:
-            return "failed", f"{out} alone has a type that the linked program has not: {other[:200]}"
+            told = f"a type that the linked program has not: {other[:200]}"
+            return "failed", f"{out} alone has {told}"
         counts.append(len(named))
-    return "passed", f"{len(linked[2])} bytes of BTF, {len(known)} named types; alone the objects have {min(counts)} to {max(counts)}"
+    alone = f"alone the objects have {min(counts)} to {max(counts)}"
+    return "passed", f"{len(linked[2])} bytes of BTF, {len(known)} named types; {alone}"
 
 
 # C and Rust in one program, of DWARF 5 and 4
 MIXED = {
-    "main.c": "struct of_c { int only; } of_c;\nextern int rust(void);\nint main(void) { return rust() + of_c.only; }\n",
-    "part.rs": "#![no_std]\npub struct OfRust { pub one: u32 }\n#[no_mangle]\npub extern \"C\" fn rust() -> i32 "
-               "{ OfRust { one: 0 }.one as i32 }\n#[panic_handler]\nfn stop(_: &core::panic::PanicInfo) -> ! { loop {} }\n",
+    "main.c": """struct of_c { int only; } of_c;
+extern int rust(void);
+int main(void) { return rust() + of_c.only; }
+""",
+    "part.rs": """#![no_std]
+pub struct OfRust { pub one: u32 }
+#[no_mangle]
+pub extern "C" fn rust() -> i32 { OfRust { one: 0 }.one as i32 }
+#[panic_handler]
+fn stop(_: &core::panic::PanicInfo) -> ! { loop {} }
+""",
 }
 
 
@@ -286,14 +369,17 @@ def with_rust(program):
     for name, text in MIXED.items():
         with open(name, "w") as file:
             file.write(text)
-    rust = ["rustc", "-g", "-Cpanic=abort", "--crate-type=lib", "--emit=obj", "-o", "part.o", "part.rs"]
+    rust = "rustc -g -Cpanic=abort --crate-type=lib --emit=obj -o part.o part.rs".split()
     if not shutil.which("rustc") or run(rust).returncode != 0:
         return "skipped", "rustc is not installed, or can't build it"
     if not build("cc", [], "a", ["main.c", "part.o"]) or not build("cc", ["-c"], "b", ["main.c"]):
         return "skipped", "the compiler can't build it"
     both, alone = encoded(program, "-j1"), encoded(program, "-j1", ("b",))
     if both != alone or both[0] != 0:
-        return "failed", f"with Rust: {both[:2]}, without: {alone[:2]}, equal bytes: {both[2] == alone[2]}"
+        return (
+            "failed",
+            f"with Rust: {both[:2]}, without: {alone[:2]}, equal bytes: {both[2] == alone[2]}",
+        )
     return "passed", f"{len(units(contents('a')))} units, {len(both[2])} bytes of BTF"
 
 
@@ -304,10 +390,15 @@ struct tagged { int tag("user") *one; int tag("user") tag("percpu") *two; int *n
 
 
 def type_tags(program, readers):
-    """Tags of types, as clang writes them, are types of the table between a pointer and what it points to."""
+    """Tags of types, as clang writes them, are types of the table between a pointer and what it
+    points to."""
     with open("tagged.c", "w") as file:
         file.write(TAGGED)
-    if not shutil.which("clang") or not build("clang", ["-c"], "a", ["tagged.c"]) or b"btf_type_tag" not in contents("a"):
+    if (
+        not shutil.which("clang")
+        or not build("clang", ["-c"], "a", ["tagged.c"])
+        or b"btf_type_tag" not in contents("a")
+    ):
         return "skipped", "clang can't build it"
     status, complaint, stored = encoded(program, "-j1")
     if status != 0:
@@ -321,13 +412,17 @@ def type_tags(program, readers):
     if "bpftool" not in readers:
         return "passed", f"{len(stored)} bytes of BTF"
     told = run([readers["bpftool"], "btf", "dump", "file", "o", "format", "raw"]).stdout.decode()
-    if len(re.findall(r"TYPE_TAG 'user'", told)) != 2 or len(re.findall(r"TYPE_TAG 'percpu'", told)) != 1:
+    if (
+        len(re.findall(r"TYPE_TAG 'user'", told)) != 2
+        or len(re.findall(r"TYPE_TAG 'percpu'", told)) != 1
+    ):
         return "failed", f"bpftool tells {told!r}"
     return "passed", f"{len(stored)} bytes of BTF, read by bpftool"
 
 
 def of_both_versions(program, demo, compiler):
-    """The table of the program by DWARF 4 is that by DWARF 5, but for types that are made of `_Atomic` ones, which gcc does not tell in version 4."""
+    """The table of the program by DWARF 4 is that by DWARF 5, but for types that are made of
+    `_Atomic` ones, which gcc does not tell in version 4."""
     tables = []
     for version in ("-gdwarf-4", "-gdwarf-5"):
         # clang 14 places bit fields as DWARF 5 has it with -glldb alone
@@ -340,7 +435,11 @@ def of_both_versions(program, demo, compiler):
         tables.append(Described(stored).named())
     atomic = {tuple(told.split(" ", 2)[:2]) for told in tables[1] if "_Atomic" in told}
     alone = [told for told in tables[0] ^ tables[1] if tuple(told.split(" ", 2)[:2]) not in atomic]
-    return ("failed", f"{alone[0][:200]} is in one alone") if alone else ("passed", f"{len(tables[0] & tables[1])} types are the same")
+    return (
+        ("failed", f"{alone[0][:200]} is in one alone")
+        if alone
+        else ("passed", f"{len(tables[0] & tables[1])} types are the same")
+    )
 
 
 def found_readers(folder):
@@ -375,15 +474,31 @@ def main():
             print(f"skipped programs {compiler}: it is not installed")
             continue
         for way in ways:
-            say(f"{compiler} {way}".strip(), accepted(program, demo, readers, compiler, way.split()))
+            say(
+                f"{compiler} {way}".strip(), accepted(program, demo, readers, compiler, way.split())
+            )
     for flags, words in TREATED:
-        say(f"cc {flags} {' '.join(words)}".replace("  ", " "), treated(program, demo, readers, flags.split(), words))
+        say(
+            f"cc {flags} {' '.join(words)}".replace("  ", " "),
+            treated(program, demo, readers, flags.split(), words),
+        )
     for way, wanted in REFUSED:
         say(f"cc {way}", refused(program, demo, way.split(), wanted))
-    for compiler, way in (("cc", ""), ("cc", "-gdwarf-4"), ("clang", "-glldb"), ("aarch64-linux-gnu-gcc", "")):
-        say(f"objects of {compiler} {way}".strip(), objects(program, sources_of(demo), compiler, way.split()))
+    for compiler, way in (
+        ("cc", ""),
+        ("cc", "-gdwarf-4"),
+        ("clang", "-glldb"),
+        ("aarch64-linux-gnu-gcc", ""),
+    ):
+        say(
+            f"objects of {compiler} {way}".strip(),
+            objects(program, sources_of(demo), compiler, way.split()),
+        )
     for compiler, way in (("gcc", ""), ("gcc", "-gdwarf-4"), ("clang", "-glldb")):
-        say(f"objects of a larger program by {compiler} {way}".strip(), objects(program, larger(), compiler, way.split()))
+        say(
+            f"objects of a larger program by {compiler} {way}".strip(),
+            objects(program, larger(), compiler, way.split()),
+        )
     for compiler in ("cc", "clang", "s390x-linux-gnu-gcc"):
         if shutil.which(compiler):
             say(f"of DWARF 4 and 5 by {compiler}", of_both_versions(program, demo, compiler))

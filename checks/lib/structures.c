@@ -1,5 +1,6 @@
-/* structures FILE: the structures and unions of a BTF file as libbpf reads it, a line for each that has a name: its name, its size, then
- * its members with a name as NAME=BIT:BITS, where BITS is 0 for one that is no bit field. */
+/* structures FILE: the structures and unions of a BTF file as libbpf reads it, a line for each that
+ * has a name: its name, its size, then its members with a name as NAME=BIT:BITS, where BITS is 0
+ * for one that is no bit field. */
 #include <bpf/btf.h>
 #include <bpf/libbpf.h>
 #include <stdio.h>
@@ -12,8 +13,8 @@ static void show(const struct btf *btf, const struct btf_type *type)
 	printf("%s %u", btf__name_by_offset(btf, type->name_off), type->size);
 	for (i = 0; i < btf_vlen(type); i++)
 		if (members[i].name_off)
-			printf(" %s=%u:%u", btf__name_by_offset(btf, members[i].name_off), btf_member_bit_offset(type, i),
-			       btf_member_bitfield_size(type, i));
+			printf(" %s=%u:%u", btf__name_by_offset(btf, members[i].name_off),
+			       btf_member_bit_offset(type, i), btf_member_bitfield_size(type, i));
 	putchar('\n');
 }
 
