@@ -1,13 +1,13 @@
 # pahole, proved. `make pahole` builds the proved program, `make demo` encodes a file with it, `make
 # test` is the gate and the repository's own checks. The pages' other numbers come from scripts that
-# no check runs, for they take long (tools/): `make measure` and `make turns` (docs/SPEED.md), `make
-# agree` and `make ways` (docs/AGREEMENT.md), `make plants`, `make edits`, `make unseen` and `make
-# memory` (docs/AUDIT.md).
+# no check runs, for they take long (tools/): `make measure`, `make turns` and `make drawn`
+# (docs/SPEED.md), `make agree` and `make ways` (docs/AGREEMENT.md), `make plants`, `make edits`,
+# `make unseen` and `make memory` (docs/AUDIT.md).
 PROGRAM = crates/pahole/out/pahole
 
 SHELL = bash
 
-.PHONY: pahole demo test measure turns agree ways plants unseen edits memory
+.PHONY: pahole demo test measure turns drawn agree ways plants unseen edits memory
 
 pahole:
 	@. checks/lib/toolchain.sh
@@ -32,6 +32,11 @@ measure:
 # docs/SPEED.md's table of turns
 turns:
 	bash tools/turns.sh $(VMLINUX) $(TURNS)
+
+# looks for files over which the work grows faster than their bytes: COUNT=n families of files (by
+# default 100) that the dice of SEED=n draw
+drawn:
+	python3 -B tools/drawn.py $(PROGRAM) $(or $(COUNT),100) $(SEED)
 
 # whether Debian's tool pahole writes the same types for FILES='a b', compared by what they are;
 # FUNCS=1 looks at functions, too

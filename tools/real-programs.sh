@@ -60,7 +60,8 @@ postgres() {
   built=src/backend/postgres
   unpack postgresql-15 &&
     ./configure CC="$cc" CFLAGS="$flags" --without-readline --without-zlib --without-icu &&
-    make -C src/backend generated-headers && make -j"$jobs" -C src/backend
+    make -C src/backend generated-headers && make -j"$jobs" -C src/port libpgport_srv.a &&
+    make -j"$jobs" -C src/common libpgcommon_srv.a && make -j"$jobs" -C src/backend
 }
 
 # Copies the program, and its largest objects, whose names are their paths with `_` for `/`. Those

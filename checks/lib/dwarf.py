@@ -17,10 +17,13 @@ class Tag(enum.IntEnum):
     STRUCTURE_TYPE = 0x13
     SUBROUTINE_TYPE = 0x15
     TYPEDEF = 0x16
+    UNION_TYPE = 0x17
     SUBRANGE_TYPE = 0x21
     BASE_TYPE = 0x24
+    CONST_TYPE = 0x26
     ENUMERATOR = 0x28
     SUBPROGRAM = 0x2E
+    VOLATILE_TYPE = 0x35
 
 
 class At(enum.IntEnum):
@@ -45,6 +48,7 @@ class Form(enum.IntEnum):
     STRING = 0x08
     DATA1 = 0x0B
     STRP = 0x0E
+    REF_ADDR = 0x10
     REF4 = 0x13
     FLAG_PRESENT = 0x19
 
