@@ -7,14 +7,13 @@ by more than MOST at each step. The same SEED, by default 1, draws the same fami
 import collections
 import os
 import random
-import resource
 import struct
-import subprocess
 import sys
 import tempfile
 import typing
 
 sys.path.append(os.path.join(os.path.dirname(os.path.abspath(__file__)), "..", "checks", "lib"))
+import timed
 from dwarf import DECLARATION, FIRST, INT, INT_ENTRY, NAME, PLACE, ROOT, SIZE, WIDE_SIZE
 from dwarf import At, Form, Tag, abbreviation, unit
 from elf import file_of
@@ -58,7 +57,7 @@ WITHOUT_TYPES = ("enumeration", "declared", "declared union", "declared enumerat
 # how many types there are, and the dice
 SHAPES = {
     "the next": lambda i, j, n, dice: i + 1 + j,
-    "the last": lambda i, j, n, dice: i - 1 - j,
+    "the one before": lambda i, j, n, dice: i - 1 - j,
     "a ring": lambda i, j, n, dice: (i + 1 + 7 * j) % n,
     "one": lambda i, j, n, dice: j,
     "a tree": lambda i, j, n, dice: 2 * i + 1 + j,
@@ -84,7 +83,7 @@ UNITS = {
     "as many as the root": lambda n: int(n**0.5),
     "a quarter as many": lambda n: n // 4,
 }
-ENCODE = ["--btf_encode_detached=o"]
+ENCODE, ENCODE_BASE = ["--btf_encode_detached=o"], ["--btf_encode_detached=base", "a"]
 JOBS = {
     "encoded": [*ENCODE, "a"],
     "encoded by four": [*ENCODE, "-j4", "a"],
@@ -160,8 +159,7 @@ def moved(nodes, by, count):
 def units_of(family, n):
     """The types of each unit, which are numbered over all units."""
     nodes = nodes_of(family, n)
-    types = [place for place, one in enumerate(nodes) if one.kind != "function"]
-    known = set(types)
+    known = {place for place, one in enumerate(nodes) if one.kind != "function"}
     nodes = [one._replace(targets=[to for to in one.targets if to in known]) for one in nodes]
     nodes = [one if one.targets else one._replace(targets=[OF_INT]) for one in nodes]
     before = [one for one in nodes if one.kind == "structure"] if family.is_declared else []
@@ -223,26 +221,15 @@ def written(units):
     return file_of([(b".debug_info", b"".join(info)), (b".debug_abbrev", TABLE)])
 
 
-def time_of(program, folder, words):
-    """The processor time of a run, and its status; the limit where it did not end in time."""
-    quiet = {"stdin": subprocess.DEVNULL, "stdout": subprocess.DEVNULL}
-    before = resource.getrusage(resource.RUSAGE_CHILDREN)
-    try:
-        done = subprocess.run(
-            [program, *words], cwd=folder, stderr=subprocess.DEVNULL, timeout=LIMIT, **quiet
-        )
-    except subprocess.TimeoutExpired:
-        return float(LIMIT), None
-    after = resource.getrusage(resource.RUSAGE_CHILDREN)
-    return after.ru_utime + after.ru_stime - before.ru_utime - before.ru_stime, done.returncode
-
-
 def measured(program, folder, family, n):
+    """The processor time of a run over a family's file of so many types, and its status; none where
+    it did not end in time."""
     with open(os.path.join(folder, "a"), "wb") as file:
         file.write(written(units_of(family, n)))
     if family.job == "over itself":
-        time_of(program, folder, ["--btf_encode_detached=base", "a"])
-    return time_of(program, folder, JOBS[family.job])
+        timed.run([program, *ENCODE_BASE], folder, LIMIT)
+    time, done = timed.run([program, *JOBS[family.job]], folder, LIMIT)
+    return (time, done.returncode) if done else (float(LIMIT), None)
 
 
 def times_of(program, folder, family):

@@ -5,10 +5,9 @@ where they grow each time. A kind that is known to grow with the square is told 
 place. SIZE is `small`, as the gate has it, or `large`, as `make measure` has it; a kind's large
 sizes are those times LARGER."""
 import os
-import resource
-import subprocess
 import sys
 
+import timed
 from hostile import KINDS, SMALL, SMALL_FILE
 
 MOST, ENOUGH, TRIES, LARGER, LIMIT = 3, 0.5, 3, 5, 120
@@ -17,22 +16,12 @@ MOST, ENOUGH, TRIES, LARGER, LIMIT = 3, 0.5, 3, 5, 120
 def run(program, folder, words):
     """The processor time of a run, and its complaint; None where it did not end in time or by a
     signal."""
-    before = resource.getrusage(resource.RUSAGE_CHILDREN)
-    try:
-        done = subprocess.run(
-            [program, *words],
-            cwd=folder,
-            stdin=subprocess.DEVNULL,
-            capture_output=True,
-            timeout=LIMIT,
-        )
-    except subprocess.TimeoutExpired:
+    time, done = timed.run([program, *words], folder, LIMIT)
+    if done is None:
         return None, f"it had not ended after {LIMIT} seconds"
-    after = resource.getrusage(resource.RUSAGE_CHILDREN)
-    said = done.stderr.decode(errors="replace").strip()[:100]
     if done.returncode < 0:
         return None, f"it ended by signal {-done.returncode}"
-    return after.ru_utime + after.ru_stime - before.ru_utime - before.ru_stime, said
+    return time, done.stderr.decode(errors="replace").strip()[:100]
 
 
 def measured(program, folder, kind, sizes):
