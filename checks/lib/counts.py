@@ -10,7 +10,7 @@ import subprocess
 import sys
 
 from btf import KINDS
-from docs import CODE, ROOT, crates, read
+from docs import CODE, ROOT, crates, read, tell
 from hostile import KINDS as HOSTILE
 
 sys.path.append(os.path.join(ROOT, "tools"))
@@ -250,11 +250,7 @@ def main():
         "speed": check_speed,
     }
     for name, check in checks.items():
-        faults, what = check()
-        said = (
-            f"failed docs {name}: {'; '.join(faults)}" if faults else f"passed docs {name}: {what}"
-        )
-        print(said)
+        tell(name, *check())
     if shutil.which("rt"):
         say_toolchain()
     else:

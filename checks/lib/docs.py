@@ -150,6 +150,14 @@ def check_refusals():
     )
 
 
+def tell(name, faults, what):
+    """Says whether a check of the pages found a fault, and if not what it looked at."""
+    if faults:
+        print(f"failed docs {name}: {'; '.join(faults)}")
+    else:
+        print(f"passed docs {name}: {what}")
+
+
 def main():
     checks = [
         (f"paths of {page}", lambda page=page: check_paths(page))
@@ -163,10 +171,7 @@ def main():
         ("refusals", check_refusals),
     ]
     for name, check in checks:
-        faults, what = check()
-        print(
-            f"failed docs {name}: {'; '.join(faults)}" if faults else f"passed docs {name}: {what}"
-        )
+        tell(name, *check())
 
 
 if __name__ == "__main__":

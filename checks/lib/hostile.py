@@ -26,27 +26,24 @@ def declarations(n):
     return file(table, unit(b"\2a\0" * n + b"\3a\0\4" * n))
 
 
+STRUCTURES = (
+    ROOT
+    + INT
+    + abbreviation(3, Tag.STRUCTURE_TYPE, 1, NAME, WIDE_SIZE)
+    + abbreviation(4, Tag.MEMBER, 0, NAME, TYPE, PLACE)
+)
+
+
+def structure(size, members):
+    """The entry of a structure `a` whose members, pairs of name and place, are integers."""
+    parts = [b"\4" + name + b"\0" + struct.pack("<II", FIRST, place) for name, place in members]
+    return struct.pack("<B2sI", 3, b"a", size) + b"".join(parts) + b"\0"
+
+
 def structures_of(n, middle):
     """Structures of one name with three members, of which the one in the middle differs."""
-    table = (
-        ROOT
-        + INT
-        + abbreviation(3, Tag.STRUCTURE_TYPE, 1, NAME, WIDE_SIZE)
-        + abbreviation(4, Tag.MEMBER, 0, NAME, TYPE, PLACE)
-    )
-
-    def member(name, place):
-        return b"\4" + name + b"\0" + struct.pack("<II", FIRST, place)
-
-    parts = [
-        struct.pack("<B2sI", 3, b"a", 8)
-        + member(b"x", 0)
-        + member(*middle(i))
-        + member(b"z", 4)
-        + b"\0"
-        for i in range(n)
-    ]
-    return file(table, unit(INT_ENTRY + b"".join(parts)))
+    bodies = [structure(8, [(b"x", 0), middle(i), (b"z", 4)]) for i in range(n)]
+    return file(STRUCTURES, unit(INT_ENTRY + b"".join(bodies)))
 
 
 def structures_by_place(n):
@@ -193,6 +190,11 @@ def sections(n):
     return header + names + first + row(1, SHT_PROGBITS, 64, 0) * n + last
 
 
+# an entry of a section of relocations: R_X86_64_32 of symbol 0, for the unit's place in the table
+# of abbreviations, which is 0
+AGAIN = struct.pack("<QQq", 8, 10, 0)
+
+
 def relocations(count, entries, targets):
     """An object with so many sections of the same relocations, for the targets by turns: 1 is
     .debug_info, 2 .debug_abbrev."""
@@ -215,11 +217,6 @@ def relocations(count, entries, targets):
     return b"".join([header_of(ET_REL, end, 0, SHN_XINDEX), *body, *rows])
 
 
-# an entry of a section of relocations: R_X86_64_32 of symbol 0, for the unit's place in the table
-# of abbreviations, which is 0
-AGAIN = struct.pack("<QQq", 8, 10, 0)
-
-
 def sections_of_relocations(n):
     return relocations(n, b"", (1, 2))
 
@@ -234,13 +231,15 @@ def codes_far_apart(n):
     return file(table, unit(b"".join(leb(code) for code in codes)))
 
 
-def ends_of_one_text(n):
+def structures_named_at(places, texts):
+    """Structures that differ in their names alone, which stand at these places of .debug_str."""
     table = ROOT + abbreviation(2, Tag.STRUCTURE_TYPE, 0, NAME_ELSEWHERE, SIZE)
-    return file(
-        table,
-        unit(b"".join(struct.pack("<BIB", 2, i, 4) for i in range(n))),
-        texts=b"a" * n + b"\0",
-    )
+    body = b"".join(struct.pack("<BIB", 2, place, 4) for place in places)
+    return file(table, unit(body), texts=texts)
+
+
+def ends_of_one_text(n):
+    return structures_named_at(range(n), b"a" * n + b"\0")
 
 
 # 14 bytes whose digest stays when a byte b is put before it, for the digest that names of more than
@@ -251,12 +250,7 @@ STAYS = bytes.fromhex("7188897f8987858b7f817f7a867d")
 def ends_of_one_digest(n):
     """Structures whose names are ends of one text, and have one digest, those of more than 4,096
     bytes."""
-    table = ROOT + abbreviation(2, Tag.STRUCTURE_TYPE, 0, NAME_ELSEWHERE, SIZE)
-    return file(
-        table,
-        unit(b"".join(struct.pack("<BIB", 2, i, 4) for i in range(n))),
-        texts=b"b" * n + STAYS + b"\0",
-    )
+    return structures_named_at(range(n), b"b" * n + STAYS + b"\0")
 
 
 def functions_named_by_ends_of_one_text(n):
@@ -296,22 +290,13 @@ def structures_of_one_long_name(n):
 
 def long_names(n):
     """Structures whose names, of 5,000 bytes each, differ in the middle alone."""
-    table = ROOT + abbreviation(2, Tag.STRUCTURE_TYPE, 0, NAME_ELSEWHERE, SIZE)
     texts = b"".join(b"a" * 2500 + b"%08d" % i + b"a" * 2491 + b"\0" for i in range(n))
-    return file(
-        table, unit(b"".join(struct.pack("<BIB", 2, 5000 * i, 4) for i in range(n))), texts=texts
-    )
+    return structures_named_at(range(0, 5000 * n, 5000), texts)
 
 
 def members(n):
-    table = (
-        ROOT
-        + INT
-        + abbreviation(3, Tag.STRUCTURE_TYPE, 1, NAME, WIDE_SIZE)
-        + abbreviation(4, Tag.MEMBER, 0, NAME, TYPE, PLACE)
-    )
-    body = b"".join(b"\4" + b"m%d\0" % i + struct.pack("<II", FIRST, 4 * i) for i in range(n))
-    return file(table, unit(INT_ENTRY + struct.pack("<B2sI", 3, b"a", 4 * n) + body + b"\0"))
+    body = structure(4 * n, [(b"m%d" % i, 4 * i) for i in range(n)])
+    return file(STRUCTURES, unit(INT_ENTRY + body))
 
 
 def btf(words, texts):
