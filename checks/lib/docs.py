@@ -116,7 +116,7 @@ def check_refusals():
     names = {new: old for old, new in re.findall(r"(\w+) as (\w+)", layers)}
     numbers = dict(
         re.findall(
-            r"^pub const (\w+): u32 = (\d+);", read("crates/pahole_run/src/numbers.rt"), re.M
+            r"^pub const (\w+): u32 = (\d+);", read("crates/dw_base/src/fault_numbers.rt"), re.M
         )
     )
     faults = [

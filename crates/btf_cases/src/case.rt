@@ -3,7 +3,7 @@ use dw_base::Order;
 use std::alloc::Global;
 
 /// The bytes of a file, and what they spell.
-#[derive(Debug, Drop)]
+#[derive(Drop)]
 pub struct Case {
     pub name: String,
     /// The place in the list of cases of the file whose table comes before, where there is one.

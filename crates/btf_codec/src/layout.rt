@@ -10,7 +10,7 @@ use c_model::kinds::{
 };
 
 /// What follows the name and the info word of a type.
-#[derive(Clone, Copy, Debug, PartialEq, Eq)]
+#[derive(Clone, Copy, PartialEq, Eq)]
 pub enum KindLayout {
     /// The size and the encoding word.
     Int,
@@ -31,7 +31,7 @@ pub enum KindLayout {
 }
 
 /// The words of a part.
-#[derive(Clone, Copy, Debug, PartialEq, Eq)]
+#[derive(Clone, Copy, PartialEq, Eq)]
 pub enum PartLayout {
     /// The name, the type and the offset word.
     Member,

@@ -5,7 +5,7 @@ use dw_base::Order;
 
 /// A table as a file spells it. Id 0 is void, and id k is `types[k - 1]`, to which `Ref::Node(k -
 /// 1)` refers.
-#[derive(Debug, Drop)]
+#[derive(Drop)]
 pub struct Table<'a> {
     /// The byte order of the file.
     pub order: Order,

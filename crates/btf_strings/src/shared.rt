@@ -1,10 +1,9 @@
-//! What workers share or give back may be shared and sent.
+//! What workers share or give back is `Send` and `Sync`.
 use crate::fault::StringsFault;
 use crate::strings::Strings;
+use dw_base::assert_send_sync;
 
-fn crosses<T: Send + Sync>() {}
-
-fn all_cross<'a>() {
-    crosses::<StringsFault>();
-    crosses::<Strings<'a>>();
+fn all_are_send_and_sync<'a>() {
+    assert_send_sync::<StringsFault>();
+    assert_send_sync::<Strings<'a>>();
 }

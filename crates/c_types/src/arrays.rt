@@ -28,7 +28,7 @@ use type_attributes::source::{SourceType, Target, Targets};
 const TOO_LONG: u64 = 4_294_967_296;
 
 /// What is known of the lengths of some dimensions.
-#[derive(Clone, Copy, Debug)]
+#[derive(Clone, Copy)]
 pub(crate) struct Lengths {
     /// Their product, where that is below 2^32, and else 2^32.
     pub(crate) product: u64,

@@ -73,7 +73,7 @@ impl<'a> Taker<'a> for Vec<SourceType<'a>> {
 }
 
 /// What is known of a unit whose types were taken.
-#[derive(Clone, Copy, Debug)]
+#[derive(Clone, Copy)]
 pub struct UnitHead {
     /// Whether the unit is read: not, where its language is one whose units are passed over.
     pub read: bool,

@@ -23,7 +23,7 @@ use type_signature::{Guess, Numbered, Numbering, guess_classes};
 const PART: u32 = 65_536;
 
 /// A partition of the nodes of a graph, and the number of rounds that found it.
-#[derive(Debug, Drop)]
+#[derive(Drop)]
 pub struct Refined {
     pub classes: Classes,
     number: u32,

@@ -20,30 +20,26 @@ pub enum LebFault {
 
 /// The sum of some digits: its low 63 bits, and what is known of the part above them, counted by
 /// 2^63.
-/// `zeros`: that part is 0; `one`: it is 1; `full`: it is all ones.
 #[derive(Clone, Copy)]
 struct Sum {
     low: u64,
+    /// How many bits lie below the next digit; 70 where there are ten digits or more.
     shift: u32,
+    /// The part above is 0.
     zeros: bool,
+    /// The part above is 1.
     one: bool,
+    /// The part above is all ones.
     full: bool,
 }
 
-const NOTHING: Sum = Sum {
+const NO_DIGITS: Sum = Sum {
     low: 0,
     shift: 0,
     zeros: true,
     one: false,
     full: true,
 };
-
-#[inline(always)]
-fn both(a: bool, b: bool) -> bool
-    ensures { result ≡ (a && b) }
-{
-    a && b
-}
 
 /// Whether the part above 63 bits is 1 once a digit is added to it.
 #[inline(always)]
@@ -53,13 +49,13 @@ fn is_one(sum: Sum, digit: u64) -> bool
     if sum.shift == 63 {
         digit == 1
     } else {
-        both(sum.one, digit == 0)
+        sum.one & (digit == 0)
     }
 }
 
 /// The sum with one more digit: a shift and an addition for the first nine digits.
 #[inline(always)]
-fn added(sum: Sum, digit: u64) -> Sum
+fn add_digit(sum: Sum, digit: u64) -> Sum
     requires digit { digit < 128 }
     requires even { IsEven sum.low sum.shift }
     ensures even { IsEven result.low result.shift }
@@ -78,15 +74,16 @@ fn added(sum: Sum, digit: u64) -> Sum
         Sum {
             low: sum.low,
             shift: 70,
-            zeros: both(sum.zeros, digit == 0),
+            zeros: sum.zeros & (digit == 0),
             one: is_one(sum, digit),
-            full: both(sum.full, digit == 127),
+            full: sum.full & (digit == 127),
         }
     }
 }
 
 /// The unsigned number at offset `at`, and the offset after it. Padding bytes (`80 00` for 0) are
 /// allowed.
+///
 /// `Truncated` where no byte with bit 7 clear stands at or after `at`; `TooWide` where one does and
 /// the number passes 2^64 - 1.
 #[inline(always)]
@@ -107,10 +104,10 @@ pub fn uleb(bytes: &[u8], at: u64) -> Result<(u64, u64), LebFault>
 fn long_uleb(bytes: &[u8], at: u64) -> Result<(u64, u64), LebFault>
     ensures { result ≡ uleb_of bytes.now at }
 {
-    let mut sum = NOTHING;
+    let mut sum = NO_DIGITS;
     for i in at as usize..bytes.len() {
         let byte = bytes[i];
-        sum = added(sum, u64::from(byte) % 128);
+        sum = add_digit(sum, u64::from(byte) % 128);
         if byte < 128 {
             return unsigned(sum, i as u64 + 1);
         }
@@ -120,16 +117,15 @@ fn long_uleb(bytes: &[u8], at: u64) -> Result<(u64, u64), LebFault>
 
 /// The signed number at offset `at`, in two's complement by bit 6 of its last byte, and the offset
 /// after it. Padding bytes are allowed. `Truncated` where no byte with bit 7 clear stands at or
-/// after `at`;
-/// `TooWide` where one does and the number does not fit an `i64`.
+/// after `at`; `TooWide` where one does and the number does not fit an `i64`.
 #[inline(always)]
 pub fn sleb(bytes: &[u8], at: u64) -> Result<(i64, u64), LebFault>
     ensures { result ≡ sleb_of bytes.now at }
 {
-    let mut sum = NOTHING;
+    let mut sum = NO_DIGITS;
     for i in at as usize..bytes.len() {
         let byte = bytes[i];
-        sum = added(sum, u64::from(byte) % 128);
+        sum = add_digit(sum, u64::from(byte) % 128);
         if byte < 128 {
             return signed(sum, byte >= 64, i as u64 + 1);
         }

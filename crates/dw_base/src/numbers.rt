@@ -5,7 +5,7 @@ ghost use Rattle.dw_base.specs.Numbers.{number_of};
 use byteorder::{BigEndian, ByteOrder, LittleEndian};
 
 /// The byte order of a file (System V gABI, the field EI_DATA).
-#[derive(Clone, Copy, Debug, PartialEq, Eq)]
+#[derive(Clone, Copy, PartialEq, Eq)]
 pub enum Order {
     /// The first byte is the lowest.
     Little,

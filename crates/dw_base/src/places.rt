@@ -1,7 +1,10 @@
 //! Places of faults, and the limits of a run.
 
+/// An offset in bytes from the beginning of `.debug_info`.
+pub type InfoOffset = u64;
+
 /// The part of the input or output that an offset counts in.
-#[derive(Clone, Copy, Debug, PartialEq, Eq)]
+#[derive(Clone, Copy, PartialEq, Eq)]
 pub enum Section {
     /// The file itself.
     Image,
@@ -22,14 +25,14 @@ pub enum Section {
 }
 
 /// Where something is wrong: an offset in bytes from the beginning of a section.
-#[derive(Clone, Copy, Debug, PartialEq, Eq)]
+#[derive(Clone, Copy, PartialEq, Eq)]
 pub struct Place {
     pub section: Section,
     pub at: u64,
 }
 
 /// How much a run may load and hold.
-#[derive(Clone, Copy, Debug, PartialEq, Eq)]
+#[derive(Clone, Copy, PartialEq, Eq)]
 pub struct Limits {
     /// Bytes of one file.
     pub file_bytes: u64,

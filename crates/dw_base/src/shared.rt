@@ -1,4 +1,4 @@
-//! What workers share or give back may be shared and sent.
+//! What workers share or give back is `Send` and `Sync`.
 use crate::leb128::LebFault;
 use crate::listed::Bytes;
 use crate::names::Name;
@@ -7,17 +7,18 @@ use crate::places::{Limits, Place, Section};
 use crate::text_ends::TextEnds;
 use crate::text_section::TextSection;
 
-fn crosses<T: Send + Sync>() {}
+/// Compiles exactly for a type whose values workers may share and give back.
+pub fn assert_send_sync<T: Send + Sync>() {}
 
-fn all_cross<'a>() {
-    crosses::<Bytes>();
-    crosses::<Name<'a>>();
-    crosses::<&'a Name<'a>>();
-    crosses::<TextEnds<'a>>();
-    crosses::<&'a TextEnds<'a>>();
-    crosses::<TextSection<'a>>();
-    crosses::<&'a TextSection<'a>>();
-    crosses::<Order>();
-    crosses::<LebFault>();
-    crosses::<(Limits, Place, Section)>();
+fn all_are_send_and_sync<'a>() {
+    assert_send_sync::<Bytes>();
+    assert_send_sync::<Name<'a>>();
+    assert_send_sync::<&'a Name<'a>>();
+    assert_send_sync::<TextEnds<'a>>();
+    assert_send_sync::<&'a TextEnds<'a>>();
+    assert_send_sync::<TextSection<'a>>();
+    assert_send_sync::<&'a TextSection<'a>>();
+    assert_send_sync::<Order>();
+    assert_send_sync::<LebFault>();
+    assert_send_sync::<(Limits, Place, Section)>();
 }

@@ -14,7 +14,7 @@ use std::simd::prelude::*;
 const BLOCK: usize = 64;
 
 /// What is kept of 64 bytes of a section.
-#[derive(Clone, Copy, Debug)]
+#[derive(Clone, Copy)]
 pub(crate) struct Block {
     /// Bit k is set exactly where the k-th byte is NUL.
     pub(crate) nul: u64,
@@ -26,7 +26,7 @@ pub(crate) struct Block {
 /// Where the texts of a section end, so that the end of a text is found without a look at its
 /// bytes, however long it is. It takes a quarter of the section's bytes. Contracts see it as the
 /// section's bytes.
-#[derive(Debug, Drop)]
+#[derive(Drop)]
 pub struct TextEnds<'a> {
     bytes: &'a [u8],
     blocks: Vec<Block>,

@@ -7,7 +7,7 @@ use crate::text_ends::TextEnds;
 
 /// A section of texts that each end with a NUL (DWARF 5, section 7.5.5, the forms strp and
 /// line_strp), with their ends where these were looked for.
-#[derive(Clone, Copy, Debug)]
+#[derive(Clone, Copy)]
 pub struct TextSection<'a> {
     bytes: &'a [u8],
     ends: Option<&'a TextEnds<'a>>,

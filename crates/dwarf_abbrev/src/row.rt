@@ -5,7 +5,7 @@ use crate::spec::Spec;
 use crate::value_map::ValueMap;
 
 /// An abbreviation as its table owns it (DWARF 5, section 7.5.3).
-#[derive(Debug, Drop)]
+#[derive(Drop)]
 pub struct OwnedAbbrev {
     /// The code by which entries name it; never 0.
     pub code: u64,
@@ -21,7 +21,7 @@ pub struct OwnedAbbrev {
 }
 
 /// An abbreviation of a table (DWARF 5, section 7.5.3).
-#[derive(Clone, Copy, Debug)]
+#[derive(Clone, Copy)]
 pub struct Abbrev<'t> {
     /// The code by which entries name it; never 0.
     pub code: u64,

@@ -12,7 +12,7 @@ use crate::constants::{
 };
 
 /// How many bytes the value of a form has.
-#[derive(Clone, Copy, Debug, PartialEq, Eq)]
+#[derive(Clone, Copy, PartialEq, Eq)]
 pub enum Width {
     /// So many bytes.
     Bytes(u32),
@@ -30,7 +30,7 @@ pub(crate) const NO_BYTES: Size = Size {
 };
 
 /// So many bytes, offsets and addresses.
-#[derive(Clone, Copy, Debug, PartialEq, Eq)]
+#[derive(Clone, Copy, PartialEq, Eq)]
 pub struct Size {
     /// How many bytes, besides those of offsets and addresses.
     pub bytes: u32,

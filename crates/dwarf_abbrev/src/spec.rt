@@ -1,7 +1,7 @@
 //! Attribute specifications.
 
 /// One attribute of an abbreviation: its name and the form of its value (DWARF 5, section 7.5.3).
-#[derive(Clone, Copy, Debug, PartialEq, Eq)]
+#[derive(Clone, Copy, PartialEq, Eq)]
 pub struct Spec {
     /// The code of the attribute, a DW_AT number.
     pub attribute: u64,

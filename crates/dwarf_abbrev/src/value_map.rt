@@ -17,7 +17,7 @@ use std::alloc::{AllocError, Global};
 pub const SLOTS: usize = 16;
 
 /// Values of fixed widths that follow one another.
-#[derive(Clone, Copy, Debug, PartialEq, Eq)]
+#[derive(Clone, Copy, PartialEq, Eq)]
 pub struct FixedRun {
     /// The index of the first one's attribute.
     pub from: usize,
@@ -26,7 +26,7 @@ pub struct FixedRun {
 }
 
 /// What a slot says of its name.
-#[derive(Clone, Copy, Debug, PartialEq, Eq)]
+#[derive(Clone, Copy, PartialEq, Eq)]
 pub enum Place {
     /// No attribute has the name.
     Missing,
@@ -37,7 +37,7 @@ pub enum Place {
 }
 
 /// Where the values of an entry stand, as far as its abbreviation tells.
-#[derive(Debug, Drop)]
+#[derive(Drop)]
 pub struct ValueMap {
     /// For each attribute, and for the end of all values, the run of values before it: those of
     /// fixed widths, back to the last one without.

@@ -2,7 +2,7 @@
 use dw_base::{Name, Order, TextSection};
 
 /// What the values of a unit are read in.
-#[derive(Clone, Copy, Debug)]
+#[derive(Clone, Copy)]
 pub struct FormCtx<'a> {
     /// `.debug_info`.
     pub info: &'a [u8],

@@ -14,7 +14,7 @@ use dwarf_abbrev::constants::{
 };
 
 /// What a number means.
-#[derive(Clone, Copy, Debug, PartialEq, Eq)]
+#[derive(Clone, Copy, PartialEq, Eq)]
 pub enum NumberClass {
     /// An address of the program.
     Address,
@@ -37,7 +37,7 @@ pub enum NumberClass {
 }
 
 /// What some counted bytes mean.
-#[derive(Clone, Copy, Debug, PartialEq, Eq)]
+#[derive(Clone, Copy, PartialEq, Eq)]
 pub enum BlockClass {
     /// Any bytes.
     Block,
@@ -46,7 +46,7 @@ pub enum BlockClass {
 }
 
 /// How the bytes of a form lie.
-#[derive(Clone, Copy, Debug, PartialEq, Eq)]
+#[derive(Clone, Copy, PartialEq, Eq)]
 pub enum FormLayout {
     /// A number of this many bytes.
     Fixed(u32, NumberClass),

@@ -5,7 +5,7 @@ ghost use Rattle.elf_sections.specs.Numbers.{number_at, with_number};
 use crate::fault::Kind;
 
 /// For each kind the number of a section of it, where there is one.
-#[derive(Clone, Copy, Debug)]
+#[derive(Clone, Copy)]
 pub struct SectionNumbers {
     pub info: Option<u64>,
     pub abbreviations: Option<u64>,

@@ -14,7 +14,7 @@ use dwarf_abbrev::constants::{
 use dwarf_forms::{FormCtx, FormFault, Given, value};
 
 /// The first values of the attributes that types want; `None` where the entry has none.
-#[derive(Debug, Drop)]
+#[derive(Drop)]
 pub struct Wanted<'a> {
     /// The name, DW_AT_name.
     pub name: Option<Given<'a>>,

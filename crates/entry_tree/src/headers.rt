@@ -24,7 +24,7 @@ const RESERVED: u64 = 0xffff_fff0;
 
 /// How far a unit goes: the offset after its length, the offset after its last byte, and how many
 /// bytes its offsets have.
-#[derive(Clone, Copy, Debug)]
+#[derive(Clone, Copy)]
 struct UnitSpan {
     after: u64,
     end: u64,
@@ -33,7 +33,7 @@ struct UnitSpan {
 
 /// Where the fields behind the version stand, and the unit's first entry. Headers of version 4 have
 /// no unit type.
-#[derive(Clone, Copy, Debug)]
+#[derive(Clone, Copy)]
 struct Fields {
     unit_type_at: Option<u64>,
     address_size_at: u64,

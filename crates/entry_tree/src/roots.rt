@@ -17,7 +17,7 @@ use dwarf_forms::{FormFault, FormValue, Given, constant_of};
 use elf_sections::Image;
 
 /// What the root of a unit says of the whole unit.
-#[derive(Clone, Copy, Debug, PartialEq, Eq)]
+#[derive(Clone, Copy, PartialEq, Eq)]
 pub struct RootInfo {
     /// DW_TAG_compile_unit or DW_TAG_partial_unit.
     pub tag: u64,

@@ -12,7 +12,7 @@ use std::marker::Model;
 
 /// Which forwards of a graph are open, and what defines them. Contracts see it as a list with the
 /// definitions of each node, none where the node is no open forward.
-#[derive(Debug, Drop)]
+#[derive(Drop)]
 pub struct FwdIndex {
     count: u32,
     kept: Option<TagGroups>,
@@ -20,7 +20,7 @@ pub struct FwdIndex {
 
 /// Of each node the number of its tag's group and 1, or 0 where it is no forward, and the groups of
 /// definitions.
-#[derive(Debug, Drop)]
+#[derive(Drop)]
 pub struct TagGroups {
     pub tags: Vec<u32>,
     pub groups: Vec<Vec<u32>>,

@@ -3,7 +3,7 @@ use c_types::SourceType;
 use dw_base::{Listed, Name};
 
 /// A function of a unit: a subprogram entry that has a name and is no mere declaration.
-#[derive(Debug, Drop)]
+#[derive(Drop)]
 pub struct FuncEntry<'a> {
     /// Its name, which is not empty.
     pub name: Name<'a>,
@@ -21,7 +21,7 @@ pub type FuncEntries<'a> = Listed<FuncEntry<'a>>;
 pub type Offsets = Listed<u64>;
 
 /// The functions of a unit, and where its types stand.
-#[derive(Debug, Drop)]
+#[derive(Drop)]
 pub struct UnitFuncs<'a> {
     /// The functions in the order of their entries.
     pub funcs: FuncEntries<'a>,

@@ -1,13 +1,12 @@
-//! What workers share or give back may be shared and sent.
+//! What workers share or give back is `Send` and `Sync`.
 use crate::entries::{FuncEntries, FuncEntry, Offsets, UnitFuncs};
 use c_types::TypeFault;
+use dw_base::assert_send_sync;
 
-fn crosses<T: Send + Sync>() {}
-
-fn all_cross<'a>() {
-    crosses::<FuncEntry<'a>>();
-    crosses::<FuncEntries<'a>>();
-    crosses::<Offsets>();
-    crosses::<UnitFuncs<'a>>();
-    crosses::<Result<UnitFuncs<'a>, TypeFault>>();
+fn all_are_send_and_sync<'a>() {
+    assert_send_sync::<FuncEntry<'a>>();
+    assert_send_sync::<FuncEntries<'a>>();
+    assert_send_sync::<Offsets>();
+    assert_send_sync::<UnitFuncs<'a>>();
+    assert_send_sync::<Result<UnitFuncs<'a>, TypeFault>>();
 }

@@ -28,7 +28,7 @@ use std::thread::Threads;
 
 /// The graph of the chosen functions, and its classes where they are known from those of the
 /// prototypes.
-#[derive(Debug, Drop)]
+#[derive(Drop)]
 pub struct Chosen<'a> {
     pub graph: PackedGraph<'a>,
     pub classes: Option<Classes>,

@@ -11,7 +11,7 @@ use c_model::{CType, Ref};
 use std::alloc::{AllocError, Global};
 
 /// The types from one to the first that has its size from none or from one whose size is known.
-#[derive(Debug, Drop)]
+#[derive(Drop)]
 pub struct Way {
     /// The types, by their numbers. Each has its size from the next.
     pub path: Vec<u32>,

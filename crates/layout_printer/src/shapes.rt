@@ -14,7 +14,7 @@ use c_model::kinds::{
 use c_model::{CType, Label, Ref};
 
 /// How a type is written in a declaration.
-#[derive(Clone, Copy, Debug, PartialEq, Eq)]
+#[derive(Clone, Copy, PartialEq, Eq)]
 pub enum Shape {
     /// Its name.
     Named,

@@ -20,7 +20,7 @@ use std::alloc::{AllocError, Global};
 const MOST: u128 = 1 << 60;
 
 /// What gives a type its size.
-#[derive(Clone, Copy, Debug, PartialEq, Eq)]
+#[derive(Clone, Copy, PartialEq, Eq)]
 pub enum SizeRule {
     /// Its own size word.
     Stated,
@@ -35,7 +35,7 @@ pub enum SizeRule {
 }
 
 /// The sizes of the types of a table, in bytes.
-#[derive(Debug, Drop)]
+#[derive(Drop)]
 pub struct Sizes {
     /// How many bytes pointers have.
     pub pointer: u32,

@@ -8,7 +8,7 @@ use std::alloc::{AllocError, AllocFailed};
 use thiserror::Error;
 
 /// Where a member lies, in bits from the beginning of its structure.
-#[derive(Clone, Copy, Debug, PartialEq, Eq)]
+#[derive(Clone, Copy, PartialEq, Eq)]
 pub struct Slot {
     /// The first bit.
     pub start: u64,
@@ -24,7 +24,7 @@ pub struct Slot {
 pub type Slots = Listed<Slot>;
 
 /// The layout of a structure or union.
-#[derive(Debug, Drop)]
+#[derive(Drop)]
 pub struct TypeLayout {
     /// The id of the structure or union.
     pub id: u32,

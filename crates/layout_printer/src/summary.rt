@@ -8,7 +8,7 @@ use crate::slots::{Slot, TypeLayout};
 use std::alloc::AllocError;
 
 /// Sums over all members.
-#[derive(Clone, Copy, Debug)]
+#[derive(Clone, Copy)]
 pub struct Totals {
     /// The bits of the members.
     pub bits: u128,

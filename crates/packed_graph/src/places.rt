@@ -20,7 +20,7 @@ const FACTOR: u64 = 5_871_781_006_564_002_453;
 /// Which label may be next: `after` holds, for the place of each label, the place of the one that
 /// followed it the last time; `last` is the place of the label that came last. `marked` holds, for
 /// each mark, the place of a label that has it; it is empty until a label is looked up.
-#[derive(Debug, Drop)]
+#[derive(Drop)]
 pub struct Hints {
     after: Vec<u32>,
     last: u32,

@@ -10,7 +10,7 @@ use std::alloc::{AllocError, Global};
 
 /// The layout of a structure, and what each type that shows it would else have to count over all
 /// members.
-#[derive(Debug, Drop)]
+#[derive(Drop)]
 pub struct Counted {
     pub layout: TypeLayout,
     /// How many holes have whole bytes.

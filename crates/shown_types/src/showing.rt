@@ -22,7 +22,7 @@ use layout_printer::{LayoutFault, Sizes, TypeLayout, layout, sizes_of, text};
 use std::alloc::{AllocError, Global};
 
 /// How types are shown.
-#[derive(Clone, Copy, Debug)]
+#[derive(Clone, Copy)]
 pub struct Style {
     /// One line for each type, with its size and its holes, in place of its text.
     pub sizes: bool,

@@ -1,8 +1,7 @@
-//! What workers share or give back may be shared and sent.
+//! What workers share or give back is `Send` and `Sync`.
 use crate::fault::TableFault;
+use dw_base::assert_send_sync;
 
-fn crosses<T: Send + Sync>() {}
-
-fn all_cross() {
-    crosses::<TableFault>();
+fn all_are_send_and_sync() {
+    assert_send_sync::<TableFault>();
 }

@@ -3,6 +3,11 @@
 use Rattle.std.specs.Prelude.{ℕ, Bool, ◌≡◌, ◌<◌, ◌≤◌, ◌⊎◌, nat_lt, ◌==◌, List, [], ◌∷◌, All, Option}
 use Rattle.std.specs.Prelude.{None, Some, if◌then◌else◌}
 use Rattle.std.specs.List.{Contains}
+use Rattle.dw_base.specs.declared.fault_numbers.TheConstants.{LEB_WIDE, FORM_UNKNOWN, VALUE_TRUNCATED, STRING_OUT}
+use Rattle.dw_base.specs.declared.fault_numbers.TheConstants.{STRX_OUT, ALT_FORM, WRONG_CLASS, MISSING_NAME}
+use Rattle.dw_base.specs.declared.fault_numbers.TheConstants.{MISSING_SIZE, MISSING_TYPE, UNNAMED_FORWARD, MEMBER_PLACE}
+use Rattle.dw_base.specs.declared.fault_numbers.TheConstants.{BIT_SIZE, MEMBER_FAR, TOO_MANY, ARRAY_LENGTH}
+use Rattle.dw_base.specs.declared.fault_numbers.TheConstants.{ENUM_SIZE, ENUM_VALUE, SIZE_LARGE}
 use Rattle.dwarf_forms.specs.declared.fault.FormFault.{FormFault}
 use Rattle.dwarf_forms.specs.declared.fault.FormFault.TheVariants.{LebWide, FormUnknown}
 use Rattle.dwarf_forms.specs.declared.fault.FormFault.TheVariants.{ValueTruncated, StringOut}
@@ -21,30 +26,30 @@ abbrev pub ranked : ℕ → ℕ → ℕ → ℕ → Rank
 ranked at number kept more = record { at = at; kept = kept; more = more; number = number }
 
 abbrev pub form_rank : ℕ → FormFault → Rank
-form_rank at (LebWide o) = ranked at 33 0 0
-form_rank at (FormUnknown f) = ranked at 40 0 0
-form_rank at (ValueTruncated a) = ranked at 41 0 0
-form_rank at (StringOut o) = ranked at 42 o 0
-form_rank at (StrxOut i) = ranked at 43 i 0
-form_rank at (AltForm f) = ranked at 44 f 0
-form_rank at (WrongClass a f) = ranked at 46 a f
+form_rank at (LebWide o) = ranked at LEB_WIDE 0 0
+form_rank at (FormUnknown f) = ranked at FORM_UNKNOWN 0 0
+form_rank at (ValueTruncated a) = ranked at VALUE_TRUNCATED 0 0
+form_rank at (StringOut o) = ranked at STRING_OUT o 0
+form_rank at (StrxOut i) = ranked at STRX_OUT i 0
+form_rank at (AltForm f) = ranked at ALT_FORM f 0
+form_rank at (WrongClass a f) = ranked at WRONG_CLASS a f
 
 -- the refusals of values alone come twice at one entry with one number, so what the others keep
 -- decides nothing
 abbrev pub rank_of : TypeFault → Rank
 rank_of (Form at f) = form_rank at f
-rank_of (MissingName at) = ranked at 60 0 0
-rank_of (MissingSize at) = ranked at 61 0 0
-rank_of (MissingType at) = ranked at 62 0 0
-rank_of (UnnamedForward at) = ranked at 63 0 0
-rank_of (MemberPlace at) = ranked at 64 0 0
-rank_of (BitSize at z) = ranked at 65 0 0
-rank_of (MemberFar at p) = ranked at 66 0 0
-rank_of (TooMany at n) = ranked at 67 0 0
-rank_of (ArrayLength at) = ranked at 68 0 0
-rank_of (EnumSize at z) = ranked at 69 0 0
-rank_of (EnumValue at) = ranked at 70 0 0
-rank_of (SizeLarge at z) = ranked at 71 0 0
+rank_of (MissingName at) = ranked at MISSING_NAME 0 0
+rank_of (MissingSize at) = ranked at MISSING_SIZE 0 0
+rank_of (MissingType at) = ranked at MISSING_TYPE 0 0
+rank_of (UnnamedForward at) = ranked at UNNAMED_FORWARD 0 0
+rank_of (MemberPlace at) = ranked at MEMBER_PLACE 0 0
+rank_of (BitSize at z) = ranked at BIT_SIZE 0 0
+rank_of (MemberFar at p) = ranked at MEMBER_FAR 0 0
+rank_of (TooMany at n) = ranked at TOO_MANY 0 0
+rank_of (ArrayLength at) = ranked at ARRAY_LENGTH 0 0
+rank_of (EnumSize at z) = ranked at ENUM_SIZE 0 0
+rank_of (EnumValue at) = ranked at ENUM_VALUE 0 0
+rank_of (SizeLarge at z) = ranked at SIZE_LARGE 0 0
 rank_of other = ranked 0 0 0 0
 
 abbrev pub is_before : Rank → Rank → Bool

@@ -30,7 +30,7 @@ pub const BTF_INT_SIGNED: u32 = 1;
 pub const BTF_INT_BOOL: u32 = 4;
 
 /// What a base type is to BTF.
-#[derive(Clone, Copy, Debug, PartialEq, Eq)]
+#[derive(Clone, Copy, PartialEq, Eq)]
 pub enum Base {
     /// An INT, with its word of encoding, offset and bits.
     Int(u32),

@@ -23,7 +23,7 @@ use std::alloc::{AllocError, Global};
 const MOST_FOLLOWED: u32 = 64;
 
 /// What an entry says of how many bytes its objects have.
-#[derive(Clone, Copy, Debug, PartialEq, Eq)]
+#[derive(Clone, Copy, PartialEq, Eq)]
 pub enum Extent {
     /// So many.
     Bytes(Number),
@@ -34,7 +34,7 @@ pub enum Extent {
 }
 
 /// What the entry at an offset of `.debug_info` says.
-#[derive(Clone, Copy, Debug, PartialEq, Eq)]
+#[derive(Clone, Copy, PartialEq, Eq)]
 pub struct ExtentRow {
     pub at: u64,
     pub extent: Extent,

@@ -3,6 +3,7 @@ ghost use Rattle.std.specs.Prelude.{◌≡◌, [], ◌∷◌};
 ghost use Rattle.type_attributes.specs.Faults.{ranked, rank_of, form_rank, is_before, noted};
 ghost use Rattle.type_attributes.specs.Faults.{refuse_if, joined};
 
+use dw_base::fault_numbers as numbers;
 use dwarf_abbrev::AbbrevFault;
 use dwarf_forms::FormFault;
 use entry_tree::WalkFault;
@@ -93,11 +94,11 @@ pub struct Rank {
     at: u64,
     kept: u64,
     more: u64,
-    number: u8,
+    number: u32,
 }
 
 /// The rank of a refusal that keeps these values beside its place.
-fn rank_keeping(at: u64, number: u8, kept: u64, more: u64) -> Rank
+fn rank_keeping(at: u64, number: u32, kept: u64, more: u64) -> Rank
     ensures { result ≡ ranked at number kept more }
 {
     Rank {
@@ -109,7 +110,7 @@ fn rank_keeping(at: u64, number: u8, kept: u64, more: u64) -> Rank
 }
 
 /// The rank of a refusal that needs nothing but its place.
-fn rank_at(at: u64, number: u8) -> Rank
+fn rank_at(at: u64, number: u32) -> Rank
     ensures { result ≡ ranked at number 0 0 }
 {
     rank_keeping(at, number, 0, 0)
@@ -120,13 +121,13 @@ fn rank_form(at: u64, fault: FormFault) -> Rank
     ensures { result ≡ form_rank at fault }
 {
     match fault {
-        FormFault::LebWide(_) => rank_at(at, 33),
-        FormFault::FormUnknown(_) => rank_at(at, 40),
-        FormFault::ValueTruncated(_) => rank_at(at, 41),
-        FormFault::StringOut(offset) => rank_keeping(at, 42, offset, 0),
-        FormFault::StrxOut(index) => rank_keeping(at, 43, index, 0),
-        FormFault::AltForm(form) => rank_keeping(at, 44, form, 0),
-        FormFault::WrongClass(attribute, form) => rank_keeping(at, 46, attribute, form),
+        FormFault::LebWide(_) => rank_at(at, numbers::LEB_WIDE),
+        FormFault::FormUnknown(_) => rank_at(at, numbers::FORM_UNKNOWN),
+        FormFault::ValueTruncated(_) => rank_at(at, numbers::VALUE_TRUNCATED),
+        FormFault::StringOut(offset) => rank_keeping(at, numbers::STRING_OUT, offset, 0),
+        FormFault::StrxOut(index) => rank_keeping(at, numbers::STRX_OUT, index, 0),
+        FormFault::AltForm(form) => rank_keeping(at, numbers::ALT_FORM, form, 0),
+        FormFault::WrongClass(attribute, form) => rank_keeping(at, numbers::WRONG_CLASS, attribute, form),
     }
 }
 
@@ -137,18 +138,18 @@ fn rank_fault(fault: TypeFault) -> Rank
 {
     match fault {
         TypeFault::Form(at, form) => rank_form(at, form),
-        TypeFault::MissingName(at) => rank_at(at, 60),
-        TypeFault::MissingSize(at) => rank_at(at, 61),
-        TypeFault::MissingType(at) => rank_at(at, 62),
-        TypeFault::UnnamedForward(at) => rank_at(at, 63),
-        TypeFault::MemberPlace(at) => rank_at(at, 64),
-        TypeFault::BitSize(at, _) => rank_at(at, 65),
-        TypeFault::MemberFar(at, _) => rank_at(at, 66),
-        TypeFault::TooMany(at, _) => rank_at(at, 67),
-        TypeFault::ArrayLength(at) => rank_at(at, 68),
-        TypeFault::EnumSize(at, _) => rank_at(at, 69),
-        TypeFault::EnumValue(at) => rank_at(at, 70),
-        TypeFault::SizeLarge(at, _) => rank_at(at, 71),
+        TypeFault::MissingName(at) => rank_at(at, numbers::MISSING_NAME),
+        TypeFault::MissingSize(at) => rank_at(at, numbers::MISSING_SIZE),
+        TypeFault::MissingType(at) => rank_at(at, numbers::MISSING_TYPE),
+        TypeFault::UnnamedForward(at) => rank_at(at, numbers::UNNAMED_FORWARD),
+        TypeFault::MemberPlace(at) => rank_at(at, numbers::MEMBER_PLACE),
+        TypeFault::BitSize(at, _) => rank_at(at, numbers::BIT_SIZE),
+        TypeFault::MemberFar(at, _) => rank_at(at, numbers::MEMBER_FAR),
+        TypeFault::TooMany(at, _) => rank_at(at, numbers::TOO_MANY),
+        TypeFault::ArrayLength(at) => rank_at(at, numbers::ARRAY_LENGTH),
+        TypeFault::EnumSize(at, _) => rank_at(at, numbers::ENUM_SIZE),
+        TypeFault::EnumValue(at) => rank_at(at, numbers::ENUM_VALUE),
+        TypeFault::SizeLarge(at, _) => rank_at(at, numbers::SIZE_LARGE),
         TypeFault::Abbrev(_) | TypeFault::Walk(_) | TypeFault::Memory => rank_at(0, 0),
     }
 }

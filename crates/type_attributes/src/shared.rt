@@ -1,15 +1,14 @@
-//! What workers share or give back may be shared and sent.
+//! What workers share or give back is `Send` and `Sync`.
 use crate::fault::TypeFault;
 use crate::source::{SourceType, SourceTypes, Target, Targets, UnitTypes};
+use dw_base::assert_send_sync;
 
-fn crosses<T: Send + Sync>() {}
-
-fn all_cross<'a>() {
-    crosses::<Target>();
-    crosses::<Targets>();
-    crosses::<SourceType<'a>>();
-    crosses::<SourceTypes<'a>>();
-    crosses::<UnitTypes<'a>>();
-    crosses::<TypeFault>();
-    crosses::<Result<UnitTypes<'a>, TypeFault>>();
+fn all_are_send_and_sync<'a>() {
+    assert_send_sync::<Target>();
+    assert_send_sync::<Targets>();
+    assert_send_sync::<SourceType<'a>>();
+    assert_send_sync::<SourceTypes<'a>>();
+    assert_send_sync::<UnitTypes<'a>>();
+    assert_send_sync::<TypeFault>();
+    assert_send_sync::<Result<UnitTypes<'a>, TypeFault>>();
 }

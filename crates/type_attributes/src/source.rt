@@ -6,7 +6,7 @@ use dw_base::Listed;
 use std::marker::Model;
 
 /// What a type refers to, before entries have numbers.
-#[derive(Clone, Copy, Debug, PartialEq, Eq)]
+#[derive(Clone, Copy, PartialEq, Eq)]
 pub enum Target {
     /// The type `void`.
     Void,
@@ -17,14 +17,14 @@ pub enum Target {
 }
 
 /// How a list of targets is kept. Most types have one target, which takes no memory of its own.
-#[derive(Debug, Drop)]
+#[derive(Drop)]
 enum OneOrMany {
     One(Target),
     Many(Vec<Target>),
 }
 
 /// A list of targets. Contracts see it as the list.
-#[derive(Debug, Drop)]
+#[derive(Drop)]
 pub struct Targets {
     kept: OneOrMany,
 }
@@ -72,7 +72,7 @@ impl Targets {
 }
 
 /// The type that an entry is.
-#[derive(Debug, Drop)]
+#[derive(Drop)]
 pub struct SourceType<'a> {
     /// The offset of the entry in `.debug_info`.
     pub at: u64,
@@ -86,7 +86,7 @@ pub struct SourceType<'a> {
 pub type SourceTypes<'a> = Listed<SourceType<'a>>;
 
 /// The types of a unit.
-#[derive(Debug, Drop)]
+#[derive(Drop)]
 pub struct UnitTypes<'a> {
     /// Whether the unit is read: not, where its language is one whose units are passed over.
     pub read: bool,

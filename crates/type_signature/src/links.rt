@@ -10,7 +10,7 @@ use std::alloc::{AllocError, Global};
 
 /// The references of each node as words: those of a node stand from the end of the node before to
 /// its own end.
-#[derive(Debug, Drop)]
+#[derive(Drop)]
 pub struct Links {
     pub ends: Vec<u32>,
     pub words: Vec<u32>,

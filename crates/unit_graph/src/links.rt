@@ -10,7 +10,7 @@ use c_types::Target;
 use std::alloc::{AllocError, Global};
 
 /// A reference that names no node: where an entry of a type would have to begin, none does.
-#[derive(Clone, Copy, Debug, PartialEq, Eq)]
+#[derive(Clone, Copy, PartialEq, Eq)]
 pub struct Out {
     /// The number of the file.
     pub file: u32,

@@ -9,7 +9,7 @@ use std::alloc::AllocError;
 use std::marker::Model;
 
 /// The place of a node: where its entry begins, and the number of the node.
-#[derive(Clone, Copy, Debug)]
+#[derive(Clone, Copy)]
 pub struct NodePlace {
     /// The file.
     pub file: u32,
@@ -79,7 +79,7 @@ fn find_in_all(rows: &[NodePlace], file: u32, to: u64) -> Option<u32>
 
 /// The places of nodes, in which they are looked for. Contracts see it as the rows, in order by
 /// file and offset.
-#[derive(Debug, Drop)]
+#[derive(Drop)]
 pub struct NodePlaces {
     rows: Vec<NodePlace>,
 }

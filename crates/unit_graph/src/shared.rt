@@ -1,14 +1,13 @@
-//! What workers share or give back may be shared and sent.
+//! What workers share or give back is `Send` and `Sync`.
 use crate::links::Out;
 use crate::places::NodePlaces;
 use crate::sources::UnitAt;
 use crate::tables::KeptTables;
+use dw_base::assert_send_sync;
 
-fn crosses<T: Send + Sync>() {}
-
-fn all_cross<'a>() {
-    crosses::<UnitAt<'a>>();
-    crosses::<NodePlaces>();
-    crosses::<Out>();
-    crosses::<KeptTables>();
+fn all_are_send_and_sync<'a>() {
+    assert_send_sync::<UnitAt<'a>>();
+    assert_send_sync::<NodePlaces>();
+    assert_send_sync::<Out>();
+    assert_send_sync::<KeptTables>();
 }

@@ -4,7 +4,7 @@ use entry_tree::Unit;
 use std::marker::Model;
 
 /// A unit of a file. Contracts see it as the number of the file, its bytes and the unit.
-#[derive(Debug, Drop)]
+#[derive(Drop)]
 pub struct UnitAt<'a> {
     /// The number of the file, counted from 0.
     pub file: u32,

@@ -2,7 +2,7 @@
 use dw_base::{Bytes, Listed};
 
 /// A file: its name and its bytes.
-#[derive(Debug, Drop)]
+#[derive(Drop)]
 pub struct HeldFile {
     pub name: Bytes,
     pub bytes: Bytes,
@@ -13,7 +13,7 @@ pub type Files = Listed<HeldFile>;
 
 /// The call of number `call` fails after it took `takes` bytes. Loads, prints, complaints and
 /// stores are counted together, from 0.
-#[derive(Clone, Copy, Debug, PartialEq, Eq)]
+#[derive(Clone, Copy, PartialEq, Eq)]
 pub struct Stop {
     pub call: u64,
     pub takes: u64,

@@ -17,7 +17,7 @@ use std::alloc::{AllocError, Global};
 const COMPLAINED: usize = 65_536;
 
 /// How many calls of each kind failed.
-#[derive(Clone, Copy, Debug, PartialEq, Eq)]
+#[derive(Clone, Copy, PartialEq, Eq)]
 pub struct Faults {
     pub loads: u64,
     pub prints: u64,

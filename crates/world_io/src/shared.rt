@@ -1,14 +1,13 @@
-//! What workers share may be shared and sent.
+//! What workers share or give back is `Send` and `Sync`.
 use crate::fault::{Failed, LoadFault, OutFault};
 use crate::files::{Files, HeldFile, Stop, Stops};
 use crate::gate::OpenGate;
+use dw_base::assert_send_sync;
 
-fn crosses<T: Send + Sync>() {}
-
-fn all_cross() {
-    crosses::<OpenGate>();
-    crosses::<(Failed, LoadFault, OutFault)>();
-    crosses::<HeldFile>();
-    crosses::<Files>();
-    crosses::<(Stop, Stops)>();
+fn all_are_send_and_sync() {
+    assert_send_sync::<OpenGate>();
+    assert_send_sync::<(Failed, LoadFault, OutFault)>();
+    assert_send_sync::<HeldFile>();
+    assert_send_sync::<Files>();
+    assert_send_sync::<(Stop, Stops)>();
 }

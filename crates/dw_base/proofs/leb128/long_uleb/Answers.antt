@@ -9,17 +9,17 @@ loop-i-init c = starts c.args.bytes.now c.args.at _ refl
 pub returns-then-byte-lt128 : goal.returns-then-byte-lt128
 unfolding uleb_of
 returns-then-byte-lt128 c =
-    unsigned_end c.args.bytes.now c.args.at c.loop-i.i c.from.result c.loop-i.sum c.added-sum.result
+    unsigned_end c.args.bytes.now c.args.at c.loop-i.i c.from.result c.loop-i.sum c.add_digit-sum.result
     c.unsigned.result c.loop-i.auto.i c.loop-i-test.true c.from.ensures
     (omega (arith, c.from.ensures, c.if-byte-lt128.true)) c.loop-i.invariant (λ n total h.
-    c.added-sum.ensures.sums n total h) (λ n total h. c.unsigned.ensures n total h)
+    c.add_digit-sum.ensures.sums n total h) (λ n total h. c.unsigned.ensures n total h)
 
 pub loop-i-preserved : goal.loop-i-preserved
 loop-i-preserved c =
-    reads_on c.args.bytes.now c.args.at c.loop-i.i c.from.result c.loop-i.sum c.added-sum.result
+    reads_on c.args.bytes.now c.args.at c.loop-i.i c.from.result c.loop-i.sum c.add_digit-sum.result
     c.loop-i.auto.i c.loop-i-test.true c.from.ensures
     (omega (arith, c.from.ensures, c.if-byte-lt128.false)) c.loop-i.invariant
-    c.added-sum.ensures.even (λ n total h. c.added-sum.ensures.sums n total h)
+    c.add_digit-sum.ensures.even (λ n total h. c.add_digit-sum.ensures.sums n total h)
 
 pub returns : goal.returns
 unfolding uleb_of
