@@ -85,7 +85,7 @@ fn add_digit(sum: Sum, digit: u64) -> Sum
 /// allowed.
 ///
 /// `Truncated` where no byte with bit 7 clear stands at or after `at`; `TooWide` where one does and
-/// the number passes 2^64 - 1.
+/// the number passes 2^64 - 1. The work is that of the number's bytes, padding too.
 #[inline(always)]
 pub fn uleb(bytes: &[u8], at: u64) -> Result<(u64, u64), LebFault>
     ensures { result ≡ uleb_of bytes.now at }
@@ -109,7 +109,7 @@ fn long_uleb(bytes: &[u8], at: u64) -> Result<(u64, u64), LebFault>
         let byte = bytes[i];
         sum = add_digit(sum, u64::from(byte) % 128);
         if byte < 128 {
-            return unsigned(sum, i as u64 + 1);
+            return fit_unsigned(sum, i as u64 + 1);
         }
     }
     Err(LebFault::Truncated)
@@ -117,7 +117,8 @@ fn long_uleb(bytes: &[u8], at: u64) -> Result<(u64, u64), LebFault>
 
 /// The signed number at offset `at`, in two's complement by bit 6 of its last byte, and the offset
 /// after it. Padding bytes are allowed. `Truncated` where no byte with bit 7 clear stands at or
-/// after `at`; `TooWide` where one does and the number does not fit an `i64`.
+/// after `at`; `TooWide` where one does and the number does not fit an `i64`. The work is that of the
+/// number's bytes, padding too.
 #[inline(always)]
 pub fn sleb(bytes: &[u8], at: u64) -> Result<(i64, u64), LebFault>
     ensures { result ≡ sleb_of bytes.now at }
@@ -127,15 +128,15 @@ pub fn sleb(bytes: &[u8], at: u64) -> Result<(i64, u64), LebFault>
         let byte = bytes[i];
         sum = add_digit(sum, u64::from(byte) % 128);
         if byte < 128 {
-            return signed(sum, byte >= 64, i as u64 + 1);
+            return fit_signed(sum, byte >= 64, i as u64 + 1);
         }
     }
     Err(LebFault::Truncated)
 }
 
-/// The sum, where it fits.
+/// The sum, where it fits 64 bits, and the offset after it.
 #[inline(always)]
-fn unsigned(sum: Sum, end: u64) -> Result<(u64, u64), LebFault>
+fn fit_unsigned(sum: Sum, end: u64) -> Result<(u64, u64), LebFault>
     requires { IsEven sum.low sum.shift }
     ensures { (n total : ℕ) → Sums sum n total
         → result ≡ (if nat_lt total (2 ^ 64) then Ok (total, end) else Err LebFault.TooWide) }
@@ -149,9 +150,10 @@ fn unsigned(sum: Sum, end: u64) -> Result<(u64, u64), LebFault>
     }
 }
 
-/// The sum, less the power after its digits where it is negative, where that fits.
+/// The sum, less the power after its digits where it is negative, where that fits 64 bits, and the
+/// offset after it.
 #[inline(always)]
-fn signed(sum: Sum, negative: bool, end: u64) -> Result<(i64, u64), LebFault>
+fn fit_signed(sum: Sum, negative: bool, end: u64) -> Result<(i64, u64), LebFault>
     requires { IsEven sum.low sum.shift }
     ensures { (n total : ℕ) → Sums sum n total → let v = if negative then pos total -ℤ pos (128 ^ n)
         else pos total in result ≡ (if fits_i64 v then Ok (v, end) else Err LebFault.TooWide) }

@@ -17,7 +17,7 @@ pub(crate) const SHORT: usize = 4096;
 const PRIME: u64 = 1_099_511_628_211;
 
 /// A name in a file: a slice of the section that holds it, without its closing NUL. Nothing is
-/// copied. Contracts see it as its list of bytes.
+/// copied. Contracts see it as its list of bytes. Hashing it reads at most 4,096 bytes.
 #[derive(Debug, Drop)]
 pub struct Name<'a> {
     bytes: &'a [u8],
@@ -126,7 +126,7 @@ impl<'a> Hash for Name<'a> {
 
 /// The text at a place: the bytes from offset `at` to before the next NUL (DWARF 5, section 7.5.5,
 /// the form string). `None` where no NUL stands at or after `at`, so too where `at` is past the
-/// end.
+/// end. The work is that of the text's bytes.
 pub fn text_at<'a>(bytes: &'a [u8], at: u64) -> Option<Name<'a>>
     ensures { result ≡ text_of bytes.now at }
 {

@@ -14,7 +14,7 @@ pub enum Order {
 }
 
 /// The unsigned number in the `width` bytes from offset `at`. `None` exactly where these bytes do
-/// not all lie in `bytes`.
+/// not all lie in `bytes`. It takes constant time.
 #[inline(always)]
 pub fn number(bytes: &[u8], at: u64, width: u32, order: Order) -> Option<u64>
     requires low { 1 ≤ width }

@@ -143,7 +143,7 @@ fn rests_of(alloc: Global, bytes: &[u8]) -> Result<Vec<u64>, AllocError>
 }
 
 impl<'a> TextEnds<'a> {
-    /// Looks for the ends of the texts of a section.
+    /// Looks for the ends of the texts of a section. The work is that of the section's bytes.
     pub fn of(alloc: Global, bytes: &'a [u8]) -> Result<TextEnds<'a>, AllocError>
         ensures { IfOk result (λ e. e ≡ bytes.now) }
     {
@@ -165,8 +165,8 @@ impl<'a> TextEnds<'a> {
     }
 
     /// The text at a place: the bytes from offset `at` to before the next NUL. `None` where no NUL
-    /// stands at or after `at`, so too where `at` is past the end. The work does not grow with the
-    /// text.
+    /// stands at or after `at`, so too where `at` is past the end. It looks at 4,096 bytes at most,
+    /// however long the text is.
     #[inline]
     pub fn text(&self, at: u64) -> Option<Name<'a>>
         ensures { result ≡ text_of self.now at }

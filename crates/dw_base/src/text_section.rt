@@ -47,7 +47,7 @@ impl<'a> TextSection<'a> {
     /// The text at a place: the bytes from offset `at` to before the next NUL. `None` where no NUL
     /// stands at or after `at`, so too where `at` is past the end.
     ///
-    /// With the ends of its texts the work does not grow with the text.
+    /// With the ends of its texts it looks at 4,096 bytes at most, else at all of the text.
     #[inline]
     pub fn text(&self, at: u64) -> Option<Name<'a>>
         ensures { result ≡ text_of (bytes_of self.now) at }

@@ -1,4 +1,4 @@
-use Rattle.std.proofs.Common.{◌≤◌, arith}
+use Rattle.std.proofs.Common.{◌≤◌, refl, arith}
 use Rattle.dw_base.specs.Sums.{IsEven}
 use Rattle.dw_base.proofs.Adding.{shifted, even_step, low_sums, high_sums}
 use Rattle.dw_base.proofs.leb128.add_digit.Goals as goal
@@ -30,4 +30,4 @@ returns-then-sum-lt63-clause-sums c n total h =
 pub returns-else-sum-lt63-clause-sums : goal.returns-else-sum-lt63-clause-sums
 returns-else-sum-lt63-clause-sums c n total h =
     high_sums c.args.sum c.args.digit n total _ _ _ c.requires.digit c.if-sum-lt63.false
-    c.requires.even c.is_one.ensures c.both-else-sum-lt63.ensures h
+    c.requires.even refl c.is_one.ensures refl h

@@ -10,9 +10,9 @@ pub returns-then-byte-lt128 : goal.returns-then-byte-lt128
 unfolding uleb_of
 returns-then-byte-lt128 c =
     unsigned_end c.args.bytes.now c.args.at c.loop-i.i c.from.result c.loop-i.sum c.add_digit-sum.result
-    c.unsigned.result c.loop-i.auto.i c.loop-i-test.true c.from.ensures
+    c.fit_unsigned.result c.loop-i.auto.i c.loop-i-test.true c.from.ensures
     (omega (arith, c.from.ensures, c.if-byte-lt128.true)) c.loop-i.invariant (λ n total h.
-    c.add_digit-sum.ensures.sums n total h) (λ n total h. c.unsigned.ensures n total h)
+    c.add_digit-sum.ensures.sums n total h) (λ n total h. c.fit_unsigned.ensures n total h)
 
 pub loop-i-preserved : goal.loop-i-preserved
 loop-i-preserved c =

@@ -10,10 +10,10 @@ pub returns-then-byte-lt128 : goal.returns-then-byte-lt128
 unfolding sleb_of
 returns-then-byte-lt128 c =
     signed_end c.args.bytes.now c.args.at c.loop-i.i c.from.result c.loop-i.sum c.add_digit-sum.result
-    (nat_le 64 (get_or c.args.bytes.now c.loop-i.i 0)) c.signed.result c.loop-i.auto.i
+    (nat_le 64 (get_or c.args.bytes.now c.loop-i.i 0)) c.fit_signed.result c.loop-i.auto.i
     c.loop-i-test.true c.from.ensures (omega (arith, c.from.ensures, c.if-byte-lt128.true))
     c.loop-i.invariant (λ n total h. c.add_digit-sum.ensures.sums n total h)
-    (ap (λ (x : ℕ). nat_le 64 x) (sym c.from.ensures)) (λ n total h. c.signed.ensures n total h)
+    (ap (λ (x : ℕ). nat_le 64 x) (sym c.from.ensures)) (λ n total h. c.fit_signed.ensures n total h)
 
 pub loop-i-preserved : goal.loop-i-preserved
 loop-i-preserved c =

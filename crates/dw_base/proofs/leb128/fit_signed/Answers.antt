@@ -1,7 +1,7 @@
 use Rattle.std.proofs.Common.{◌≡◌, ◌^◌, pos, negsuc, ◌+ℤ◌, ◌-ℤ◌, arith, FitsSigned, to_z, of_z, w64}
 use Rattle.std.proofs.lemmas.Int.{ints, to_z-of_z, to_z_pos}
 use Rattle.dw_base.proofs.Signed.{does_fit, low_total, small_negative, high_negative, too_negative}
-use Rattle.dw_base.proofs.leb128.signed.Goals as goal
+use Rattle.dw_base.proofs.leb128.fit_signed.Goals as goal
 
 pub overflow_sub-result : goal.overflow_sub-result
 overflow_sub-result c =
