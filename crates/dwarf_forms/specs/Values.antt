@@ -24,7 +24,7 @@ use Rattle.dwarf_forms.specs.declared.given.FormCtx.{FormCtx}
 use Rattle.dwarf_forms.specs.declared.given.Given.{Given}
 use Rattle.dwarf_forms.specs.declared.given.FormValue.{FormValue}
 use Rattle.dwarf_forms.specs.declared.given.FormValue.TheVariants as values
-use Rattle.dwarf_forms.specs.Forms.{layout_of, HasWidth}
+use Rattle.dwarf_forms.specs.Forms.{layout_of}
 
 infixl 10 ◌>>=◌
 abbrev pub ◌>>=◌ : {A B : Type 0} → Result A FormFault → (A → Result B FormFault)
@@ -169,9 +169,3 @@ within c = record {
 
 abbrev pub given : Given → Shown
 given g = record { form = g.form; value = plain g.value }
-
--- the unit lies in its section, and its widths are those of numbers
-pub record IsContext (c : FormCtx) : Type 0 where
-  pub inside : c.end ≤ length c.info.now
-  pub offsets : HasWidth c.offset_bytes
-  pub addresses : HasWidth c.address_bytes

@@ -1,7 +1,7 @@
 //! What values stand for, read at once where their form is one of the most common ones.
 ghost use Rattle.std.specs.Prelude.{◌≡◌, ◌≤◌, ℕ, pos, Some, Ok, IfOk, IfSome};
 ghost use Rattle.dwarf_forms.specs.Forms.{layout_of};
-ghost use Rattle.dwarf_forms.specs.Values.{value_of, within, IsContext};
+ghost use Rattle.dwarf_forms.specs.Values.{value_of, within};
 ghost use Rattle.dwarf_forms.specs.Meanings.{sections, meant, name_in, target_in, constant_in};
 ghost use Rattle.dwarf_forms.specs.Meanings.{offset_in, Fits64};
 ghost use Rattle.dwarf_forms.specs.declared.layout.FormLayout.TheVariants.{Fixed};
@@ -22,8 +22,6 @@ fn name_by_value<'a>(
     spec: &Spec,
     at: u64,
 ) -> Result<Name<'a>, FormFault>
-    requires form { IsContext form.now }
-    requires context { IsContext ctx.now }
     ensures { result ≡ meant (name_in (sections ctx.now) spec.now.attribute)
         (value_of (within form.now) spec.now at) }
 {
@@ -42,8 +40,6 @@ pub fn name_at<'a>(
     spec: &Spec,
     at: u64,
 ) -> Result<Name<'a>, FormFault>
-    requires form { IsContext form.now }
-    requires context { IsContext ctx.now }
     ensures { result ≡ meant (name_in (sections ctx.now) spec.now.attribute)
         (value_of (within form.now) spec.now at) }
 {
@@ -63,7 +59,6 @@ fn target_by_value(
     spec: &Spec,
     at: u64,
 ) -> Result<u128, FormFault>
-    requires { IsContext form.now }
     ensures { result ≡ meant (target_in (sections ctx.now) spec.now.attribute)
         (value_of (within form.now) spec.now at) }
 {
@@ -83,7 +78,6 @@ pub fn target_at(
     spec: &Spec,
     at: u64,
 ) -> Result<u128, FormFault>
-    requires { IsContext form.now }
     ensures { result ≡ meant (target_in (sections ctx.now) spec.now.attribute)
         (value_of (within form.now) spec.now at) }
 {
@@ -98,7 +92,6 @@ pub fn target_at(
 
 /// The number that a value of any form is.
 fn constant_by_value(form: &FormCtx<'_>, spec: &Spec, at: u64) -> Result<i128, FormFault>
-    requires { IsContext form.now }
     ensures value { result ≡ meant (constant_in spec.now.attribute)
         (value_of (within form.now) spec.now at) }
     ensures small { IfOk result Fits64 }
@@ -109,7 +102,6 @@ fn constant_by_value(form: &FormCtx<'_>, spec: &Spec, at: u64) -> Result<i128, F
 
 /// The offset that a value of any form gives a member.
 fn byte_offset_by_value(form: &FormCtx<'_>, spec: &Spec, at: u64) -> Result<Option<i128>, FormFault>
-    requires { IsContext form.now }
     ensures value { result ≡ meant (offset_in spec.now.attribute)
         (value_of (within form.now) spec.now at) }
     ensures small { IfOk result (λ o. IfSome o Fits64) }
@@ -146,7 +138,6 @@ fn plain_number(n: u64) -> Result<i128, FormFault>
 /// It is refused as `value` is, and then as `constant_of`.
 #[inline(always)]
 pub fn constant_at(form: &FormCtx<'_>, spec: &Spec, at: u64) -> Result<i128, FormFault>
-    requires { IsContext form.now }
     ensures value { result ≡ meant (constant_in spec.now.attribute)
         (value_of (within form.now) spec.now at) }
     ensures small { IfOk result Fits64 }
@@ -174,7 +165,6 @@ fn plain_offset(n: u64) -> Option<i128>
 /// It is refused as `value` is, and then as `byte_offset_of`.
 #[inline(always)]
 pub fn byte_offset_at(form: &FormCtx<'_>, spec: &Spec, at: u64) -> Result<Option<i128>, FormFault>
-    requires { IsContext form.now }
     ensures value { result ≡ meant (offset_in spec.now.attribute)
         (value_of (within form.now) spec.now at) }
     ensures small { IfOk result (λ o. IfSome o Fits64) }

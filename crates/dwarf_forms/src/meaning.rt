@@ -1,7 +1,7 @@
 //! What values stand for.
 ghost use Rattle.std.specs.Prelude.{◌≡◌, IfOk, IfSome};
 ghost use Rattle.dw_base.specs.Sections.{bytes_of};
-ghost use Rattle.dwarf_forms.specs.Values.{given as shown, IsContext};
+ghost use Rattle.dwarf_forms.specs.Values.{given as shown};
 ghost use Rattle.dwarf_forms.specs.Meanings.{sections, string_at, indexed_at, name_in, constant_in};
 ghost use Rattle.dwarf_forms.specs.Meanings.{flag_in, target_in, operand_of, offset_in, Fits64};
 
@@ -23,7 +23,6 @@ pub(crate) fn string<'a>(section: TextSection<'a>, offset: u64) -> Result<Name<'
 
 /// The text at the offset that `.debug_str_offsets` has at an index.
 fn indexed<'a>(ctx: &FormCtx<'a>, index: u64) -> Result<Name<'a>, FormFault>
-    requires { IsContext ctx.now }
     ensures { result ≡ indexed_at (sections ctx.now) index }
 {
     let place = u128::from(ctx.str_base) + u128::from(index) * u128::from(ctx.offset_bytes);
@@ -47,7 +46,6 @@ pub fn name_of<'a>(
     attribute: u64,
     given: &Given<'a>,
 ) -> Result<Name<'a>, FormFault>
-    requires { IsContext ctx.now }
     ensures { result ≡ name_in (sections ctx.now) attribute (shown given.now) }
 {
     match &given.value {

@@ -3,7 +3,7 @@ ghost use Rattle.std.specs.Prelude.{◌≡◌, take};
 ghost use Rattle.dwarf_forms.specs.Forms.{HasWidth, HasWidths};
 ghost use Rattle.dwarf_forms.specs.Values.{seen, plain, fixed_at, uleb_at, sleb_at, held_at};
 ghost use Rattle.dwarf_forms.specs.Values.{number_as, bytes_as, text_at, read_at, form_at};
-ghost use Rattle.dwarf_forms.specs.Values.{value_of, end_of, within, given, IsContext};
+ghost use Rattle.dwarf_forms.specs.Values.{value_of, end_of, within, given};
 
 use crate::fault::FormFault;
 use crate::given::{FormCtx, FormValue, Given};
@@ -195,7 +195,6 @@ fn used_form(bytes: &[u8], at: u64, spec: &Spec) -> Result<(u64, u64), FormFault
 /// `.debug_info` up to the unit's end.
 #[inline(always)]
 pub fn unit_of<'a>(ctx: &FormCtx<'a>) -> &'a [u8]
-    requires { IsContext ctx.now }
     ensures { result.now ≡ take ctx.now.end ctx.now.info.now }
 {
     let info: &'a [u8] = ctx.info;
@@ -211,7 +210,6 @@ pub fn unit_of<'a>(ctx: &FormCtx<'a>) -> &'a [u8]
 /// `ValueTruncated` where the value passes the unit's end.
 #[tactic(auto, unfolding(crate::specs::Values::value_of))]
 pub fn value<'a>(ctx: &FormCtx<'a>, spec: &Spec, at: u64) -> Result<(Given<'a>, u64), FormFault>
-    requires { IsContext ctx.now }
     ensures { seen (λ x. (given x.0, x.1)) result ≡ value_of (within ctx.now) spec.now at }
 {
     let bytes = unit_of(ctx);
@@ -229,7 +227,6 @@ pub fn value<'a>(ctx: &FormCtx<'a>, spec: &Spec, at: u64) -> Result<(Given<'a>, 
 /// exactly where and as `value` is.
 #[inline(always)]
 pub fn skip(ctx: &FormCtx<'_>, spec: &Spec, at: u64) -> Result<u64, FormFault>
-    requires { IsContext ctx.now }
     ensures { result ≡ end_of (value_of (within ctx.now) spec.now at) }
 {
     let (_, end) = value(ctx, spec, at)?;
