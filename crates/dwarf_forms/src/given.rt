@@ -49,7 +49,7 @@ pub enum FormValue<'a> {
     Block(&'a [u8]),
     /// A DWARF expression.
     Expr(&'a [u8]),
-    /// A flag.
+    /// A flag, which is true for every byte but 0.
     Flag(bool),
     /// A text in `.debug_info` itself.
     Text(Name<'a>),
