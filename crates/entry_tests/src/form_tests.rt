@@ -113,8 +113,7 @@ fn spec_of(form: u64) -> Spec {
 }
 
 /// A value is refused, and to pass it over, too.
-fn is_refused(rt: &impl Abort, ctx: &FormCtx<'_>, form: u64, fault: FormFault)
-{
+fn is_refused(rt: &impl Abort, ctx: &FormCtx<'_>, form: u64, fault: FormFault) {
     let spec = spec_of(form);
     assert_eq!(rt; skip(ctx, &spec, 0), Err(fault), "{form}");
     assert_eq!(rt; value(ctx, &spec, 0).err(), Some(fault), "{form}");
@@ -127,8 +126,7 @@ fn holds(
     ctx: &FormCtx<'_>,
     form: u64,
     text: &str,
-) -> Result<(), Fail>
-{
+) -> Result<(), Fail> {
     let spec = spec_of(form);
     let (given, end) = value(ctx, &spec, 0)?;
     let found = format!(in alloc; "{} {end} {:?}", given.form, given.value)?;
@@ -140,8 +138,7 @@ fn holds(
 }
 
 /// The value passes the end of a unit that ends one byte earlier.
-fn passes(rt: &impl Abort, ctx: &FormCtx<'_>, form: u64)
-{
+fn passes(rt: &impl Abort, ctx: &FormCtx<'_>, form: u64) {
     if ctx.end > 0 {
         let mut cut = *ctx;
         cut.end = ctx.end - 1;
@@ -233,8 +230,7 @@ fn is_named(
     ctx: &FormCtx<'_>,
     value: FormValue<'_>,
     wanted: Result<&[u8], FormFault>,
-)
-{
+) {
     match name_of(ctx, 3, &Given { form: 8, value }) {
         Ok(name) => assert_eq!(rt; Ok(name.bytes()), wanted),
         Err(found) => assert_eq!(rt; Err(found), wanted),
