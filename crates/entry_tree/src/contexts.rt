@@ -11,7 +11,7 @@ use dwarf_forms::FormCtx;
 use elf_sections::{Image, Kind};
 
 /// What the values of a unit of an image are read in. `str_base` is the offset in
-/// `.debug_str_offsets` from which the unit's indices count.
+/// `.debug_str_offsets` from which the unit's indices count. It takes constant time.
 pub fn context<'a>(image: &Image<'a>, unit: &Unit, str_base: u64) -> FormCtx<'a>
     requires { IsUnitOf (file_of image.now) unit.now }
     ensures context { IsContext result }

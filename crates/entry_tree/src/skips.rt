@@ -1,5 +1,5 @@
 //! Passing the values of an entry.
-ghost use Rattle.std.specs.Prelude.{◌≡◌, ◌+◌, ℕ, Some, Ok, IfSome, take};
+ghost use Rattle.std.specs.Prelude.{◌≡◌, ◌+◌, ◌≤◌, ℕ, Some, Ok, IfSome, take, length};
 ghost use Rattle.dwarf_abbrev.specs.Sizes.{total};
 ghost use Rattle.dwarf_abbrev.specs.ValueMaps.{IsMapOf};
 ghost use Rattle.dwarf_forms.specs.Values.{IsContext, within};
@@ -104,8 +104,29 @@ fn place_behind_loose(
     place_behind_run(ctx, specs, map, reached, at, count)
 }
 
+/// The place after the values of the first `count` pairs, where not all of them have a fixed width
+/// or one can't be read. It is refused as the values are, one after the other.
+fn place_behind_mixed(
+    ctx: &FormCtx<'_>,
+    specs: &[Spec],
+    map: &ValueMap,
+    count: usize,
+    from: u64,
+) -> Result<u64, FormFault>
+    requires context { IsContext ctx.now }
+    requires map { IsMapOf specs.now map.now }
+    requires inside { count ≤ length specs.now }
+    ensures { result ≡ ends_at (within ctx.now) (take count specs.now) from }
+{
+    match place_behind_loose(ctx, specs, map, count, from) {
+        Some(end) => Ok(end),
+        // value by value, for the fault of the first that can't be read
+        None => skip_all(ctx, &specs[..count], from),
+    }
+}
+
 /// The place after the values of the first `count` pairs, by one addition where all of them have a
-/// fixed width. `None` where one can't be read.
+/// fixed width. It is refused as the values are, one after the other.
 #[inline(always)]
 pub(crate) fn place_behind(
     ctx: &FormCtx<'_>,
@@ -113,18 +134,19 @@ pub(crate) fn place_behind(
     map: &ValueMap,
     count: usize,
     from: u64,
-) -> Option<u64>
+) -> Result<u64, FormFault>
     requires context { IsContext ctx.now }
     requires map { IsMapOf specs.now map.now }
-    ensures { IfSome result (λ end. ends_at (within ctx.now) (take count specs.now) from ≡ Ok end) }
+    requires inside { count ≤ length specs.now }
+    ensures { result ≡ ends_at (within ctx.now) (take count specs.now) from }
 {
     match place_behind_run(ctx, specs, map, 0, from, count) {
-        Some(end) => Some(end),
-        None => place_behind_loose(ctx, specs, map, count, from),
+        Some(end) => Ok(end),
+        None => place_behind_mixed(ctx, specs, map, count, from),
     }
 }
 
-/// The place after the values of some pairs. It is refused as the values are, one after the other.
+/// The place after the values of all pairs. It is refused as the values are, one after the other.
 #[inline(always)]
 pub(crate) fn skip_values(
     ctx: &FormCtx<'_>,
@@ -136,9 +158,5 @@ pub(crate) fn skip_values(
     requires map { IsMapOf specs.now map.now }
     ensures { result ≡ ends_at (within ctx.now) specs.now at }
 {
-    match place_behind(ctx, specs, map, specs.len(), at) {
-        Some(end) => Ok(end),
-        // value by value, for the fault of the first that can't be read
-        None => skip_all(ctx, specs, at),
-    }
+    place_behind(ctx, specs, map, specs.len(), at)
 }

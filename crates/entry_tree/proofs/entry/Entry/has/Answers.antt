@@ -1,7 +1,7 @@
 use Rattle.std.proofs.Common.{pos, sym, ap, ◌∙◌}
 use Rattle.dwarf_abbrev.specs.ValueMaps.{has_spec}
 use Rattle.dwarf_forms.specs.Values.{within}
-use Rattle.entry_tree.proofs.Passing.{has_is, tells_by_first}
+use Rattle.entry_tree.proofs.Attributes.{has_is, tells_by_first}
 use Rattle.entry_tree.proofs.entry.Entry.has.Goals as goal
 
 pub returns : goal.returns
