@@ -1,7 +1,6 @@
 -- Reading a BTF file: the first fault in the order of the checks, or the types that the words show
--- (the Linux kernel's BTF
--- documentation, "BTF Header", "String Encoding" and "Type Encoding"; the order of the checks is
--- this project's own).
+-- (the Linux kernel's BTF documentation, "BTF Header", "String Encoding" and "Type Encoding"; the
+-- order of the checks is this project's own).
 use Rattle.std.specs.Prelude.{ℕ, zero, suc, ◌+◌, ◌*◌, ◌-◌, ◌/◌, ◌%◌, ◌^◌, ◌==◌, ◌&&◌, ◌||◌, nat_lt}
 use Rattle.std.specs.Prelude.{nat_le, not, Bool, true, false, List, [], ◌∷◌, ◌++◌, length, take}
 use Rattle.std.specs.Prelude.{drop, map, find, is_some, slice_index, unwrap_or, Option, None, Some}

@@ -16,8 +16,7 @@ use std::hash::{BuildHasherDefault, DefaultHasher};
 use std::marker::Model;
 
 /// The last offset that a new name may have, in bytes from the beginning of the base's strings (the
-/// kernel's
-/// `BTF_MAX_NAME_OFFSET`).
+/// kernel's `BTF_MAX_NAME_OFFSET`).
 pub const LAST_OFFSET: u64 = 0x00ff_ffff;
 
 /// Offsets by names. They are hashed by SipHash: a file's names can be made to collide by the

@@ -10,10 +10,8 @@ use Rattle.class_halves.specs.Looks.{references_to}
 use Rattle.class_halves.specs.Sums.{sum_all}
 
 -- every agreeing partition refines the parts; two nodes of one class that are no open forwards have
--- equal labels
--- and void patterns, and where their targets at a position are in two parts, one of these waits;
--- open forwards of a
--- tag are in one part, alone or with all their definitions
+-- equal labels and void patterns, and where their targets at a position are in two parts, one of
+-- these waits; open forwards of a tag are in one part, alone or with all their definitions
 pub record HoldsBetween (g : Shape) (index : List (List ℕ)) (raw : List ℕ)
     (flags : List Bool) : Type 0 where
   pub refined : AgreeingRefineParts g index raw
@@ -23,8 +21,8 @@ pub record HoldsBetween (g : Shape) (index : List (List ℕ)) (raw : List ℕ)
   pub forwards : ForwardsStayTogether g index raw
 
 -- where the references to a node were looked at k times, 2^k times the size of its part is at most
--- twice the
--- number n of all nodes, and at most n while the part waits; each look costs at most two steps
+-- twice the number n of all nodes, and at most n while the part waits; each look costs at most two
+-- steps
 pub record HasLooks (index : List (List ℕ)) (n : ℕ) (raw : List ℕ) (flags : List Bool)
     (nodes : List CType) (before now : ℕ) : Type 0 where
   pub looks : ℕ → ℕ

@@ -23,8 +23,7 @@ use Rattle.command_line.specs.Values.{made_number, holes, line, jobs, file_name,
 use Rattle.command_line.specs.Options.{row, settings, showing, is_same}
 
 -- the role of a word: an option of the table, with its value if it is there; another word that
--- begins with `-`;
--- the value of the option before it; the first `--`; a file
+-- begins with `-`; the value of the option before it; the first `--`; a file
 pub data Role : Type 0 where
   option : Setting → Option (List ℕ) → Role
   unknown : Role

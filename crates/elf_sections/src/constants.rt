@@ -40,8 +40,8 @@ pub const SHT_REL: u32 = 9;
 // Flags of sections (gABI, "Sections", sh_flags).
 pub const SHF_COMPRESSED: u64 = 0x800;
 
-// Types of relocations that write an address (the supplement for AMD64, "Relocation Types", and
-// ELF for the Arm 64-bit Architecture, "Static data relocations").
+// Types of relocations that write an address (the supplement for AMD64, "Relocation Types", and ELF
+// for the Arm 64-bit Architecture, "Static data relocations").
 pub const R_X86_64_64: u64 = 1;
 
 pub const R_X86_64_32: u64 = 10;

@@ -15,8 +15,7 @@ use Rattle.layout_printer.specs.declared.slots.Slot.{Slot}
 use Rattle.layout_printer.specs.declared.slots.TypeLayout.{TypeLayout}
 
 -- the offset word of a member: where its structure has the flag, the low 24 bits are its first bit,
--- and the high 8 its
--- width if it is a bit field, else 0
+-- and the high 8 its width if it is a bit field, else 0
 abbrev pub start_of : Bool → ℕ → ℕ
 start_of flag value = if flag then value % 2 ^ 24 else value
 

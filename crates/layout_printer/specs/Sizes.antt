@@ -75,8 +75,7 @@ size_in zero types pointer r = None
 size_in (suc n) types pointer r = size_from (size_in n types pointer) types pointer r
 
 -- the size of what a reference is to, where pointers have so many bytes. A chain of types that
--- gives no size within
--- as many types as there are is a cycle, and has none
+-- gives no size within as many types as there are is a cycle, and has none
 abbrev pub size_of : List CType → ℕ → Ref → Option ℕ
 size_of types pointer r = size_in (length types) types pointer r
 

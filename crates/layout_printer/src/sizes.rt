@@ -69,8 +69,7 @@ fn kept_at(sizes: &[Option<u64>], r: Ref) -> Option<u64>
 }
 
 /// How many bytes the pointers of a table have: the size of its first INT of 4 or 8 bytes that is
-/// named `long`, `long int`,
-/// `unsigned long` or `long unsigned int`, and 8 where it has none.
+/// named `long`, `long int`, `unsigned long` or `long unsigned int`, and 8 where it has none.
 pub fn pointer_of(table: &Table<'_>) -> u32
     ensures { result ≡ pointer_of table.now.types }
 {

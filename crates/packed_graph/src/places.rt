@@ -1,9 +1,9 @@
 //! Places of labels among the different labels of a list of nodes.
 //!
-//! The same types follow one another in the same order in each unit of a program, so the label
-//! that follows a label is nearly always the one that followed it the last time. It is compared
-//! first, then the last label that has the same mark, which is some of its bytes; only another one
-//! is hashed and looked up. No clause rests on a hint.
+//! The same types follow one another in the same order in each unit of a program, so the label that
+//! follows a label is nearly always the one that followed it the last time. It is compared first,
+//! then the last label that has the same mark, which is some of its bytes; only another one is
+//! hashed and looked up. No clause rests on a hint.
 ghost use Rattle.std.specs.Prelude.{◌≡◌, Some, IfOk, IfSome, OnErr, slice_get};
 ghost use Rattle.c_model.specs.Numberings.{TakesKey};
 

@@ -27,8 +27,7 @@ nameless_at types Void = None
 nameless_at types (Node y) = option_and_then (nameless_by y) (slice_get types y)
 
 -- the place of the structure or union that a type in a place shows: its own where it is one with a
--- name, and that of its
--- target where it is a typedef of one without
+-- name, and that of its target where it is a typedef of one without
 abbrev pub structure_by : List CType → ℕ → CType → Option ℕ
 structure_by types x t =
     if is_structure t then (if is_named t then Some x else None)
@@ -56,8 +55,7 @@ unfoldable pub places_named : List CType → List ℕ → List ℕ
 places_named types name = filter (has_name types name) (range_with_len 0 (length types))
 
 -- the places of what is shown: without names those of the types from a place on; else for each name
--- in order those of all
--- its types
+-- in order those of all its types
 abbrev pub chosen : List CType → ℕ → Option (List (List ℕ)) → List ℕ
 chosen types from None = listed types from
 chosen types from (Some names) = flat_map (places_named types) names

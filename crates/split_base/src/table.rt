@@ -30,17 +30,15 @@ const LAST_ID: u64 = 0x000f_ffff;
 /// each class without base nodes, in the order of the classes' first nodes. Such a type has the
 /// label of its class's first node that is no forward, or of its first node if all are, and its
 /// targets are the types of their classes. The names of the own types are put in id order, a type's
-/// name before those of its parts, over the base's string section
-/// `base_names`, where there is one.
+/// name before those of its parts, over the base's string section `base_names`, where there is one.
 ///
 /// The graph may be kept in any way. Its labels that become those of types are copied; their names
 /// are borrowed.
 ///
 /// It is refused by `TooManyTypes`, with the number of types, exactly where there are more than
-/// 0x000fffff; else by
-/// `NamesTooLong`, with the offset, at the first name that would get one past 0x00ffffff; else by
-/// `TableTooLong`, with the number of bytes, exactly where the own types and the own strings take
-/// more than 2^32 - 1 bytes. It is never refused by `NodesTooMany`.
+/// 0x000fffff; else by `NamesTooLong`, with the offset, at the first name that would get one past
+/// 0x00ffffff; else by `TableTooLong`, with the number of bytes, exactly where the own types and
+/// the own strings take more than 2^32 - 1 bytes. It is never refused by `NodesTooMany`.
 pub fn build<'a, G: TypeGraph<'a>>(
     alloc: Global,
     graph: &G,

@@ -1,6 +1,6 @@
 -- Base types (DWARF 5, section 5.1) and unspecified types (5.2): an INT where the encoding and the
--- size are those of an integer, a FLOAT where
--- they are those of a floating number, and else a structure of the name and size without members.
+-- size are those of an integer, a FLOAT where they are those of a floating number, and else a
+-- structure of the name and size without members.
 use Rattle.std.specs.Prelude.{ℕ, ◌+◌, ◌*◌, ◌^◌, ◌==◌, ◌&&◌, ◌||◌, Bool, true, false, List, [], ◌++◌}
 use Rattle.std.specs.Prelude.{Option, None, Some, if◌then◌else◌}
 use Rattle.c_model.specs.declared.kinds.TheConstants.{BTF_KIND_INT, BTF_KIND_FLOAT, BTF_KIND_STRUCT}

@@ -1,7 +1,6 @@
 -- How many bytes the objects of a type have, as far as the storage of a bit field needs it (DWARF
--- 4, section 5.5.6): a type says so by its
--- byte_size (0x0b), and a typedef, const, volatile, restrict or atomic type without one has the
--- size of the type that it names.
+-- 4, section 5.5.6): a type says so by its byte_size (0x0b), and a typedef, const, volatile,
+-- restrict or atomic type without one has the size of the type that it names.
 use Rattle.std.specs.Prelude.{ℕ, zero, suc, ◌==◌, ◌||◌, Bool, List, [], ◌∷◌, Option, None, Some}
 use Rattle.std.specs.Prelude.{if◌then◌else◌}
 use Rattle.dwarf_forms.specs.Meanings.{Sections}

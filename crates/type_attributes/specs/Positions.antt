@@ -39,9 +39,8 @@ abbrev pub after : List TypeFault → Asked ℕ → Asked ℕ
 after refused a = record { said = a.said; refused = refused ++ a.refused }
 
 -- in a unit of version 4 a bit field with a bit_offset (0x0c) stands in a storage: its first bit is
--- so many bits behind the storage's most
--- significant bit, which is the first one in a big-endian file and the last one in a little-endian
--- file
+-- so many bits behind the storage's most significant bit, which is the first one in a big-endian
+-- file and the last one in a little-endian file
 abbrev pub is_stored : Scope → Given → Bool
 is_stored s m = has DW_AT_bit_size m && (has DW_AT_bit_offset m && s.version == 4)
 

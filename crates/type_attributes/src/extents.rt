@@ -1,6 +1,5 @@
 //! How many bytes the objects of a unit's types have, as far as the storage of a bit field needs it
-//! (DWARF 4, section
-//! 5.5.6).
+//! (DWARF 4, section 5.5.6).
 ghost use Rattle.std.specs.Prelude.{◌≡◌, ◌++◌, ◌<◌, OnOk, IfOk};
 ghost use Rattle.std.specs.List.Sorted.{IsNonDecreasingBy};
 ghost use Rattle.dwarf_forms.specs.Meanings.{sections};

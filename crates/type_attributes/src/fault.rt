@@ -127,7 +127,12 @@ fn rank_form(at: u64, fault: FormFault) -> Rank
         FormFault::StringOut(offset) => rank_keeping(at, numbers::STRING_OUT, offset, 0),
         FormFault::StrxOut(index) => rank_keeping(at, numbers::STRX_OUT, index, 0),
         FormFault::AltForm(form) => rank_keeping(at, numbers::ALT_FORM, form, 0),
-        FormFault::WrongClass(attribute, form) => rank_keeping(at, numbers::WRONG_CLASS, attribute, form),
+        FormFault::WrongClass(attribute, form) => rank_keeping(
+            at,
+            numbers::WRONG_CLASS,
+            attribute,
+            form,
+        ),
     }
 }
 

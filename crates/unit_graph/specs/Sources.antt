@@ -13,8 +13,8 @@ use Rattle.entry_tree.specs.Contexts.{IsUnitOf}
 use Rattle.entry_tree.specs.declared.unit.Unit.{Unit}
 
 -- a node that isn't linked yet: its file, the offset of its entry in .debug_info (none for a type
--- of indices), the number of the node that is the
--- type of its unit's indices, what it is, and what it refers to
+-- of indices), the number of the node that is the type of its unit's indices, what it is, and what
+-- it refers to
 pub record Source : Type 0 where
   pub file : ℕ
   pub at : Option ℕ

@@ -55,9 +55,8 @@ fn link(places: &NodePlaces, count: u64, file: u32, index: u64, target: &Target)
 }
 
 /// The references of a node of a file with these targets, or the first that names no node. The
-/// places are those of
-/// `count` nodes; `index` is the number of the node that is the type of the indices of its unit's
-/// arrays.
+/// places are those of `count` nodes; `index` is the number of the node that is the type of the
+/// indices of its unit's arrays.
 pub fn link_targets(
     alloc: Global,
     places: &NodePlaces,

@@ -4,9 +4,8 @@ use Rattle.std.specs.Str.{bytes_eq}
 use Rattle.world_io.specs.declared.files.HeldFile.{HeldFile}
 
 -- The files, the bytes printed and complained, the files stored and the number of loads, prints and
--- stores so far,
--- each `None` where the world does not tell it; and how many calls of each of the four kinds
--- failed.
+-- stores so far, each `None` where the world does not tell it; and how many calls of each of the
+-- four kinds failed.
 pub record Meaning : Type 0 where
   pub files : Option (List HeldFile)
   pub printed : Option (List ℕ)

@@ -10,9 +10,8 @@ use crate::fault::{Failed, LoadFault, OutFault};
 /// Contracts see a world as its `Meaning`: its files by name, what was printed, complained and
 /// stored, the number of loads, prints and stores so far, each as far as the world tells it, and
 /// four counts of faults. A count never falls, and it becomes greater only in a call of its own
-/// kind that answers
-/// `Failed`. Each load, print and store is one call more, whatever it answers. What a call is not
-/// said to change stays as it was.
+/// kind that answers `Failed`. Each load, print and store is one call more, whatever it answers.
+/// What a call is not said to change stays as it was.
 pub trait World {
     /// What the world holds and was given, as far as it tells, and its counts of faults.
     ghost meaning: { Self → Meaning };
