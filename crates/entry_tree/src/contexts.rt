@@ -1,6 +1,6 @@
 //! What the values of a unit are read in.
 ghost use Rattle.std.specs.Prelude.{◌≡◌, ◌≤◌};
-ghost use Rattle.dwarf_forms.specs.Values.{IsContext, within};
+ghost use Rattle.dwarf_forms.specs.Values.{within};
 ghost use Rattle.dwarf_forms.specs.Meanings.{sections};
 ghost use Rattle.elf_sections.specs.Images.{file_of};
 ghost use Rattle.entry_tree.specs.Contexts.{IsUnitOf, within_of, sections_of};
@@ -14,7 +14,6 @@ use elf_sections::{Image, Kind};
 /// `.debug_str_offsets` from which the unit's indices count. It takes constant time.
 pub fn context<'a>(image: &Image<'a>, unit: &Unit, str_base: u64) -> FormCtx<'a>
     requires { IsUnitOf (file_of image.now) unit.now }
-    ensures context { IsContext result }
     ensures within { within result ≡ within_of (file_of image.now) unit.now }
     ensures sections { sections result ≡ sections_of (file_of image.now) unit.now str_base }
     ensures end { result.end ≡ unit.now.end }
