@@ -1,5 +1,5 @@
 use Rattle.dwarf_abbrev.proofs.Mapping.{one_more_without}
-use Rattle.dwarf_abbrev.proofs.value_map.search.Goals as goal
+use Rattle.dwarf_abbrev.proofs.slots.search.Goals as goal
 
 pub loop-index-preserved : goal.loop-index-preserved
 loop-index-preserved c =
