@@ -112,6 +112,7 @@ fn place_behind_runs(
 
 /// The place after the values of the first `count` pairs, where not all of them have a fixed width
 /// or one can't be read. It is refused as the values are, one after the other.
+#[inline(never)]
 fn place_behind_mixed(
     ctx: &FormCtx<'_>,
     abbreviation: &Abbrev<'_>,
