@@ -1,6 +1,5 @@
 //! Entries of units by hand, of damaged ones, of a deep one, and of one that gcc wrote.
 ghost use Rattle.elf_sections.specs.Images.{file_of as bytes_of};
-ghost use Rattle.dwarf_forms.specs.Values.{IsContext};
 ghost use Rattle.entry_tree.specs.Contexts.{IsUnitOf};
 
 use dw_base::Order;
@@ -177,7 +176,6 @@ struct ToldEntry {
 
 /// The name of an entry.
 fn name_text(alloc: Global, ctx: &FormCtx<'_>, entry: &Entry<'_, '_>) -> Option<String>
-    requires { IsContext ctx.now }
 {
     let mut text = String::new(alloc);
     if let Some(given) = entry.attr(3).ok()? {
@@ -211,7 +209,6 @@ fn text_of(
     entry: &Entry<'_, '_>,
     asked: AskedOf,
 ) -> Option<String>
-    requires { IsContext ctx.now }
 {
     match asked {
         AskedOf::Nothing => Some(String::new(alloc)),
@@ -229,7 +226,6 @@ fn push_told(
     entry: &Entry<'_, '_>,
     asked: AskedOf,
 ) -> Option<()>
-    requires { IsContext ctx.now }
 {
     let text = text_of(alloc, ctx, entry, asked)?;
     let (at, depth, tag) = (entry.at, entry.depth, entry.tag);
@@ -259,7 +255,6 @@ fn entries_of(
     most: u64,
     asked: AskedOf,
 ) -> Result<Vec<ToldEntry>, Outcome>
-    requires { IsContext ctx.now }
 {
     let mut entries = Vec::new(alloc);
     for _ in 0..=most {
