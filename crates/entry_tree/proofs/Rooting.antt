@@ -34,7 +34,8 @@ module _ (c : Within) (declarations : List Declaration) (first : ℕ) where
     item,
     record { tag = refl; language = language_is; base = is },
   )
-  is_base e item language language_is (Err g) is = inr (e, item, g, inr (language, language_is, is), refl)
+  is_base e item language language_is (Err g) is =
+      inr (e, item, g, inr (language, language_is, is), refl)
 
   is_language : (e : Found) → IsRootEntry c declarations first e → (r : Result (Option ℤ) FormFault)
       → language_in (value_with DW_AT_language e.values) ≡ r → IsRoot c declarations first
