@@ -32,7 +32,7 @@ fn name_in_any_form<'a>(
 /// The name that the value of an attribute at the offset `at` of `.debug_info` is or refers to. The
 /// value is read in `form`, and the name in the sections of `ctx`.
 ///
-/// It is refused as `value` is, and then as `name_of`; so its work grows, too.
+/// It is refused as `value` is, and then as `name_of`; its work is that of both.
 #[inline(always)]
 pub fn name_at<'a>(
     form: &FormCtx<'a>,
@@ -70,7 +70,7 @@ fn target_in_any_form(
 /// `.debug_info` refers to; it can pass 2^64. The value is read in `form`, and counts in the unit
 /// of `ctx`.
 ///
-/// It is refused as `value` is, and then as `target_of`; its work grows as that of `value`.
+/// It is refused as `value` is, and then as `target_of`; its work is that of `value`.
 #[inline(always)]
 pub fn target_at(
     form: &FormCtx<'_>,
@@ -131,7 +131,7 @@ fn short_constant(form: DwForm) -> Option<u32>
 /// The number of class constant that the value of an attribute at the offset `at` of `.debug_info`
 /// is.
 ///
-/// It is refused as `value` is, and then as `constant_of`; its work grows as that of `value`.
+/// It is refused as `value` is, and then as `constant_of`; its work is that of `value`.
 #[inline(always)]
 pub fn constant_at(form: &FormCtx<'_>, spec: &Spec, at: InfoOffset) -> Result<i128, FormFault>
     ensures value { result ≡ meant (constant_in spec.now.attribute)
@@ -150,7 +150,7 @@ pub fn constant_at(form: &FormCtx<'_>, spec: &Spec, at: InfoOffset) -> Result<i1
 /// The offset in bytes that the value of an attribute at the offset `at` of `.debug_info` gives a
 /// member.
 ///
-/// It is refused as `value` is, and then as `byte_offset_of`; so its work grows, too.
+/// It is refused as `value` is, and then as `byte_offset_of`; its work is that of both.
 #[inline(always)]
 pub fn byte_offset_at(
     form: &FormCtx<'_>,

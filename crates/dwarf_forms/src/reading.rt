@@ -241,7 +241,7 @@ pub fn value<'a>(
 }
 
 /// The offset after the value of an attribute at the offset `at` of `.debug_info`. It is refused
-/// exactly where and as `value` is, and its work grows as that of `value`.
+/// exactly where and as `value` is, and its work is that of `value`.
 #[inline(always)]
 pub fn skip(ctx: &FormCtx<'_>, spec: &Spec, at: InfoOffset) -> Result<InfoOffset, FormFault>
     ensures value { result ≡ end_of (value_of (within ctx.now) spec.now at) }

@@ -1,6 +1,5 @@
 //! Values in bytes, and what reading them answers.
-ghost use Rattle.std.specs.Prelude.{◌≤◌};
-ghost use Rattle.dwarf_forms.specs.Values.{IsContext};
+ghost use Rattle.dwarf_forms.specs.Forms.{HasWidth};
 
 use dw_base::{Name, Order, TextSection};
 use dwarf_abbrev::Spec;
@@ -14,9 +13,7 @@ use std::test::Fail;
 
 /// What a unit of these bytes reads its values in.
 fn context<'a>(info: &'a [u8], order: Order, offset_bytes: u32) -> FormCtx<'a>
-    requires low { 1 ≤ offset_bytes }
-    requires high { offset_bytes ≤ 8 }
-    ensures { IsContext result }
+    requires { HasWidth offset_bytes }
 {
     FormCtx {
         info,
@@ -116,9 +113,7 @@ fn spec_of(form: u64) -> Spec {
 }
 
 /// A value is refused, and to pass it over, too.
-fn is_refused(rt: &impl Abort, ctx: &FormCtx<'_>, form: u64, fault: FormFault)
-    requires { IsContext ctx.now }
-{
+fn is_refused(rt: &impl Abort, ctx: &FormCtx<'_>, form: u64, fault: FormFault) {
     let spec = spec_of(form);
     assert_eq!(rt; skip(ctx, &spec, 0), Err(fault), "{form}");
     assert_eq!(rt; value(ctx, &spec, 0).err(), Some(fault), "{form}");
@@ -131,9 +126,7 @@ fn holds(
     ctx: &FormCtx<'_>,
     form: u64,
     text: &str,
-) -> Result<(), Fail>
-    requires { IsContext ctx.now }
-{
+) -> Result<(), Fail> {
     let spec = spec_of(form);
     let (given, end) = value(ctx, &spec, 0)?;
     let found = format!(in alloc; "{} {end} {:?}", given.form, given.value)?;
@@ -145,9 +138,7 @@ fn holds(
 }
 
 /// The value passes the end of a unit that ends one byte earlier.
-fn passes(rt: &impl Abort, ctx: &FormCtx<'_>, form: u64)
-    requires { IsContext ctx.now }
-{
+fn passes(rt: &impl Abort, ctx: &FormCtx<'_>, form: u64) {
     if ctx.end > 0 {
         let mut cut = *ctx;
         cut.end = ctx.end - 1;
@@ -212,15 +203,34 @@ fn what_cannot_be_read(rt: HostRuntime) {
     }
 }
 
+/// Forms without bytes, and one that the table doesn't have, one byte past the end of the unit: no
+/// value stands there, and the form is looked at first.
+const PAST: [(u64, FormFault); 3] = [
+    (0x19, FormFault::ValueTruncated(3)),
+    (0x21, FormFault::ValueTruncated(3)),
+    (0x02, FormFault::FormUnknown(0x02)),
+];
+
+#[test]
+fn nothing_stands_past_the_end(rt: HostRuntime) {
+    let ctx = context(&[1], Order::Little, 4);
+    for (form, fault) in PAST {
+        let spec = spec_of(form);
+        assert_eq!(rt; skip(&ctx, &spec, 2), Err(fault), "{form}");
+        assert_eq!(rt; value(&ctx, &spec, 2).err(), Some(fault), "{form}");
+    }
+    for form in [0x19, 0x21] {
+        assert_eq!(rt; skip(&ctx, &spec_of(form), 1), Ok(1), "{form}");
+    }
+}
+
 /// The name, or the fault, of a value.
 fn is_named(
     rt: &impl Abort,
     ctx: &FormCtx<'_>,
     value: FormValue<'_>,
     wanted: Result<&[u8], FormFault>,
-)
-    requires { IsContext ctx.now }
-{
+) {
     match name_of(ctx, 3, &Given { form: 8, value }) {
         Ok(name) => assert_eq!(rt; Ok(name.bytes()), wanted),
         Err(found) => assert_eq!(rt; Err(found), wanted),
