@@ -1,9 +1,6 @@
 //! Tables in bytes, and what reading them answers.
-use dwarf_abbrev::abbrevs::Abbrevs;
-use dwarf_abbrev::constants::DW_AT_name;
-use dwarf_abbrev::fault::AbbrevFault;
-use dwarf_abbrev::size::Size;
-use dwarf_abbrev::spec::Spec;
+use dwarf_abbrev::constants::{DW_AT_name, DW_FORM_data1, DW_FORM_flag_present};
+use dwarf_abbrev::{Abbrev, AbbrevFault, Abbrevs, FixedRun, Spec};
 use std::alloc::{AllocError, Global};
 
 /// A section, the place of a table in it, and why this table is refused.
@@ -61,13 +58,13 @@ const TWO: &[u8] = &[
     0x00,
 ];
 
-/// What an abbreviation says: its tag, whether children follow, its attributes, and the size of all
-/// values of its entries, where all have a fixed width.
+/// What an abbreviation says: its tag, whether children follow, its attributes, and the run of fixed
+/// widths before the end of all values of its entries.
 struct Said {
     tag: u64,
     children: bool,
     specs: &'static [Spec],
-    size: Option<Size>,
+    last: FixedRun,
 }
 
 /// The place of a table in TWO, a code, and what its abbreviation says.
@@ -90,7 +87,7 @@ const SAID: &[(u64, u64, Option<Said>)] = &[
                     implicit: 0,
                 },
             ],
-            size: None,
+            last: NO_VALUES,
         }),
     ),
     (
@@ -100,7 +97,7 @@ const SAID: &[(u64, u64, Option<Said>)] = &[
             tag: 0x11,
             children: true,
             specs: &[],
-            size: Some(NO_BYTES),
+            last: NO_VALUES,
         }),
     ),
     (0, 0, None),
@@ -108,18 +105,12 @@ const SAID: &[(u64, u64, Option<Said>)] = &[
     (16, 1, None),
 ];
 
-const NO_BYTES: Size = Size {
+const NO_VALUES: FixedRun = FixedRun {
+    values: 0,
     bytes: 0,
     offsets: 0,
     addresses: 0,
 };
-
-/// The size of all values of an abbreviation's entries, where all have a fixed width.
-fn size_of(table: &Abbrevs, code: u64) -> Option<Size> {
-    let map = table.get(code)?.map;
-    let run = map.runs.last()?;
-    if run.from == 0 { Some(run.size) } else { None }
-}
 
 /// Whether the abbreviation of a code says this, or there is none.
 fn is_said(table: &Abbrevs, code: u64, wanted: &Option<Said>) -> bool {
@@ -130,7 +121,7 @@ fn is_said(table: &Abbrevs, code: u64, wanted: &Option<Said>) -> bool {
                 && found.tag == said.tag
                 && found.children == said.children
                 && found.specs == said.specs
-                && size_of(table, code) == said.size
+                && found.run_to(found.specs.len()) == Some(said.last)
         }
         _ => false,
     }
@@ -165,50 +156,50 @@ const SIZED: &[u8] = &[
     0,
 ];
 
-const OF_THE_FIRST: Size = Size {
-    bytes: 3,
-    offsets: 2,
-    addresses: 1,
-};
+/// How many values a run has, and how many bytes, offsets and addresses.
+type Counts = (u32, u16, u8, u8);
 
-const OF_THE_LAST: Size = Size {
-    bytes: 24,
-    offsets: 0,
-    addresses: 0,
-};
+/// The run of such counts.
+fn run((values, bytes, offsets, addresses): Counts) -> FixedRun {
+    FixedRun {
+        values,
+        bytes,
+        offsets,
+        addresses,
+    }
+}
 
-/// A code of this table, and of its abbreviation the size, the number of runs behind the first, the
-/// attribute that the last one begins with, how many values have no fixed width, and which
-/// attribute is the name.
-type Sized = (u64, Option<Size>, usize, usize, usize, Option<usize>);
+/// A code of this table, and of its abbreviation the run that begins with the first value, the one
+/// before the end of all values, and which attribute is the name.
+type Runs = (u64, Counts, Counts, Option<usize>);
 
-const RUNS: &[Sized] = &[
-    (1, Some(OF_THE_FIRST), 5, 0, 0, Some(0)),
-    (2, Some(NO_BYTES), 2, 0, 0, None),
-    (3, None, 2, 2, 1, None),
-    (4, None, 2, 2, 1, None),
-    (5, None, 2, 2, 1, None),
-    (6, Some(OF_THE_LAST), 2, 0, 0, None),
+const RUNS: &[Runs] = &[
+    (1, (5, 3, 2, 1), (5, 3, 2, 1), Some(0)),
+    (2, (2, 0, 0, 0), (2, 0, 0, 0), None),
+    (3, (1, 1, 0, 0), (0, 0, 0, 0), None),
+    (4, (1, 1, 0, 0), (0, 0, 0, 0), None),
+    (5, (1, 16, 0, 0), (0, 0, 0, 0), None),
+    (6, (2, 24, 0, 0), (2, 24, 0, 0), None),
 ];
 
 /// Whether an abbreviation is as its row says.
-fn is_sized(table: &Abbrevs, row: &Sized) -> bool {
-    let (code, size, last, from, loose, name) = *row;
+fn has_runs(table: &Abbrevs, row: &Runs) -> bool {
+    let (code, first, last, name) = *row;
     let Some(found) = table.get(code) else {
         return false;
     };
-    found.map.runs.len() > last
-        && found.map.runs.len() - last == 1
-        && found.map.runs[last].from == from
-        && found.map.loose.len() == loose
-        && found.map.first_of(found.specs, DW_AT_name) == name
-        && size_of(table, code) == size
+    let count = found.specs.len();
+    found.run_from(0) == run(first)
+        && found.run_to(0) == Some(NO_VALUES)
+        && found.run_to(count) == Some(run(last))
+        && found.run_to(count.saturating_add(1)).is_none()
+        && found.first_of(DW_AT_name) == name
 }
 
 /// The first row whose abbreviation is otherwise.
-fn first_other_size(table: &Abbrevs) -> Option<usize> {
+fn first_other_runs(table: &Abbrevs) -> Option<usize> {
     for (k, row) in RUNS.iter().enumerate() {
-        if !is_sized(table, row) {
+        if !has_runs(table, row) {
             return Some(k);
         }
     }
@@ -216,39 +207,69 @@ fn first_other_size(table: &Abbrevs) -> Option<usize> {
 }
 
 #[test]
-fn an_abbreviation_tells_its_runs_and_its_size(rt: HostRuntime) -> Result<(), AbbrevFault> {
+fn an_abbreviation_tells_its_runs(rt: HostRuntime) -> Result<(), AbbrevFault> {
     let table = Abbrevs::read(rt.alloc(), SIZED, 0)?;
-    assert_eq!(rt; first_other_size(&table), None);
+    assert_eq!(rt; first_other_runs(&table), None);
     Ok(())
 }
 
 /// How many attributes stand before the name.
-const BEFORE_THE_NAME: &[usize] = &[0, 1, 255, 256, 70_000];
+const BEFORE_THE_NAME: &[usize] = &[0, 1, 2, 5, 253, 254, 255, 256, 70_000];
 
-/// A table of one abbreviation: so many attributes, and behind them the name.
-fn behind(alloc: Global, count: usize) -> Result<Vec<u8>, AllocError> {
+/// A table of one abbreviation: so many attributes of a form, and behind them the name.
+fn behind(alloc: Global, form: u8, count: usize) -> Result<Vec<u8>, AllocError> {
     let mut bytes = Vec::from_slice(alloc, &[1, 0x34, 0])?;
     for _ in 0..count {
-        bytes.extend_from_slice(&[0x3b, 0x0b])?;
+        bytes.extend_from_slice(&[0x3b, form])?;
     }
     bytes.extend_from_slice(&[0x03, 0x08, 0, 0, 0])?;
     Ok(bytes)
 }
 
-/// Which attribute of that abbreviation is the name.
-fn place_of_name(alloc: Global, count: usize) -> Result<Option<usize>, AbbrevFault> {
-    let bytes = behind(alloc, count)?;
-    let table = Abbrevs::read(alloc, bytes.as_slice(), 0)?;
-    match table.row(1) {
-        None => Ok(None),
-        Some(found) => Ok(found.map.first_of(found.specs.as_slice(), DW_AT_name)),
+/// How many bytes the values before the name have, where one that is in no run has one byte, and
+/// how many runs there are.
+fn bytes_before_the_name(found: &Abbrev<'_>) -> (u64, usize) {
+    let mut bytes = 0u64;
+    let mut reached = 0usize;
+    for runs in 1..=found.specs.len() {
+        let run = found.run_from(reached);
+        reached = reached.saturating_add(run.values as usize);
+        bytes = bytes.saturating_add(u64::from(run.bytes));
+        if found.first_of(DW_AT_name) == Some(reached) {
+            return (bytes, runs);
+        }
+        reached = reached.saturating_add(1);
+        bytes = bytes.saturating_add(1);
     }
+    (0, 0)
+}
+
+/// Whether the name stands behind so many attributes of a form, and what stands before it has so
+/// many bytes in so many runs.
+fn is_behind(
+    alloc: Global,
+    form: u64,
+    count: usize,
+    before: (u64, usize),
+) -> Result<bool, AbbrevFault> {
+    let bytes = behind(alloc, form as u8, count)?;
+    let table = Abbrevs::read(alloc, bytes.as_slice(), 0)?;
+    Ok(match table.get(1) {
+        None => false,
+        Some(found) => {
+            found.first_of(DW_AT_name) == Some(count) && bytes_before_the_name(&found) == before
+        }
+    })
 }
 
 /// The first count of attributes behind which the name is not found.
 fn first_not_found(alloc: Global) -> Result<Option<usize>, AbbrevFault> {
     for count in BEFORE_THE_NAME {
-        if place_of_name(alloc, *count)? != Some(*count) {
+        let runs = if *count > 65_535 { 2 } else { 1 };
+        let before = (*count as u64, runs);
+        if !is_behind(alloc, DW_FORM_data1, *count, before)?
+            || !is_behind(alloc, DW_FORM_flag_present, *count, (0, 1))?
+        {
             return Ok(Some(*count));
         }
     }

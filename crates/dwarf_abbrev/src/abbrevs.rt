@@ -21,6 +21,7 @@ use std::marker::Model;
 /// bytes.
 #[derive(Drop)]
 pub struct Abbrevs {
+    /// Its abbreviations, in the order of the bytes.
     rows: Vec<Row>,
     /// The attributes of all rows, one row behind the other.
     specs: Vec<Spec>,
@@ -152,6 +153,9 @@ fn read_table(alloc: Global, bytes: &[u8], at: u64) -> Result<Abbrevs, AbbrevFau
         at = after;
         match found {
             None => {
+                rows.shrink_to_fit();
+                specs.shrink_to_fit();
+                runs.shrink_to_fit();
                 return Ok(Abbrevs {
                     rows,
                     specs,

@@ -12,7 +12,7 @@ use crate::constants::{
 };
 
 /// How many bytes the value of a form has.
-#[derive(Clone, Copy, PartialEq, Eq)]
+#[derive(Clone, Copy)]
 pub enum Width {
     /// So many bytes.
     Bytes(u16),

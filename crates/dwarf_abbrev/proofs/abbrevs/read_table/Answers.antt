@@ -53,7 +53,8 @@ returns-in-None c =
     (declarations_of c.loop.specs.items c.loop.rows.items)
     (collect (declaration_at c.args.bytes.now) AbbrevTruncated
     (length c.args.bytes.now) c.args.at []) c.loop-test.true read.1 c.loop.invariant.so_far in
-    rw read.0 (ap (λ (r : Result (List Declaration × ℕ) AbbrevFault). r
+    rw (c.shrink_to_fit.ensures.items, c.shrink_to_fit-in-None.ensures.items, read.0)
+    (ap (λ (r : Result (List Declaration × ℕ) AbbrevFault). r
     >>= λ (x : List Declaration × ℕ). Ok x.0) f)
 
 pub invariant_of-result : goal.invariant_of-result
@@ -63,7 +64,12 @@ invariant_of-result c =
     c.in_ok-found.after (declaration_at c.args.bytes.now c.loop.at
     (declarations_of c.loop.specs.items c.as_slice.result.now)) c.in-None.is
     c.in_ok-found.ensures.gives) in
-    rw read.0 (c.loop.invariant.placed, c.loop.invariant.laid)
+    rw (
+      c.shrink_to_fit.ensures.items,
+      c.shrink_to_fit-in-None.ensures.items,
+      c.shrink_to_fit-in-None-2.ensures.items,
+      read.0,
+    ) (c.loop.invariant.placed, c.loop.invariant.laid)
 
 pub loop-preserved : goal.loop-preserved
 loop-preserved c =
