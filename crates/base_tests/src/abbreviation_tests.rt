@@ -156,8 +156,11 @@ const SIZED: &[u8] = &[
     0,
 ];
 
-/// A run of so many values that have so many bytes, besides offsets and addresses.
-const fn run(values: u32, bytes: u16, offsets: u8, addresses: u8) -> FixedRun {
+/// How many values a run has, and how many bytes, offsets and addresses.
+type Counts = (u32, u16, u8, u8);
+
+/// The run of such counts.
+fn run((values, bytes, offsets, addresses): Counts) -> FixedRun {
     FixedRun {
         values,
         bytes,
@@ -168,15 +171,15 @@ const fn run(values: u32, bytes: u16, offsets: u8, addresses: u8) -> FixedRun {
 
 /// A code of this table, and of its abbreviation the run that begins with the first value, the one
 /// before the end of all values, and which attribute is the name.
-type Runs = (u64, FixedRun, FixedRun, Option<usize>);
+type Runs = (u64, Counts, Counts, Option<usize>);
 
 const RUNS: &[Runs] = &[
-    (1, run(5, 3, 2, 1), run(5, 3, 2, 1), Some(0)),
-    (2, run(2, 0, 0, 0), run(2, 0, 0, 0), None),
-    (3, run(1, 1, 0, 0), NO_VALUES, None),
-    (4, run(1, 1, 0, 0), NO_VALUES, None),
-    (5, run(1, 16, 0, 0), NO_VALUES, None),
-    (6, run(2, 24, 0, 0), run(2, 24, 0, 0), None),
+    (1, (5, 3, 2, 1), (5, 3, 2, 1), Some(0)),
+    (2, (2, 0, 0, 0), (2, 0, 0, 0), None),
+    (3, (1, 1, 0, 0), (0, 0, 0, 0), None),
+    (4, (1, 1, 0, 0), (0, 0, 0, 0), None),
+    (5, (1, 16, 0, 0), (0, 0, 0, 0), None),
+    (6, (2, 24, 0, 0), (2, 24, 0, 0), None),
 ];
 
 /// Whether an abbreviation is as its row says.
@@ -186,9 +189,9 @@ fn has_runs(table: &Abbrevs, row: &Runs) -> bool {
         return false;
     };
     let count = found.specs.len();
-    found.run_from(0) == first
+    found.run_from(0) == run(first)
         && found.run_to(0) == Some(NO_VALUES)
-        && found.run_to(count) == Some(last)
+        && found.run_to(count) == Some(run(last))
         && found.run_to(count.saturating_add(1)).is_none()
         && found.first_of(DW_AT_name) == name
 }
