@@ -5,7 +5,8 @@
 //!   each attribute, and before the end of each abbreviation, the values of fixed widths that stand
 //!   right before it (`FixedRun`, 8 bytes). An attribute takes 2 bytes of the table at least and 32
 //!   of memory, an abbreviation without attributes 5 and 56: so a table takes at most 16 bytes of
-//!   memory for each of its own, besides the map of the next line.
+//!   memory for each of its own, and at most 20 where the map of the next line holds all codes, with
+//!   some 40 bytes for each.
 //! - A code finds its abbreviation by itself where the codes are 1, 2, 3 and so on, as compilers
 //!   write them. A map holds only the codes that aren't their place, counted from 1. So compilers'
 //!   tables are looked up in constant time, and no table takes more work than n log n.
