@@ -239,17 +239,6 @@ pub pointer_alone : (c : Scope) (p : LastPointer) → made_at c (opened_pointer 
 pointer_alone c p = stack.made_is c (opened_pointer p) []
     ∙ pointers.made_closed c.sections (record { at = p.at; kind = 2; name = []; own = p.own })
 
-pub placed_push : (os : List Open) (o : Open) (types more : List SourceType) (t : SourceType)
-    → more ≡ types ++ t ∷ [] → o.index ≡ length types → ArePlaced (length types) os
-    → ArePlaced (length more) (os ++ o ∷ [])
-placed_push os o types more t is index placed =
-    let longer : length more ≡ length types + 1 =
-    ap (λ (ts : List SourceType). length ts) is ∙ length-append types (t ∷ []) in
-    All-push (λ (p : Open). p.index < length more) os o
-    (All-weaker (λ (p : Open). p.index < length types) (λ (p : Open). p.index < length more)
-    (λ (p : Open) (lt : p.index < length types). omega (arith, lt, longer)) os placed)
-    (omega (arith, index, longer))
-
 -- what is kept of a tag entry comes to its type, without refusals
 abbrev pub tag_row : Sections → ℕ → List ℕ → Target → List Given → Row
 tag_row c at name own kids = record {
