@@ -1,6 +1,6 @@
 -- What one step makes of what was read so far.
-use Rattle.std.proofs.Common.{◌≡◌, ℕ, ◌<◌, ◌≤◌, ◌+◌, ◌==◌, List, [], ◌∷◌, ◌++◌, length, Option, None}
-use Rattle.std.proofs.Common.{Some, if◌then◌else◌, refl, sym, ap, ◌∙◌, subst, arith}
+use Rattle.std.proofs.Common.{◌≡◌, ℕ, ◌<◌, ◌≤◌, ◌+◌, ◌==◌, List, [], ◌∷◌, ◌++◌, length, Option}
+use Rattle.std.proofs.Common.{None, Some, if◌then◌else◌, refl, sym, ap, ◌∙◌, subst, arith}
 use Rattle.std.specs.Prelude.{slice_set}
 use Rattle.std.proofs.lemmas.List.{length-append, length-set}
 use Rattle.std.proofs.lemmas.List.Elements.{All-weaker, All-pop, All-push}
@@ -78,7 +78,7 @@ stack_push os ps o types more t h above index is opens =
 
 abbrev pub opened : ℕ → ℕ → Option TypeFault → OpenType → Open
 opened depth index before kept =
-    record { depth = depth; index = index; before = before; kept = kept }
+    record { depth = depth; index = index; before = before; open_type = kept }
 
 pub begun : (depth index : ℕ) (kept : OpenType) (old : Read) (types : List SourceType)
     (opens : List Open) (t : SourceType) → IsStack (length old.types) old.opens
@@ -142,8 +142,8 @@ settles_both depth a b c h k = record {
 
 pub completed : (depth : ℕ) (types : List SourceType) (opens left : List Open) (last : Open)
     (current next refused : Option TypeFault) (made : SourceType) → opens ≡ left ++ last ∷ []
-    → depth ≤ last.depth → ((s : Scope) → made ≡ kept_made s last.kept [])
-    → ((s : Scope) → refused ≡ kept_refused s last.kept [])
+    → depth ≤ last.depth → ((s : Scope) → made ≡ kept_made s last.open_type [])
+    → ((s : Scope) → refused ≡ kept_refused s last.open_type [])
     → next ≡ joined last.before (joined refused current)
     → Settles depth (record { types = types; opens = opens; current = current })
     (record { types = slice_set types last.index made; opens = left; current = next })
@@ -166,7 +166,7 @@ completed depth types opens left last current next refused made items deep is ro
 pub met : (s : Scope) (e : Given) (types : List SourceType) (current : Option TypeFault)
     (left : List Open) (o p : Open) (opens news : List Open) → opens ≡ left ++ o ∷ []
     → news ≡ left ++ p ∷ [] → AreNested opens → AreAbove e.depth opens → IsSameOpen o p
-    → own_of p.kept ≡ own_of o.kept
+    → own_of p.open_type ≡ own_of o.open_type
     → ((es : List Given)
     → made_at s p (children_of p.depth es) ≡ made_at s o (children_of o.depth (e ∷ es)))
     → ((es : List Given)
@@ -209,7 +209,8 @@ stack_met n left o p opens news h before after same =
 pub whole_taken : (s : Scope) (depth : ℕ) (one : SourceType) (found : Option TypeFault)
     (made : List Given → List SourceType) (refused : List Given → List TypeFault) (old new : Read)
     → AreAbove depth old.opens → Joins one found old new
-    → ((es : List Given) → one ∷ [] ≡ made es) → ((es : List Given) → found ≡ noted None (refused es))
+    → ((es : List Given) → one ∷ [] ≡ made es)
+    → ((es : List Given) → found ≡ noted None (refused es))
     → Takes s depth None made refused old new
 whole_taken s depth one found made refused old new above h makes notes =
     record {
@@ -237,7 +238,7 @@ begun_taken s e depth kept own row old new same owns comes h =
 -- the last open type is no pointer: no tag is told of an entry in it
 pub untold : (s : Scope) (opens left : List Open) (last : Open) (found : Option OpenPointer)
     (e : Given) (tag : List ℕ) → opens ≡ left ++ last ∷ [] → AreNested opens
-    → AreAbove e.depth opens → found ≡ pointer_in last.kept
+    → AreAbove e.depth opens → found ≡ pointer_in last.open_type
     → ((p : OpenPointer) → found ≡ Some p → ⊥)
     → tag_in s.sections (pointed_at opens e.depth) e ≡ Some tag → ⊥
 untold s opens left last found e tag items nested above is other told =
@@ -246,7 +247,7 @@ untold s opens left last found e tag items nested above is other told =
     let none : pointed_at opens e.depth ≡ None =
     ap (λ (os : List Open). pointed_at os e.depth) items
     ∙ stands_out left last e.depth (subst AreNested items nested) low
-    (unkept last.kept found is other) in
+    (unkept last.open_type found is other) in
     tag_untold s.sections e tag (pointed_at opens e.depth) none told
 
 abbrev pub tag_open : ℕ → List ℕ → Target → OpenType
@@ -257,15 +258,16 @@ tag_open at tag own = Pointer (record { at = at; kind = 18; name = tag; own = ow
 pub tag_taken : (s : Scope) (e : Given) (tag : List ℕ) (old new : Read) (left : List Open)
     (last : Open) (q : OpenPointer) (at : ℕ) (made : SourceType) (next : Option TypeFault)
     → old.opens ≡ left ++ last ∷ [] → AreNested old.opens → AreAbove e.depth old.opens
-    → pointer_in last.kept ≡ Some q → at ≡ e.at → made ≡ pointer_by q (Entry q.at at)
+    → pointer_in last.open_type ≡ Some q → at ≡ e.at → made ≡ pointer_by q (Entry q.at at)
     → next ≡ joined last.before old.current
     → Begins last.depth (tag_open at tag q.own)
     (record { types = slice_set old.types last.index made; opens = left; current = next }) new
     → tag_in s.sections (pointed_at old.opens e.depth) e ≡ Some tag → TakesTag s e old new
-tag_taken s e tag old new left last q at made next items nested above kept place linked noted h told =
+tag_taken s e tag old new left last q at made next items nested above kept place linked noted h
+    told =
     let low : last.depth < e.depth =
     (All-pop (λ (o : Open). o.depth < e.depth) old.opens left (Some last) items above).1 in
-    let pointer = is_pointer last.kept q kept in
+    let pointer = is_pointer last.open_type q kept in
     let nest = subst AreNested items nested in
     let told_last : tag_in s.sections (pointed_at (left ++ last ∷ []) e.depth) e ≡ Some tag =
     ap (λ (os : List Open). tag_in s.sections (pointed_at os e.depth) e) (sym items) ∙ told in
