@@ -1,7 +1,7 @@
-pub mod Counting
 pub mod Faults
 pub mod Faulty
 pub mod Grow
+pub mod Laying
 pub mod Mapping
 pub mod Placing
 pub mod Refusing

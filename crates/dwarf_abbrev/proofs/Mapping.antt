@@ -1,5 +1,5 @@
 -- Runs of values and places of attributes, one attribute more at a time.
-use Rattle.std.proofs.Common.{◌≡◌, ℕ, zero, suc, ◌+◌, ◌<◌, ◌≤◌, ◌==◌, ◌||◌, Bool, true, false, List}
+use Rattle.std.proofs.Common.{◌≡◌, ℕ, zero, suc, ◌+◌, ◌-◌, ◌<◌, ◌≤◌, ◌==◌, ◌||◌, Bool, true, false, List}
 use Rattle.std.proofs.Common.{[], ◌∷◌, ◌++◌, length, take, drop, get_or, slice_get, slice_set}
 use Rattle.std.proofs.Common.{Option, None, Some, if◌then◌else◌, ◌⊎◌, inl, inr}
 use Rattle.std.proofs.Common.{refl, sym, ap, ◌∙◌, subst, arith}
@@ -13,11 +13,9 @@ use Rattle.std.proofs.lemmas.List.{get_or_default}
 use Rattle.dwarf_abbrev.specs.Sizes.{bytes_of, plus, sizes_of, total, IsSize}
 use Rattle.dwarf_abbrev.specs.ValueMaps.{has_spec, IsFirst, slot_in, slots, slot_of, SaysFirst}
 use Rattle.dwarf_abbrev.specs.ValueMaps.{IsPlaceOf, ArePlaces, IsRun, AreRuns}
-use Rattle.dwarf_abbrev.specs.declared.size.Size.{Size}
 use Rattle.dwarf_abbrev.specs.declared.spec.Spec.{Spec}
-use Rattle.dwarf_abbrev.specs.declared.value_map.FixedRun.{FixedRun}
-use Rattle.dwarf_abbrev.specs.declared.value_map.Place.{Place}
-use Rattle.dwarf_abbrev.specs.declared.value_map.Place.TheVariants.{Missing, At}
+use Rattle.dwarf_abbrev.specs.declared.runs.FixedRun.{FixedRun}
+use Rattle.dwarf_abbrev.specs.declared.slots.TheConstants.{MISSING, FAR}
 use Rattle.dwarf_abbrev.proofs.Sizing.{sizes_push}
 
 one_without : (b : Bool) → b ≡ false → (b || false) ≡ false
@@ -60,8 +58,8 @@ one_name a b k p q =
     let e : Some a ≡ Some b = sym (slot_there slots a k p) ∙ slot_there slots b k q in cc
 
 -- what a slot says stays, where the next attribute has another name or the slot has its place
-pub says_still : (specs : List Spec) (i name : ℕ) (p : Place) (d : Spec) → i < length specs
-    → SaysFirst name specs i p → (p ≡ Missing → (get_or specs i d).attribute ≡ name → ⊥)
+pub says_still : (specs : List Spec) (i name : ℕ) (p : ℕ) (d : Spec) → i < length specs
+    → SaysFirst name specs i p → (p ≡ MISSING → (get_or specs i d).attribute ≡ name → ⊥)
     → SaysFirst name specs (i + 1) p
 says_still specs i name p d lt says ne =
     record {
@@ -77,21 +75,21 @@ clash (Some y) x n e = cc
 same_slot : (a b : Option ℕ) (j k : ℕ) → a ≡ b → a ≡ Some j → b ≡ Some k → j ≡ k
 same_slot a b j k is p q = let e : Some j ≡ Some k = sym p ∙ is ∙ q in cc
 
-pub placed_other : (specs : List Spec) (n : ℕ) (d : Spec) (places : List Place)
+pub placed_other : (specs : List Spec) (n : ℕ) (d : Spec) (places : List ℕ)
     → n < length specs → slot_of (get_or specs n d).attribute ≡ None → ArePlaces specs n places
     → ArePlaces specs (n + 1) places
 placed_other specs n d places lt other are name k p e h =
     says_still specs n name p d lt (are name k p e h)
-    (λ (none : p ≡ Missing) (is : (get_or specs n d).attribute ≡ name).
+    (λ (none : p ≡ MISSING) (is : (get_or specs n d).attribute ≡ name).
     clash (slot_of name) k (sym (ap slot_of is) ∙ other) e)
 
-pub placed_known : (specs : List Spec) (n k : ℕ) (d : Spec) (places : List Place) (r : Place)
+pub placed_known : (specs : List Spec) (n k : ℕ) (d : Spec) (places : List ℕ) (r : ℕ)
     → n < length specs → slot_of (get_or specs n d).attribute ≡ Some k
-    → slice_get places k ≡ Some r → (r ≡ Missing → ⊥) → ArePlaces specs n places
+    → slice_get places k ≡ Some r → (r ≡ MISSING → ⊥) → ArePlaces specs n places
     → ArePlaces specs (n + 1) places
 placed_known specs n k d places r lt slot has some are name j p e h =
     says_still specs n name p d lt (are name j p e h)
-    (λ (none : p ≡ Missing) (is : (get_or specs n d).attribute ≡ name).
+    (λ (none : p ≡ MISSING) (is : (get_or specs n d).attribute ≡ name).
     let q : j ≡ k = same_slot (slot_of name) (slot_of (get_or specs n d).attribute) j k
     (sym (ap slot_of is)) e slot in
     let both : Some r ≡ Some p = sym has ∙ ap (slice_get places) (sym q) ∙ h in
@@ -122,19 +120,19 @@ first_is specs n name d lt is before =
       there = λ (e : Spec). ap (λ (s : Spec). s.attribute) (get_or_default specs n e d lt) ∙ is;
     }
 
-noted : (specs : List Spec) (n name : ℕ) (d : Spec) (p : Place) → n < length specs
+noted : (specs : List Spec) (n name : ℕ) (d : Spec) (p : ℕ) → n < length specs
     → (get_or specs n d).attribute ≡ name → has_spec name (take n specs) ≡ false → IsPlaceOf n p
     → SaysFirst name specs (n + 1) p
 noted specs n name d p lt is before place =
     record {
-      at = λ x q. subst (IsFirst name specs) (sym (place.at x q))
+      at = λ q. subst (IsFirst name specs) (sym (place.at q))
           (first_is specs n name d lt is before);
       missing = λ q. absurd (place.missing q);
     }
 
-pub placed_new : (specs : List Spec) (n k : ℕ) (d : Spec) (places : List Place) (v : Place)
+pub placed_new : (specs : List Spec) (n k : ℕ) (d : Spec) (places : List ℕ) (v : ℕ)
     → n < length specs → slot_of (get_or specs n d).attribute ≡ Some k
-    → slice_get places k ≡ Some Missing → IsPlaceOf n v → ArePlaces specs n places
+    → slice_get places k ≡ Some MISSING → IsPlaceOf n v → ArePlaces specs n places
     → ArePlaces specs (n + 1) (slice_set places k v)
 placed_new specs n k d places v lt slot here place are name j p e h = by_slot (eqb_tells j k) where
   by_slot : ((eqb j k ≡ true) × (j ≡ k)) ⊎ ((eqb j k ≡ false) × (j ≡ k → ⊥))
@@ -144,40 +142,39 @@ placed_new specs n k d places v lt slot here place are name j p e h = by_slot (e
       let got : slice_get (slice_set places k v) k ≡ Some p =
       ap (λ (i : ℕ). slice_get (slice_set places k v) i) (sym same.1) ∙ h in
       noted specs n name d p lt (one_name (get_or specs n d).attribute name k slot at)
-      ((are name k Missing at here).missing refl)
+      ((are name k MISSING at here).missing refl)
       (subst (IsPlaceOf n) (set_same places k v p got) place)
   by_slot (inr other) =
       says_still specs n name p d lt
       (are name j p e (sym (set_other places k j v other.1) ∙ h))
-      (λ (no : p ≡ Missing) (is : (get_or specs n d).attribute ≡ name).
+      (λ (no : p ≡ MISSING) (is : (get_or specs n d).attribute ≡ name).
       absurd (other.1 (same_slot (slot_of name) (slot_of (get_or specs n d).attribute) j k
       (sym (ap slot_of is)) e slot)))
 
 -- no attribute is noted yet
-pub placed_none : (specs : List Spec) (places : List Place)
-    → ((k : ℕ) (p : Place) → slice_get places k ≡ Some p → p ≡ Missing) → ArePlaces specs 0 places
+pub placed_none : (specs : List Spec) (places : List ℕ)
+    → ((k : ℕ) (p : ℕ) → slice_get places k ≡ Some p → p ≡ MISSING) → ArePlaces specs 0 places
 placed_none specs places none name k p e h =
     record {
-      at = λ x q. let no : Missing ≡ At x = sym (none k p h) ∙ q in cc;
+      at = λ (q : p < FAR). let e : p ≡ MISSING = none k p h in absurd (omega (arith, e, q));
       missing = λ q. refl;
     }
 
 -- what is at the place of a slot
-pub at_place : (places : List Place) (k : ℕ) (p : Place) → k < length places
-    → get_or places k Missing ≡ p → slice_get places k ≡ Some p
-at_place places k p short is =
-    slice_get-get_or places k Missing short ∙ ap (λ (q : Place). Some q) is
+pub at_place : (slots : List ℕ) (k p : ℕ) → k < length slots → get_or slots k 0 ≡ p
+    → slice_get slots k ≡ Some p
+at_place slots k p short is = slice_get-get_or slots k 0 short ∙ ap (λ (q : ℕ). Some q) is
 
 -- all attributes are noted
-pub missing_all : (specs : List Spec) (name k : ℕ) (places : List Place)
-    → slot_of name ≡ Some k → slice_get places k ≡ Some Missing
+pub missing_all : (specs : List Spec) (name k : ℕ) (places : List ℕ)
+    → slot_of name ≡ Some k → slice_get places k ≡ Some MISSING
     → ArePlaces specs (length specs) places → has_spec name specs ≡ false
 missing_all specs name k places slot has are =
     ap (has_spec name) (sym (take_all (length specs) specs (omega arith)))
-    ∙ (are name k Missing slot has).missing refl
+    ∙ (are name k MISSING slot has).missing refl
 
 -- a run before the next attribute
-pub run_grows : (specs : List Spec) (i from : ℕ) (d : Spec) (here next : Size) → i < length specs
+pub run_grows : (specs : List Spec) (i from : ℕ) (d : Spec) (here next : FixedRun) → i < length specs
     → from ≤ i → IsSize (drop from (take i specs)) here
     → ((o a : ℕ) → plus (Some (total o a here)) (bytes_of o a (get_or specs i d).form)
     ≡ Some (total o a next))
@@ -190,15 +187,24 @@ run_grows specs i from d here next lt le h n o a =
     ∙ ap (λ (p : Option ℕ). plus p (bytes_of o a (get_or specs i d).form)) (h o a) ∙ n o a
 
 -- a run of no values
-pub run_begins : (specs : List Spec) (n : ℕ) (none : Size) → ((o a : ℕ) → total o a none ≡ 0)
+run_begins : (specs : List Spec) (n : ℕ) (none : FixedRun) → ((o a : ℕ) → total o a none ≡ 0)
     → IsSize (drop n (take n specs)) none
 run_begins specs n none empty o a =
     let le : length (take n specs) ≤ n = omega (arith, length-take n specs) in
     ap (sizes_of o a) (drop_all n (take n specs) le)
     ∙ ap (λ (k : ℕ). Some k) (sym (empty o a))
 
+pub empty_run : (specs : List Spec) (n : ℕ)
+    → IsRun specs n (record { values = 0; bytes = 0; offsets = 0; addresses = 0 })
+empty_run specs n =
+    let e : n - 0 ≡ n = omega arith in (
+      omega arith,
+      λ o a. rw e (run_begins specs n
+          (record { values = 0; bytes = 0; offsets = 0; addresses = 0 }) (λ o a. omega arith) o a),
+    )
+
 -- an element of a list with one more at the end
-pushed : {X : Type 0} (xs : List X) (y : X) (i : ℕ) (z : X) → slice_get (xs ++ y ∷ []) i ≡ Some z
+pub pushed : {X : Type 0} (xs : List X) (y : X) (i : ℕ) (z : X) → slice_get (xs ++ y ∷ []) i ≡ Some z
     → (slice_get xs i ≡ Some z) ⊎ ((i ≡ length xs) × (y ≡ z))
 pushed [] y zero z e = inr (refl, cc)
 pushed [] y (suc i) z e = cc
@@ -218,3 +224,6 @@ added specs runs run z i all here (inr h) = rw (h.0, sym h.1) here
 pub are_more : (specs : List Spec) (runs : List FixedRun) (run : FixedRun) → AreRuns specs runs
     → IsRun specs (length runs) run → AreRuns specs (runs ++ run ∷ [])
 are_more specs runs run all here i z e = added specs runs run z i all here (pushed runs run i z e)
+
+pub are_none : (specs : List Spec) → AreRuns specs []
+are_none specs i r e = cc

@@ -9,8 +9,9 @@ use Rattle.std.proofs.lemmas.Bool.{cases_eq, cases_lt, eq-eqb, ne_eqb, both_ways
 use Rattle.std.proofs.lemmas.List.{get_or-map, map_push, get_or_append_left, get_or_push}
 use Rattle.std.proofs.lemmas.List.{length-map, length_push}
 use Rattle.dwarf_abbrev.specs.Declarations.{Declaration, place_of, declaration_with}
-use Rattle.dwarf_abbrev.specs.Rows.{IsPlaced, code_at, declarations_of, declaration_of}
-use Rattle.dwarf_abbrev.specs.declared.row.OwnedAbbrev.{OwnedAbbrev}
+use Rattle.dwarf_abbrev.specs.Rows.{IsPlaced, code_at, row_code, declarations_of, declaration_of}
+use Rattle.dwarf_abbrev.specs.declared.row.Row.{Row}
+use Rattle.dwarf_abbrev.specs.declared.spec.Spec.{Spec}
 
 pub place_found : (declarations : List Declaration) (i q : ℕ) → i < length declarations
     → code_at declarations i ≡ q → ((j : ℕ) → j < i → code_at declarations j ≡ q → ⊥)
@@ -193,20 +194,35 @@ places_push declarations r old new p none others here =
     distinct i j a b e (inr k) (inr l) = last i a k ∙ sym (last j b l)
 
 -- of the rows
-pub code_of_row : (rows : List OwnedAbbrev) (i : ℕ) (x : OwnedAbbrev) → i < length rows
-    → x ≡ get_or rows i x
-    → code_at (declarations_of rows) i ≡ x.code
-code_of_row rows i x lt is =
-    let l : i < length (declarations_of rows) = rw (length-map rows declaration_of) lt in
-    get_or-map (λ (r : Declaration). r.code) (declarations_of rows) i (declaration_of x) 0 l
-    ∙ ap (λ (r : Declaration). r.code)
-    (get_or-map declaration_of rows i x (declaration_of x) lt ∙ ap declaration_of (sym is))
+codes_are : (specs : List Spec) (rows : List Row)
+    → map (λ (d : Declaration). d.code) (declarations_of specs rows)
+    ≡ map (λ (r : Row). r.code) rows
+codes_are specs [] = refl
+codes_are specs (r ∷ rs) = ap (λ (ns : List ℕ). r.code ∷ ns) (codes_are specs rs)
 
-pub declaration_of_row : (rows : List OwnedAbbrev) (i : ℕ) (x : OwnedAbbrev) → i < length rows
-    → x ≡ get_or rows i x
-    → get_or (declarations_of rows) i (declaration_of x) ≡ declaration_of x
-declaration_of_row rows i x lt is =
-    get_or-map declaration_of rows i x (declaration_of x) lt ∙ ap declaration_of (sym is)
+pub row_code_is : (specs : List Spec) (rows : List Row) (i : ℕ)
+    → code_at (declarations_of specs rows) i ≡ row_code rows i
+row_code_is specs rows i = ap (λ (ns : List ℕ). get_or ns i 0) (codes_are specs rows)
 
-pub declarations_length : (rows : List OwnedAbbrev) → length (declarations_of rows) ≡ length rows
-declarations_length rows = length-map rows declaration_of
+pub code_of_row : (rows : List Row) (i : ℕ) (x : Row) → i < length rows → x ≡ get_or rows i x
+    → row_code rows i ≡ x.code
+code_of_row rows i x lt is = get_or-map (λ (r : Row). r.code) rows i x 0 lt
+    ∙ ap (λ (r : Row). r.code) (sym is)
+
+pub declaration_of_row : (specs : List Spec) (rows : List Row) (i : ℕ) (x : Row)
+    → i < length rows → x ≡ get_or rows i x
+    → get_or (declarations_of specs rows) i (declaration_of specs x) ≡ declaration_of specs x
+declaration_of_row specs rows i x lt is =
+    get_or-map (declaration_of specs) rows i x (declaration_of specs x) lt
+    ∙ ap (declaration_of specs) (sym is)
+
+pub declarations_length : (specs : List Spec) (rows : List Row)
+    → length (declarations_of specs rows) ≡ length rows
+declarations_length specs rows = length-map rows (declaration_of specs)
+
+pub in_rows : (specs : List Spec) (rows : List Row) (q i : ℕ)
+    → Some i ≡ place_of q (declarations_of specs rows) → i < length rows
+in_rows specs rows q i is =
+    let d : Declaration = record { code = 0; tag = 0; children = false; specs = [] } in
+    let p = declaration_there (declarations_of specs rows) q i d (sym is) in
+    omega (arith, p.0, declarations_length specs rows)

@@ -3,7 +3,7 @@ use Rattle.std.proofs.Common.{◌≡◌, ℕ, ◌+◌, List, [], ◌∷◌, ◌+
 use Rattle.std.proofs.Common.{◌∙◌, arith}
 use Rattle.std.specs.Prelude.{IfSome}
 use Rattle.dwarf_abbrev.specs.Sizes.{bytes_of, plus, sizes_of, total}
-use Rattle.dwarf_abbrev.specs.declared.size.Size.{Size}
+use Rattle.dwarf_abbrev.specs.declared.runs.FixedRun.{FixedRun}
 use Rattle.dwarf_abbrev.specs.declared.spec.Spec.{Spec}
 
 plus_zero : (p : Option ℕ) → plus p (Some 0) ≡ plus (Some 0) p
@@ -26,9 +26,9 @@ sizes_push o a (t ∷ ss) s =
     ∙ plus_assoc (bytes_of o a t.form) (sizes_of o a ss) (bytes_of o a s.form)
 
 -- the size of one form more
-pub with_one : (size : Size) (form : ℕ) (w : ℕ → ℕ → ℕ) (r : Option Size)
+pub with_one : (run : FixedRun) (form : ℕ) (w : ℕ → ℕ → ℕ) (r : Option FixedRun)
     → ((o a : ℕ) → bytes_of o a form ≡ Some (w o a))
-    → ((o a : ℕ) → IfSome r (λ z. total o a z ≡ total o a size + w o a)) → (o a : ℕ)
-    → IfSome r (λ z. plus (Some (total o a size)) (bytes_of o a form) ≡ Some (total o a z))
-with_one size form w None b h o a = h o a
-with_one size form w (Some z) b h o a = rw (b o a) (ap (λ (k : ℕ). Some k) (sym (h o a)))
+    → ((o a : ℕ) → IfSome r (λ z. total o a z ≡ total o a run + w o a)) → (o a : ℕ)
+    → IfSome r (λ z. plus (Some (total o a run)) (bytes_of o a form) ≡ Some (total o a z))
+with_one run form w None b h o a = h o a
+with_one run form w (Some z) b h o a = rw (b o a) (ap (λ (k : ℕ). Some k) (sym (h o a)))

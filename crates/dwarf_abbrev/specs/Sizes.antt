@@ -28,7 +28,7 @@ use Rattle.dwarf_abbrev.specs.declared.constants.TheConstants.{DW_FORM_addrx4, D
 use Rattle.dwarf_abbrev.specs.declared.constants.TheConstants.{DW_FORM_GNU_strp_alt}
 use Rattle.dwarf_abbrev.specs.declared.size.Width.{Width}
 use Rattle.dwarf_abbrev.specs.declared.size.Width.TheVariants.{Bytes, Offset, Address}
-use Rattle.dwarf_abbrev.specs.declared.size.Size.{Size}
+use Rattle.dwarf_abbrev.specs.declared.runs.FixedRun.{FixedRun}
 use Rattle.dwarf_abbrev.specs.declared.spec.Spec.{Spec}
 
 -- one row a form; None where the bytes of the value tell how many there are
@@ -107,10 +107,10 @@ abbrev pub sizes_of : ℕ → ℕ → List Spec → Option ℕ
 sizes_of o a [] = Some 0
 sizes_of o a (s ∷ ss) = plus (bytes_of o a s.form) (sizes_of o a ss)
 
--- so many bytes, offsets and addresses
-abbrev pub total : ℕ → ℕ → Size → ℕ
-total o a z = z.bytes + z.offsets * o + z.addresses * a
+-- the bytes of so many bytes, offsets and addresses
+abbrev pub total : ℕ → ℕ → FixedRun → ℕ
+total o a r = r.bytes + r.offsets * o + r.addresses * a
 
 -- the values of some pairs have just this size, whatever the widths of offsets and addresses are
-abbrev pub IsSize : List Spec → Size → Type 0
-IsSize specs z = (o a : ℕ) → sizes_of o a specs ≡ Some (total o a z)
+abbrev pub IsSize : List Spec → FixedRun → Type 0
+IsSize specs r = (o a : ℕ) → sizes_of o a specs ≡ Some (total o a r)

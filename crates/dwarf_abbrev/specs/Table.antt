@@ -1,5 +1,5 @@
 -- A table of abbreviations: what its bytes are, and the first piece that cannot be read.
-use Rattle.std.specs.Prelude.{ℕ, ◌≡◌, ◌+◌, ℤ, pos, Bool, List, [], length, slice_get, nat_lt}
+use Rattle.std.specs.Prelude.{ℕ, ◌≡◌, ◌+◌, ℤ, pos, Bool, List, [], ◌++◌, length, slice_get, nat_lt}
 use Rattle.std.specs.Prelude.{is_some, Option, None, Some, Result, Ok, Err, ◌==◌, ◌&&◌}
 use Rattle.std.specs.Prelude.{if◌then◌else◌, ⊤}
 use Rattle.dw_base.specs.Leb128.{uleb_of, sleb_of}
@@ -27,6 +27,13 @@ Fails e read = read ≡ Err e
 abbrev pub Gives : {X Y : Type 0} → (X → Y) → Result X AbbrevFault → Result Y AbbrevFault → Type 0
 Gives view (Ok x) read = read ≡ Ok (view x)
 Gives view (Err e) read = Fails e read
+
+-- what was put behind a list is what reading gives
+abbrev pub GivesMore : {X : Type 0} → List X → List X → Result ℕ AbbrevFault
+    → Result (List X × ℕ) AbbrevFault → Type 0
+GivesMore {X} old new (Ok after) read =
+    (more : List X) × (new ≡ old ++ more) × (read ≡ Ok (more, after))
+GivesMore old new (Err e) read = Fails e read
 
 -- a number that is cut off is a fault of the abbreviation that begins at `start`, a wide one of its
 -- own place

@@ -1,5 +1,5 @@
 -- Where the values of an entry stand, as far as its abbreviation tells.
-use Rattle.std.specs.Prelude.{ℕ, suc, ◌≡◌, ◌≤◌, ◌<◌, ◌+◌, ◌==◌, ◌||◌, Bool, false, List, [], ◌∷◌}
+use Rattle.std.specs.Prelude.{ℕ, suc, ◌≡◌, ◌≤◌, ◌<◌, ◌+◌, ◌-◌, ◌==◌, ◌||◌, Bool, false, List, [], ◌∷◌}
 use Rattle.std.specs.Prelude.{length, take, drop, get_or, slice_get, Option, None, Some}
 use Rattle.std.specs.Prelude.{if◌then◌else◌}
 use Rattle.std.specs.Option.{option_map}
@@ -13,10 +13,8 @@ use Rattle.dwarf_abbrev.specs.declared.constants.TheConstants.{DW_AT_count, DW_A
 use Rattle.dwarf_abbrev.specs.declared.constants.TheConstants.{DW_AT_external, DW_AT_language}
 use Rattle.dwarf_abbrev.specs.declared.constants.TheConstants.{DW_AT_str_offsets_base}
 use Rattle.dwarf_abbrev.specs.declared.spec.Spec.{Spec}
-use Rattle.dwarf_abbrev.specs.declared.value_map.FixedRun.{FixedRun}
-use Rattle.dwarf_abbrev.specs.declared.value_map.Place.{Place}
-use Rattle.dwarf_abbrev.specs.declared.value_map.Place.TheVariants.{Missing, At}
-use Rattle.dwarf_abbrev.specs.declared.value_map.ValueMap.{ValueMap}
+use Rattle.dwarf_abbrev.specs.declared.runs.FixedRun.{FixedRun}
+use Rattle.dwarf_abbrev.specs.declared.slots.TheConstants.{MISSING, FAR}
 use Rattle.dwarf_abbrev.specs.Sizes.{IsSize}
 
 -- an abbreviation has an attribute
@@ -46,30 +44,32 @@ unfoldable pub slot_of : ℕ → Option ℕ
 slot_of name = slot_in name slots
 
 -- a slot that says nothing but where an attribute stands
-pub record IsPlaceOf (i : ℕ) (p : Place) : Type 0 where
-  pub at : (j : ℕ) → p ≡ At j → j ≡ i
-  pub missing : p ≡ Missing → ⊥
+pub record IsPlaceOf (i p : ℕ) : Type 0 where
+  pub at : p < FAR → p ≡ i
+  pub missing : p ≡ MISSING → ⊥
 
 -- what a slot says of a name, once so many attributes are noted
-pub record SaysFirst (name : ℕ) (specs : List Spec) (n : ℕ) (p : Place) : Type 0 where
-  pub at : (i : ℕ) → p ≡ At i → IsFirst name specs i
-  pub missing : p ≡ Missing → has_spec name (take n specs) ≡ false
+pub record SaysFirst (name : ℕ) (specs : List Spec) (n p : ℕ) : Type 0 where
+  pub at : p < FAR → IsFirst name specs p
+  pub missing : p ≡ MISSING → has_spec name (take n specs) ≡ false
 
 -- each slot says where the first attribute of its name stands
-abbrev pub ArePlaces : List Spec → ℕ → List Place → Type 0
-ArePlaces specs n places =
-    (name k : ℕ) (p : Place) → slot_of name ≡ Some k → slice_get places k ≡ Some p
-    → SaysFirst name specs n p
+abbrev pub ArePlaces : List Spec → ℕ → List ℕ → Type 0
+ArePlaces specs n slots =
+    (name k p : ℕ) → slot_of name ≡ Some k → slice_get slots k ≡ Some p → SaysFirst name specs n p
 
--- the values between an earlier attribute and this one have fixed widths, and so many bytes
+-- so many values before this one have fixed widths, and just this size
 abbrev pub IsRun : List Spec → ℕ → FixedRun → Type 0
-IsRun specs i r = (r.from ≤ i) × IsSize (drop r.from (take i specs)) r.size
+IsRun specs i r = (r.values ≤ i) × IsSize (drop (i - r.values) (take i specs)) r
 
 abbrev pub AreRuns : List Spec → List FixedRun → Type 0
 AreRuns specs runs = (i : ℕ) (r : FixedRun) → slice_get runs i ≡ Some r → IsRun specs i r
 
-pub record IsMapOf (specs : List Spec) (m : ValueMap) : Type 0 where
-  pub runs : AreRuns specs m.runs.items
-  pub all : length m.runs.items ≡ length specs + 1
-  pub places : ArePlaces specs (length specs) m.places
-  pub count : length m.places ≡ 16
+-- one run before each attribute, and one before the end
+abbrev pub AreRunsOf : List Spec → List FixedRun → Type 0
+AreRunsOf specs runs = AreRuns specs runs × (length runs ≡ length specs + 1)
+
+pub record IsMapOf (specs : List Spec) (runs : List FixedRun) (slots : List ℕ) : Type 0 where
+  pub all : AreRunsOf specs runs
+  pub places : ArePlaces specs (length specs) slots
+  pub count : length slots ≡ 15

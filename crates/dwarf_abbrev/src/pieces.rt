@@ -1,12 +1,12 @@
 //! The pieces of an abbreviation, one after the other.
 ghost use Rattle.std.specs.Prelude.{◌≡◌};
-ghost use Rattle.dwarf_abbrev.specs.Table.{Gives, number_at, signed_at, spec_at, specs_of, flag_at};
+ghost use Rattle.dwarf_abbrev.specs.Table.{GivesMore, number_at, signed_at, spec_at, specs_of};
+ghost use Rattle.dwarf_abbrev.specs.Table.{flag_at};
 
 use crate::constants::DW_FORM_implicit_const;
 use crate::fault::AbbrevFault;
 use crate::spec::Spec;
 use dw_base::{LebFault, sleb, uleb};
-use std::alloc::Global;
 
 /// An unsigned number of the abbreviation that begins at `start`, and the offset after it.
 #[inline(always)]
@@ -79,22 +79,21 @@ fn read_spec(bytes: &[u8], start: u64, at: u64) -> Result<(Option<Spec>, u64), A
     ))
 }
 
-/// The pairs up to their end, and the offset after it.
+/// Puts the pairs up to their end behind those of other abbreviations. The offset after the end.
 pub(crate) fn read_specs(
-    alloc: Global,
     bytes: &[u8],
     start: u64,
     at: u64,
-) -> Result<(Vec<Spec>, u64), AbbrevFault>
-    ensures { Gives (λ x. (x.0.items, x.1)) result (specs_of bytes.now start at) }
+    specs: &mut Vec<Spec>,
+) -> Result<u64, AbbrevFault>
+    ensures { GivesMore specs.old.items specs.new.items result (specs_of bytes.now start at) }
 {
-    let mut specs = Vec::new(alloc);
     let mut at = at;
     for _ in 0..bytes.len() {
         let (found, after) = read_spec(bytes, start, at)?;
         at = after;
         match found {
-            None => return Ok((specs, at)),
+            None => return Ok(at),
             Some(spec) => specs.push(spec)?,
         }
     }

@@ -1,6 +1,6 @@
-//! How many bytes the values of an abbreviation have, where that is known without the values.
-ghost use Rattle.std.specs.Prelude.{◌≡◌, ◌+◌, ℕ, Some, IfSome};
-ghost use Rattle.dwarf_abbrev.specs.Sizes.{width_of, bytes_of, width_in, plus, total};
+//! How many bytes the value of a form has, where that is known without the value.
+ghost use Rattle.std.specs.Prelude.{◌≡◌, ℕ, Some, IfSome};
+ghost use Rattle.dwarf_abbrev.specs.Sizes.{width_of, bytes_of, width_in};
 
 use crate::constants::{
     DW_FORM_GNU_ref_alt, DW_FORM_GNU_strp_alt, DW_FORM_addr, DW_FORM_addrx1, DW_FORM_addrx2,
@@ -8,41 +8,23 @@ use crate::constants::{
     DW_FORM_data16, DW_FORM_flag, DW_FORM_flag_present, DW_FORM_implicit_const, DW_FORM_line_strp,
     DW_FORM_ref_addr, DW_FORM_ref_sig8, DW_FORM_ref_sup4, DW_FORM_ref_sup8, DW_FORM_ref1,
     DW_FORM_ref2, DW_FORM_ref4, DW_FORM_ref8, DW_FORM_sec_offset, DW_FORM_strp, DW_FORM_strp_sup,
-    DW_FORM_strx1, DW_FORM_strx2, DW_FORM_strx3, DW_FORM_strx4,
+    DW_FORM_strx1, DW_FORM_strx2, DW_FORM_strx3, DW_FORM_strx4, DwForm,
 };
 
 /// How many bytes the value of a form has.
 #[derive(Clone, Copy, PartialEq, Eq)]
 pub enum Width {
     /// So many bytes.
-    Bytes(u32),
+    Bytes(u16),
     /// The bytes of an offset of the unit.
     Offset,
     /// The bytes of an address of the unit.
     Address,
 }
 
-/// No bytes.
-pub(crate) const NO_BYTES: Size = Size {
-    bytes: 0,
-    offsets: 0,
-    addresses: 0,
-};
-
-/// So many bytes, offsets and addresses.
-#[derive(Clone, Copy, PartialEq, Eq)]
-pub struct Size {
-    /// How many bytes, besides those of offsets and addresses.
-    pub bytes: u32,
-    /// How many offsets.
-    pub offsets: u32,
-    /// How many addresses.
-    pub addresses: u32,
-}
-
 /// The width of a form (DWARF 5, section 7.5.6, table 7.6). `None` where it is not fixed, and where
 /// the table has no row for the form.
-pub fn form_width(form: u64) -> Option<Width>
+pub fn form_width(form: DwForm) -> Option<Width>
     ensures row { result ≡ width_of form }
     ensures bytes { (o a : ℕ) → IfSome result (λ w. bytes_of o a form ≡ Some (width_in o a w)) }
 {
@@ -80,46 +62,4 @@ pub fn form_width(form: u64) -> Option<Width>
         DW_FORM_GNU_strp_alt => Some(Width::Offset),
         _ => None,
     }
-}
-
-/// One form more. `None` where a sum passes 32 bits.
-fn with_width(size: Size, width: Width) -> Option<Size>
-    ensures { (o a : ℕ) → IfSome result (λ z. total o a z ≡ total o a size + width_in o a width) }
-{
-    match width {
-        Width::Bytes(n) => {
-            let bytes = size.bytes.checked_add(n)?;
-            Some(Size {
-                bytes,
-                offsets: size.offsets,
-                addresses: size.addresses,
-            })
-        }
-        Width::Offset => {
-            let offsets = size.offsets.checked_add(1)?;
-            Some(Size {
-                bytes: size.bytes,
-                offsets,
-                addresses: size.addresses,
-            })
-        }
-        Width::Address => {
-            let addresses = size.addresses.checked_add(1)?;
-            Some(Size {
-                bytes: size.bytes,
-                offsets: size.offsets,
-                addresses,
-            })
-        }
-    }
-}
-
-/// So many bytes and those of one form more. `None` where the form has no fixed width, and where a
-/// sum passes 32 bits.
-pub(crate) fn with_form(size: Size, form: u64) -> Option<Size>
-    ensures { (o a : ℕ) → IfSome result
-        (λ z. plus (Some (total o a size)) (bytes_of o a form) ≡ Some (total o a z)) }
-{
-    let width = form_width(form)?;
-    with_width(size, width)
 }

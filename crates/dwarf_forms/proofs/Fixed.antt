@@ -1,8 +1,8 @@
 -- A value of a form of fixed width ends so many bytes on, or is cut off.
-use Rattle.std.proofs.Common.{◌≡◌, ℕ, ◌+◌, ◌<◌, ◌≤◌, ◌==◌, not, map, if◌then◌else◌, Bool, true}
+use Rattle.std.proofs.Common.{◌≡◌, ℕ, ◌+◌, ◌≤◌, ◌==◌, not, map, if◌then◌else◌, Bool, true}
 use Rattle.std.proofs.Common.{false, List, [], ◌∷◌, length, take, drop, Option, None, Some, Result}
-use Rattle.std.proofs.Common.{Ok, Err, refl, sym, ap, ◌∙◌, arith}
-use Rattle.std.proofs.lemmas.Bool.{le-leb, lt-leb, eqb-true}
+use Rattle.std.proofs.Common.{Ok, refl, sym, ap, ◌∙◌, arith}
+use Rattle.std.proofs.lemmas.Bool.{le-leb, eqb-true}
 use Rattle.std.specs.Map.{lookup}
 use Rattle.std.specs.Option.{option_map}
 use Rattle.std.proofs.lemmas.Option.{same_Some}
@@ -13,7 +13,6 @@ use Rattle.dwarf_abbrev.specs.declared.size.Width.{Width}
 use Rattle.dwarf_abbrev.specs.declared.spec.Spec.{Spec}
 use Rattle.dwarf_abbrev.specs.Sizes.{widths, of_row, width_in, bytes_of}
 use Rattle.dwarf_forms.specs.declared.fault.FormFault.{FormFault}
-use Rattle.dwarf_forms.specs.declared.fault.FormFault.TheVariants.{ValueTruncated}
 use Rattle.dwarf_forms.specs.declared.layout.FormLayout.{FormLayout}
 use Rattle.dwarf_forms.specs.declared.layout.FormLayout.TheVariants.{Fixed, Leb, Signed, Implicit}
 use Rattle.dwarf_forms.specs.declared.layout.FormLayout.TheVariants.{Flag}
@@ -21,9 +20,11 @@ use Rattle.dwarf_forms.specs.declared.layout.FormLayout.TheVariants.{Present, Te
 use Rattle.dwarf_forms.specs.declared.layout.FormLayout.TheVariants.{Counted}
 use Rattle.dwarf_forms.specs.declared.layout.FormLayout.TheVariants.{LebCounted, Elsewhere}
 use Rattle.dwarf_forms.specs.Forms.{rows, layout_of}
-use Rattle.dwarf_forms.specs.Values.{Plain, number, signed, sixteen, flag, elsewhere, Shown, Within}
-use Rattle.dwarf_forms.specs.Values.{fixed_at, held_at, read_at, form_at, value_of}
+use Rattle.dwarf_forms.specs.Values.{◌>>=◌, Plain, number, signed, sixteen, flag, elsewhere}
+use Rattle.dwarf_forms.specs.Values.{Shown, Within}
+use Rattle.dwarf_forms.specs.Values.{fixed_at, bytes_at, read_at, form_at, value_of}
 use Rattle.dwarf_forms.specs.Sizes.{size_of_layout, size_in, WidthsAreOfLayouts}
+use Rattle.dwarf_forms.proofs.Spelled.{made_from}
 
 -- the two tables have the same rows: both give what stands in a table of numbers of bytes
 abbrev of_bytes : Option (Option ℕ) → Option ℕ
@@ -77,14 +78,23 @@ unfolding fixed_at number_of
 fixed_ends unit at w order attribute le =
     (ordered order (take w (drop at unit)), rw (le-leb (at + w) (length unit) le) refl)
 
-pub held_ends : (unit : List ℕ) (at w attribute : ℕ) → at + w ≤ length unit
-    → held_at unit at w attribute ≡ Ok (take w (drop at unit), at + w)
-unfolding held_at
-held_ends unit at w attribute le = rw (le-leb (at + w) (length unit) le) refl
+pub bytes_ends : (unit : List ℕ) (at w attribute : ℕ) → at + w ≤ length unit
+    → bytes_at unit at w attribute ≡ Ok (take w (drop at unit), at + w)
+unfolding bytes_at
+bytes_ends unit at w attribute le = rw (le-leb (at + w) (length unit) le) refl
 
 ends_as : (v : Plain) (a b : ℕ) → a ≡ b
     → ◌≡◌ {A = Result (Plain × ℕ) FormFault} (Ok (v, a)) (Ok (v, b))
 ends_as v a b e = ap (λ (n : ℕ). Ok (v, n)) e
+
+empty_ends : (unit : List ℕ) (at w attribute : ℕ) (v : Plain) → 0 ≡ w → at + w ≤ length unit
+    → (u : Plain) × ((bytes_at unit at 0 attribute >>= made_from (λ (b : List ℕ). v))
+    ≡ Ok (u, at + w))
+empty_ends unit at w attribute v e le = (
+  v,
+  rw (bytes_ends unit at 0 attribute (omega (arith, e, le)))
+      (ends_as v (at + 0) (at + w) (ap (λ (n : ℕ). at + n) e)),
+)
 
 read_ends : (l : FormLayout) (form : ℕ) (unit : List ℕ) (at w : ℕ) (order : Order) (s : Spec)
     → size_of_layout l ≡ Some w → at + w ≤ length unit
@@ -99,7 +109,7 @@ read_ends (Fixed v kind) form unit at w order s size le =
 read_ends (Leb kind) form unit at w order s size le = cc
 read_ends Signed form unit at w order s size le = cc
 read_ends Implicit form unit at w order s size le =
-    (signed s.implicit, ends_as (signed s.implicit) at (at + w) (omega (arith, same_Some 0 w size)))
+    empty_ends unit at w s.attribute (signed s.implicit) (same_Some 0 w size) le
 read_ends Flag form unit at w order s size le =
     let e : 1 ≡ w = same_Some 1 w size in
     let f = fixed_ends unit at 1 order s.attribute (omega (arith, e, le)) in (
@@ -107,13 +117,13 @@ read_ends Flag form unit at w order s size le =
       rw f.1 (ends_as (flag (not (f.0 == 0))) (at + 1) (at + w) (ap (λ (n : ℕ). at + n) e)),
     )
 read_ends Present form unit at w order s size le =
-    (flag true, ends_as (flag true) at (at + w) (omega (arith, same_Some 0 w size)))
+    empty_ends unit at w s.attribute (flag true) (same_Some 0 w size) le
 read_ends Text form unit at w order s size le = cc
 read_ends Sixteen form unit at w order s size le =
     let e : 16 ≡ w = same_Some 16 w size in
     let b = take 16 (drop at unit) in (
       sixteen b,
-      rw (held_ends unit at 16 s.attribute (omega (arith, e, le)))
+      rw (bytes_ends unit at 16 s.attribute (omega (arith, e, le)))
           (ends_as (sixteen b) (at + 16) (at + w) (ap (λ (n : ℕ). at + n) e)),
     )
 read_ends (Counted v kind) form unit at w order s size le = cc
@@ -150,53 +160,3 @@ pub value_fixed : (c : Within) (s : Spec) (at w : ℕ) → bytes_of c.offset_byt
 value_fixed c s at w size le = by_layout c s at w (layout_of c.offset_bytes c.address_bytes s.form)
     refl (sym (widths_agree c.offset_bytes c.address_bytes s.form) ∙ size)
     (direct c.offset_bytes c.address_bytes s.form w (s.form == DW_FORM_indirect) refl size) le
-
--- a value that passes the unit's end is cut off
-pub cut_at : (unit : List ℕ) (at w : ℕ) (order : Order) (attribute : ℕ) → length unit < at + w
-    → fixed_at unit at w order attribute ≡ Err (ValueTruncated attribute)
-unfolding fixed_at number_of
-cut_at unit at w order attribute lt = rw (lt-leb (at + w) (length unit) lt) refl
-
-pub held_cut : (unit : List ℕ) (at w attribute : ℕ) → length unit < at + w
-    → held_at unit at w attribute ≡ Err (ValueTruncated attribute)
-unfolding held_at
-held_cut unit at w attribute lt = rw (lt-leb (at + w) (length unit) lt) refl
-
-read_cut : (l : FormLayout) (form : ℕ) (unit : List ℕ) (at w : ℕ) (order : Order) (s : Spec)
-    → size_of_layout l ≡ Some w → 0 < w → length unit < at + w
-    → read_at l form unit at order s ≡ Err (ValueTruncated s.attribute)
-unfolding read_at
-read_cut (Fixed v kind) form unit at w order s size some lt =
-    rw (cut_at unit at v order s.attribute (omega (arith, same_Some v w size, lt))) refl
-read_cut (Leb kind) form unit at w order s size some lt = cc
-read_cut Signed form unit at w order s size some lt = cc
-read_cut Implicit form unit at w order s size some lt =
-    absurd (omega (arith, same_Some 0 w size, some))
-read_cut Flag form unit at w order s size some lt =
-    rw (cut_at unit at 1 order s.attribute (omega (arith, same_Some 1 w size, lt))) refl
-read_cut Present form unit at w order s size some lt =
-    absurd (omega (arith, same_Some 0 w size, some))
-read_cut Text form unit at w order s size some lt = cc
-read_cut Sixteen form unit at w order s size some lt =
-    rw (held_cut unit at 16 s.attribute (omega (arith, same_Some 16 w size, lt))) refl
-read_cut (Counted v kind) form unit at w order s size some lt = cc
-read_cut (LebCounted kind) form unit at w order s size some lt = cc
-read_cut (Elsewhere v) form unit at w order s size some lt =
-    rw (cut_at unit at v order s.attribute (omega (arith, same_Some v w size, lt))) refl
-
-cut_by_layout : (c : Within) (s : Spec) (at w : ℕ) (o : Option FormLayout)
-    → layout_of c.offset_bytes
-    c.address_bytes s.form ≡ o → size_in o ≡ Some w → (s.form == DW_FORM_indirect) ≡ false → 0 < w
-    → length c.unit < at + w → value_of c s at ≡ Err (ValueTruncated s.attribute)
-unfolding value_of
-cut_by_layout c s at w None row size used some lt = cc
-cut_by_layout c s at w (Some l) row size used some lt =
-    rw (form_used c.unit at s used, row, read_cut l s.form c.unit at w c.order s size some lt) refl
-
--- so a value of a fixed size is refused exactly where it has bytes that pass the unit's end, and
--- then by its attribute
-pub value_cut : (c : Within) (s : Spec) (at w : ℕ) → bytes_of c.offset_bytes c.address_bytes s.form
-    ≡ Some w → 0 < w → length c.unit < at + w → value_of c s at ≡ Err (ValueTruncated s.attribute)
-value_cut c s at w size some lt = cut_by_layout c s at w (layout_of c.offset_bytes c.address_bytes
-    s.form) refl (sym (widths_agree c.offset_bytes c.address_bytes s.form) ∙ size)
-    (direct c.offset_bytes c.address_bytes s.form w (s.form == DW_FORM_indirect) refl size) some lt

@@ -1,4 +1,4 @@
-pub mod Bounds
+pub mod Standing
 pub mod OneNumber
 pub mod Fixed
 pub mod Pieces

@@ -18,7 +18,7 @@ use Rattle.dwarf_forms.specs.declared.layout.FormLayout.{FormLayout}
 use Rattle.dwarf_forms.specs.declared.layout.FormLayout.TheVariants as layouts
 use Rattle.dwarf_forms.specs.Forms.{layout_of}
 use Rattle.dwarf_forms.specs.Values.{◌>>=◌, Plain, Shown, Within, or_cut, of_leb, or_unknown}
-use Rattle.dwarf_forms.specs.Values.{fixed_at, uleb_at, sleb_at, held_at, text_at, read_at, form_at}
+use Rattle.dwarf_forms.specs.Values.{fixed_at, uleb_at, sleb_at, bytes_at, text_at, read_at, form_at}
 use Rattle.dwarf_forms.specs.Values.{value_of}
 use Rattle.dwarf_forms.specs.Values.Plain.{number, signed, bytes, sixteen, text, flag, elsewhere}
 
@@ -77,16 +77,16 @@ unfolding sleb_at
 sleb_grows unit at attribute = leb_grows at attribute (sleb_of unit at)
     (λ (v : ℤ) (end : ℕ) (e : sleb_of unit at ≡ Ok (v, end)). (sleb_after unit at v end e).0)
 
-held_test : (unit : List ℕ) (at count attribute : ℕ) (t : Bool) → Grows at
+bytes_test : (unit : List ℕ) (at count attribute : ℕ) (t : Bool) → Grows at
     (if t then Ok (take count (drop at unit), at + count) else Err (ValueTruncated attribute))
-held_test unit at count attribute true v end e =
+bytes_test unit at count attribute true v end e =
     ends at (take count (drop at unit)) (at + count) (omega arith) v end e
-held_test unit at count attribute false v end e = cc
+bytes_test unit at count attribute false v end e = cc
 
-held_grows : (unit : List ℕ) (at count attribute : ℕ) → Grows at (held_at unit at count attribute)
-unfolding held_at
-held_grows unit at count attribute =
-    held_test unit at count attribute (nat_le (at + count) (length unit))
+bytes_grows : (unit : List ℕ) (at count attribute : ℕ) → Grows at (bytes_at unit at count attribute)
+unfolding bytes_at
+bytes_grows unit at count attribute =
+    bytes_test unit at count attribute (nat_le (at + count) (length unit))
 
 pub read_grows : (l : FormLayout) (form : ℕ) (unit : List ℕ) (at : ℕ) (order : Order) (spec : Spec)
     → Grows at (read_at l form unit at order spec)
@@ -102,30 +102,35 @@ read_grows layouts.Signed form unit at order spec =
     grows_on at (sleb_at unit at spec.attribute) (λ (n : ℤ × ℕ). Ok (signed n.0, n.1))
     (sleb_grows unit at spec.attribute) (λ (n : ℤ × ℕ). ends n.1 (signed n.0) n.1 (omega arith))
 read_grows layouts.Implicit form unit at order spec =
-    ends at (signed spec.implicit) at (omega arith)
+    grows_on at (bytes_at unit at 0 spec.attribute)
+    (λ (b : List ℕ × ℕ). Ok (signed spec.implicit, b.1)) (bytes_grows unit at 0 spec.attribute)
+    (λ (b : List ℕ × ℕ). ends b.1 (signed spec.implicit) b.1 (omega arith))
 read_grows layouts.Flag form unit at order spec =
     grows_on at (fixed_at unit at 1 order spec.attribute)
     (λ (n : ℕ × ℕ). Ok (flag (not (n.0 == 0)), n.1)) (fixed_grows unit at 1 order spec.attribute)
     (λ (n : ℕ × ℕ). ends n.1 (flag (not (n.0 == 0))) n.1 (omega arith))
-read_grows layouts.Present form unit at order spec = ends at (flag true) at (omega arith)
+read_grows layouts.Present form unit at order spec =
+    grows_on at (bytes_at unit at 0 spec.attribute) (λ (b : List ℕ × ℕ). Ok (flag true, b.1))
+    (bytes_grows unit at 0 spec.attribute)
+    (λ (b : List ℕ × ℕ). ends b.1 (flag true) b.1 (omega arith))
 read_grows layouts.Text form unit at order spec =
     grows_on at (text_at unit at spec.attribute) (λ (t : List ℕ × ℕ). Ok (text t.0, t.1))
     (text_grows unit at spec.attribute) (λ (t : List ℕ × ℕ). ends t.1 (text t.0) t.1 (omega arith))
-read_grows layouts.Sixteen form unit at order spec = grows_on at (held_at unit at 16 spec.attribute)
-    (λ (b : List ℕ × ℕ). Ok (sixteen b.0, b.1)) (held_grows unit at 16 spec.attribute)
+read_grows layouts.Sixteen form unit at order spec = grows_on at (bytes_at unit at 16 spec.attribute)
+    (λ (b : List ℕ × ℕ). Ok (sixteen b.0, b.1)) (bytes_grows unit at 16 spec.attribute)
     (λ (b : List ℕ × ℕ). ends b.1 (sixteen b.0) b.1 (omega arith))
 read_grows (layouts.Counted w kind) form unit at order spec =
     grows_on at (fixed_at unit at w order spec.attribute)
-    (λ (n : ℕ × ℕ). held_at unit n.1 n.0 spec.attribute >>= λ (b : List ℕ × ℕ).
+    (λ (n : ℕ × ℕ). bytes_at unit n.1 n.0 spec.attribute >>= λ (b : List ℕ × ℕ).
     Ok (bytes kind b.0, b.1)) (fixed_grows unit at w order spec.attribute)
-    (λ (n : ℕ × ℕ). grows_on n.1 (held_at unit n.1 n.0 spec.attribute)
-    (λ (b : List ℕ × ℕ). Ok (bytes kind b.0, b.1)) (held_grows unit n.1 n.0 spec.attribute)
+    (λ (n : ℕ × ℕ). grows_on n.1 (bytes_at unit n.1 n.0 spec.attribute)
+    (λ (b : List ℕ × ℕ). Ok (bytes kind b.0, b.1)) (bytes_grows unit n.1 n.0 spec.attribute)
     (λ (b : List ℕ × ℕ). ends b.1 (bytes kind b.0) b.1 (omega arith)))
 read_grows (layouts.LebCounted kind) form unit at order spec =
-    grows_on at (uleb_at unit at spec.attribute) (λ (n : ℕ × ℕ). held_at unit n.1 n.0 spec.attribute
+    grows_on at (uleb_at unit at spec.attribute) (λ (n : ℕ × ℕ). bytes_at unit n.1 n.0 spec.attribute
     >>= λ (b : List ℕ × ℕ). Ok (bytes kind b.0, b.1)) (uleb_grows unit at spec.attribute)
-    (λ (n : ℕ × ℕ). grows_on n.1 (held_at unit n.1 n.0 spec.attribute)
-    (λ (b : List ℕ × ℕ). Ok (bytes kind b.0, b.1)) (held_grows unit n.1 n.0 spec.attribute)
+    (λ (n : ℕ × ℕ). grows_on n.1 (bytes_at unit n.1 n.0 spec.attribute)
+    (λ (b : List ℕ × ℕ). Ok (bytes kind b.0, b.1)) (bytes_grows unit n.1 n.0 spec.attribute)
     (λ (b : List ℕ × ℕ). ends b.1 (bytes kind b.0) b.1 (omega arith)))
 read_grows (layouts.Elsewhere w) form unit at order spec = grows_on at
     (fixed_at unit at w order spec.attribute) (λ (n : ℕ × ℕ). Ok (elsewhere form, n.1)) (fixed_grows

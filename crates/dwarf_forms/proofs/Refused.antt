@@ -24,7 +24,7 @@ use Rattle.dwarf_forms.specs.declared.layout.FormLayout.TheVariants as layouts
 use Rattle.dwarf_forms.specs.declared.layout.BlockClass.{BlockClass}
 use Rattle.dwarf_forms.specs.Forms.{layout_of, HasWidth, HasWidths}
 use Rattle.dwarf_forms.specs.Values.{◌>>=◌, Plain, Shown, Within, or_cut, of_leb, or_unknown}
-use Rattle.dwarf_forms.specs.Values.{fixed_at, uleb_at, sleb_at, held_at, text_at, read_at, form_at}
+use Rattle.dwarf_forms.specs.Values.{fixed_at, uleb_at, sleb_at, bytes_at, text_at, read_at, form_at}
 use Rattle.dwarf_forms.specs.Values.{value_of}
 use Rattle.dwarf_forms.specs.Values.Plain.{number, signed, bytes, sixteen, text, flag, elsewhere}
 use Rattle.dwarf_forms.specs.Standard.{HasNoNul}
@@ -97,26 +97,26 @@ fixed_out unit at w order attribute f n =
     rw (is_out unit at w order n.0) (ap (λ (f : FormFault). Err f) (sym n.1))
 
 -- counted bytes
-held_test : (unit : List ℕ) (at count attribute : ℕ) (f : FormFault) (t : Bool)
+bytes_test : (unit : List ℕ) (at count attribute : ℕ) (f : FormFault) (t : Bool)
     → nat_le (at + count) (length unit) ≡ t → ◌≡◌ {A = Result (List ℕ × ℕ) FormFault} (if t
     then Ok (take count (drop at unit), at + count) else Err (ValueTruncated attribute)) (Err f)
     → NoBytes unit attribute at count f
-held_test unit at count attribute f true t e = never (take count (drop at unit), at + count) f e
-held_test unit at count attribute f false t e = (
+bytes_test unit at count attribute f true t e = never (take count (drop at unit), at + count) f e
+bytes_test unit at count attribute f false t e = (
   leb-false (at + count) (length unit) t,
   sym (same_fault {A = List ℕ × ℕ} (ValueTruncated attribute) f e),
 )
 
-held_err : (unit : List ℕ) (at count attribute : ℕ) (f : FormFault)
-    → held_at unit at count attribute ≡ Err f → NoBytes unit attribute at count f
-unfolding held_at
-held_err unit at count attribute f e =
-    held_test unit at count attribute f (nat_le (at + count) (length unit)) refl e
+bytes_err : (unit : List ℕ) (at count attribute : ℕ) (f : FormFault)
+    → bytes_at unit at count attribute ≡ Err f → NoBytes unit attribute at count f
+unfolding bytes_at
+bytes_err unit at count attribute f e =
+    bytes_test unit at count attribute f (nat_le (at + count) (length unit)) refl e
 
-held_out : (unit : List ℕ) (at count attribute : ℕ) (f : FormFault)
-    → NoBytes unit attribute at count f → held_at unit at count attribute ≡ Err f
-unfolding held_at
-held_out unit at count attribute f n =
+bytes_out : (unit : List ℕ) (at count attribute : ℕ) (f : FormFault)
+    → NoBytes unit attribute at count f → bytes_at unit at count attribute ≡ Err f
+unfolding bytes_at
+bytes_out unit at count attribute f n =
     rw (lt-leb (at + count) (length unit) n.0) (ap (λ (f : FormFault). Err f) (sym n.1))
 
 -- texts
@@ -248,17 +248,17 @@ sleb_out unit at attribute f (inr n) =
 -- the value of a layout
 abbrev body : List ℕ → ℕ → BlockClass → ℕ × ℕ → Result (Plain × ℕ) FormFault
 body unit attribute kind n =
-    held_at unit n.1 n.0 attribute >>= λ (b : List ℕ × ℕ). Ok (bytes kind b.0, b.1)
+    bytes_at unit n.1 n.0 attribute >>= λ (b : List ℕ × ℕ). Ok (bytes kind b.0, b.1)
 
 body_err : (unit : List ℕ) (attribute : ℕ) (kind : BlockClass) (n : ℕ × ℕ) (f : FormFault)
     → body unit attribute kind n ≡ Err f → NoBytes unit attribute n.1 n.0 f
-body_err unit attribute kind n f e = held_err unit n.1 n.0 attribute f
-    (carried (held_at unit n.1 n.0 attribute) (λ (b : List ℕ). bytes kind b) f e)
+body_err unit attribute kind n f e = bytes_err unit n.1 n.0 attribute f
+    (carried (bytes_at unit n.1 n.0 attribute) (λ (b : List ℕ). bytes kind b) f e)
 
 body_out : (unit : List ℕ) (attribute : ℕ) (kind : BlockClass) (n : ℕ × ℕ) (f : FormFault)
     → NoBytes unit attribute n.1 n.0 f → body unit attribute kind n ≡ Err f
-body_out unit attribute kind n f h = bind_fails (held_at unit n.1 n.0 attribute)
-    (λ (b : List ℕ × ℕ). Ok (bytes kind b.0, b.1)) f (held_out unit n.1 n.0 attribute f h)
+body_out unit attribute kind n f h = bind_fails (bytes_at unit n.1 n.0 attribute)
+    (λ (b : List ℕ × ℕ). Ok (bytes kind b.0, b.1)) f (bytes_out unit n.1 n.0 attribute f h)
 
 counted_err : (unit : List ℕ) (at w : ℕ) (kind : BlockClass) (order : Order) (attribute : ℕ)
     (f : FormFault)
@@ -313,15 +313,16 @@ read_err (layouts.Leb kind) form unit at order spec f e = uleb_err unit at spec.
     (carried (uleb_at unit at spec.attribute) (λ (n : ℕ). number kind n) f e)
 read_err layouts.Signed form unit at order spec f e = sleb_err unit at spec.attribute f
     (carried (sleb_at unit at spec.attribute) (λ (n : ℤ). signed n) f e)
-read_err layouts.Implicit form unit at order spec f e =
-    never {A = Plain × ℕ} (signed spec.implicit, at) f e
+read_err layouts.Implicit form unit at order spec f e = bytes_err unit at 0 spec.attribute f
+    (carried (bytes_at unit at 0 spec.attribute) (λ (b : List ℕ). signed spec.implicit) f e)
 read_err layouts.Flag form unit at order spec f e = fixed_err unit at 1 order spec.attribute f
     (carried (fixed_at unit at 1 order spec.attribute) (λ (n : ℕ). flag (not (n == 0))) f e)
-read_err layouts.Present form unit at order spec f e = never {A = Plain × ℕ} (flag true, at) f e
+read_err layouts.Present form unit at order spec f e = bytes_err unit at 0 spec.attribute f
+    (carried (bytes_at unit at 0 spec.attribute) (λ (b : List ℕ). flag true) f e)
 read_err layouts.Text form unit at order spec f e = text_err unit at spec.attribute f
     (carried (text_at unit at spec.attribute) (λ (t : List ℕ). text t) f e)
-read_err layouts.Sixteen form unit at order spec f e = held_err unit at 16 spec.attribute f
-    (carried (held_at unit at 16 spec.attribute) (λ (b : List ℕ). sixteen b) f e)
+read_err layouts.Sixteen form unit at order spec f e = bytes_err unit at 16 spec.attribute f
+    (carried (bytes_at unit at 16 spec.attribute) (λ (b : List ℕ). sixteen b) f e)
 read_err (layouts.Counted w kind) form unit at order spec f e =
     counted_err unit at w kind order spec.attribute f
     (bind_err (fixed_at unit at w order spec.attribute) (body unit spec.attribute kind) f e)
@@ -342,16 +343,20 @@ read_out (layouts.Leb kind) form unit at order spec f wide h = bind_fails (uleb_
     spec.attribute) (made_from (λ (n : ℕ). number kind n)) f (uleb_out unit at spec.attribute f h)
 read_out layouts.Signed form unit at order spec f wide h = bind_fails (sleb_at unit at
     spec.attribute) (made_from (λ (n : ℤ). signed n)) f (sleb_out unit at spec.attribute f h)
-read_out layouts.Implicit form unit at order spec f wide h = absurd h
+read_out layouts.Implicit form unit at order spec f wide h =
+    bind_fails (bytes_at unit at 0 spec.attribute) (made_from (λ (b : List ℕ). signed spec.implicit)) f
+    (bytes_out unit at 0 spec.attribute f h)
 read_out layouts.Flag form unit at order spec f wide h =
     bind_fails (fixed_at unit at 1 order spec.attribute)
     (made_from (λ (n : ℕ). flag (not (n == 0)))) f (fixed_out unit at 1 order spec.attribute f h)
-read_out layouts.Present form unit at order spec f wide h = absurd h
+read_out layouts.Present form unit at order spec f wide h =
+    bind_fails (bytes_at unit at 0 spec.attribute) (made_from (λ (b : List ℕ). flag true)) f
+    (bytes_out unit at 0 spec.attribute f h)
 read_out layouts.Text form unit at order spec f wide h = bind_fails (text_at unit at spec.attribute)
     (made_from (λ (t : List ℕ). text t)) f (text_out unit at spec.attribute f h)
 read_out layouts.Sixteen form unit at order spec f wide h =
-    bind_fails (held_at unit at 16 spec.attribute) (made_from (λ (b : List ℕ). sixteen b)) f
-    (held_out unit at 16 spec.attribute f h)
+    bind_fails (bytes_at unit at 16 spec.attribute) (made_from (λ (b : List ℕ). sixteen b)) f
+    (bytes_out unit at 16 spec.attribute f h)
 read_out (layouts.Counted w kind) form unit at order spec f wide (inl h) =
     bind_fails (fixed_at unit at w order spec.attribute) (body unit spec.attribute kind) f
     (fixed_out unit at w order spec.attribute f h)

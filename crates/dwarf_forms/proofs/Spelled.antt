@@ -10,7 +10,6 @@ use Rattle.dw_base.specs.Leb128.{uleb_of, sleb_of, unsigned_of, signed_of, fits_
 use Rattle.dw_base.specs.Numbers.{number_of, ordered}
 use Rattle.dw_base.specs.Texts.{text_of}
 use Rattle.dw_base.specs.declared.numbers.Order.{Order}
-use Rattle.dw_base.specs.declared.numbers.Order.TheVariants as orders
 use Rattle.dw_base.specs.declared.leb128.LebFault.{LebFault}
 use Rattle.dw_base.specs.declared.leb128.LebFault.TheVariants.{Truncated, TooWide}
 use Rattle.dw_base.proofs.Ends.{ok_parts}
@@ -25,7 +24,7 @@ use Rattle.dwarf_forms.specs.declared.layout.FormLayout.TheVariants as layouts
 use Rattle.dwarf_forms.specs.declared.layout.BlockClass.{BlockClass}
 use Rattle.dwarf_forms.specs.Forms.{layout_of, HasWidth, HasWidths}
 use Rattle.dwarf_forms.specs.Values.{◌>>=◌, Plain, Shown, Within, or_cut, of_leb, or_unknown}
-use Rattle.dwarf_forms.specs.Values.{fixed_at, uleb_at, sleb_at, held_at, text_at, read_at, form_at}
+use Rattle.dwarf_forms.specs.Values.{fixed_at, uleb_at, sleb_at, bytes_at, text_at, read_at, form_at}
 use Rattle.dwarf_forms.specs.Values.{value_of}
 use Rattle.dwarf_forms.specs.Values.Plain.{number, signed, bytes, sixteen, text, flag, elsewhere}
 use Rattle.dwarf_forms.specs.Standard.{IsLeb, HasNoNul, Means, Stands, IsOfForm, Uses, IsValue}
@@ -46,7 +45,7 @@ leb_found at attribute (Ok y) x e = let q : y ≡ x = cc in ap (λ z. Ok z) q
 leb_found at attribute (Err Truncated) x e = cc
 leb_found at attribute (Err TooWide) x e = cc
 
-cut_found : {A : Type 0} (attribute : ℕ) (o : Option A) (x : A) → or_cut attribute o ≡ Ok x
+pub cut_found : {A : Type 0} (attribute : ℕ) (o : Option A) (x : A) → or_cut attribute o ≡ Ok x
     → o ≡ Some x
 cut_found attribute None x e = cc
 cut_found attribute (Some y) x e = let q : y ≡ x = cc in ap (λ z. Some z) q
@@ -73,36 +72,36 @@ fixed_gives unit at w order attribute end piece some s l =
     order piece) (ap (or_cut attribute) (number_found unit at w end order piece some l s))
     ∙ ap (λ (k : ℕ). Ok (ordered order piece, k)) k
 
-held_test : (unit : List ℕ) (at count attribute : ℕ) (bs : List ℕ) (end : ℕ) (t : Bool)
+bytes_test : (unit : List ℕ) (at count attribute : ℕ) (bs : List ℕ) (end : ℕ) (t : Bool)
     → nat_le (at + count) (length unit) ≡ t → ◌≡◌ {A = Result (List ℕ × ℕ) FormFault} (if t then Ok
     (take count (drop at unit), at + count) else Err (ValueTruncated attribute)) (Ok (bs, end))
     → Stands unit at bs end × (length bs ≡ count)
-held_test unit at count attribute bs end true t e =
+bytes_test unit at count attribute bs end true t e =
     let p = ok_parts {F = FormFault} (take count (drop at unit)) bs (at + count) end e in
     let s = piece_there unit at count (leb-true (at + count) (length unit) t) in (
       subst (λ (k : ℕ). Stands unit at bs k) p.1 (subst (λ (xs : List ℕ).
           Stands unit at xs (at + count)) p.0 s.0),
       ap (λ (xs : List ℕ). length xs) (sym p.0) ∙ s.1,
     )
-held_test unit at count attribute bs end false t e = cc
+bytes_test unit at count attribute bs end false t e = cc
 
-held_is : (unit : List ℕ) (at count attribute : ℕ) (bs : List ℕ) (end : ℕ)
-    → held_at unit at count attribute ≡ Ok (bs, end) → Stands unit at bs end × (length bs ≡ count)
-unfolding held_at
-held_is unit at count attribute bs end e =
-    held_test unit at count attribute bs end (nat_le (at + count) (length unit)) refl e
+bytes_is : (unit : List ℕ) (at count attribute : ℕ) (bs : List ℕ) (end : ℕ)
+    → bytes_at unit at count attribute ≡ Ok (bs, end) → Stands unit at bs end × (length bs ≡ count)
+unfolding bytes_at
+bytes_is unit at count attribute bs end e =
+    bytes_test unit at count attribute bs end (nat_le (at + count) (length unit)) refl e
 
-held_gives : (unit : List ℕ) (at count attribute : ℕ) (bs : List ℕ) (end : ℕ)
+bytes_gives : (unit : List ℕ) (at count attribute : ℕ) (bs : List ℕ) (end : ℕ)
     → at + count ≤ length unit → Stands unit at bs end → length bs ≡ count
-    → held_at unit at count attribute ≡ Ok (bs, end)
-unfolding held_at
-held_gives unit at count attribute bs end le s l =
+    → bytes_at unit at count attribute ≡ Ok (bs, end)
+unfolding bytes_at
+bytes_gives unit at count attribute bs end le s l =
     let t : take count (drop at unit) ≡ bs =
     ap (λ (k : ℕ). take k (drop at unit)) (sym l) ∙ taken unit at end bs s in
     let k : at + count ≡ end = omega (arith, s.2, l) in
     rw (le-leb (at + count) (length unit) le, t) (ap (λ (k : ℕ). Ok (bs, k)) k)
 
-text_at_is : (unit : List ℕ) (at attribute : ℕ) (u : List ℕ) (end : ℕ)
+pub text_at_is : (unit : List ℕ) (at attribute : ℕ) (u : List ℕ) (end : ℕ)
     → text_at unit at attribute ≡ Ok (u, end) → Stands unit at (u ++ 0 ∷ []) end × HasNoNul u
 unfolding text_at
 text_at_is unit at attribute u end e =
@@ -135,7 +134,7 @@ unfolding uleb_at
 uleb_at_gives unit at attribute end ds s l fits =
     ap (of_leb at attribute) (uleb_gives unit at end ds s l fits)
 
-sleb_at_is : (unit : List ℕ) (at attribute : ℕ) (n : ℤ) (end : ℕ)
+pub sleb_at_is : (unit : List ℕ) (at attribute : ℕ) (n : ℤ) (end : ℕ)
     → sleb_at unit at attribute ≡ Ok (n, end) → sleb_of unit at ≡ Ok (n, end)
 unfolding sleb_at
 sleb_at_is unit at attribute n end e = leb_found at attribute (sleb_of unit at) (n, end) e
@@ -146,9 +145,13 @@ unfolding sleb_at
 signed_gives unit at attribute end ds s l fits =
     ap (of_leb at attribute) (sleb_gives unit at end ds s l fits)
 
--- nothing stands at each place
+-- no bytes
 nothing : (unit : List ℕ) (at end : ℕ) → at ≡ end → Stands unit at [] end
 nothing unit at end e = (drop at unit, refl, omega (arith, e))
+
+no_byte : (piece : List ℕ) → length piece ≡ 0 → piece ≡ []
+no_byte [] e = refl
+no_byte (b ∷ bs) e = absurd (omega arith)
 
 -- one byte
 one_byte : (piece : List ℕ) → length piece ≡ 1 → (b : ℕ) × (piece ≡ b ∷ [])
@@ -164,17 +167,12 @@ Read l form unit at order spec v end =
 abbrev pub made_from : {A : Type 0} → (A → Plain) → A × ℕ → Result (Plain × ℕ) FormFault
 made_from g n = Ok (g n.0, n.1)
 
-made_by : {A : Type 0} (r : Result (A × ℕ) FormFault) (g : A → Plain) (v : Plain) (end : ℕ)
+pub made_by : {A : Type 0} (r : Result (A × ℕ) FormFault) (g : A → Plain) (v : Plain) (end : ℕ)
     → (r >>= made_from g) ≡ Ok (v, end) → (x : A) × (r ≡ Ok (x, end)) × (v ≡ g x)
 made_by {A} r g v end e =
     let b = bind_ok r (made_from g) (v, end) e in
     let p = ok_parts {F = FormFault} (g b.0.0) v b.0.1 end b.2 in
     (b.0.0, subst (λ (k : ℕ). r ≡ Ok (b.0.0, k)) p.1 b.1, sym p.0)
-
-empty : (form : ℕ) (unit : List ℕ) (at : ℕ) (w v : Plain) (end : ℕ) → ◌≡◌
-    {A = Result (Plain × ℕ) FormFault} (Ok (w, at)) (Ok (v, end)) → Stands unit at [] end × (v ≡ w)
-empty form unit at w v end e = let p = ok_parts {F = FormFault} w v at end e in
-    (nothing unit at end p.1, sym p.0)
 
 pub read_is : (l : FormLayout) (form : ℕ) (unit : List ℕ) (at : ℕ) (order : Order) (spec : Spec)
     (v : Plain) (end : ℕ) → read_at l form unit at order spec ≡ Ok (v, end)
@@ -192,8 +190,11 @@ read_is layouts.Signed form unit at order spec v end e =
     let m = made_by (sleb_at unit at spec.attribute) (λ (n : ℤ). signed n) v end e in
     let d = sleb_is unit at m.0 end (sleb_at_is unit at spec.attribute m.0 end m.1) in
     (d.digits, d.stands, (d.leb, d.fits, m.2 ∙ ap (λ (n : ℤ). signed n) d.is))
-read_is layouts.Implicit form unit at order spec v end e = let p =
-    empty form unit at (signed spec.implicit) v end e in ([], p.0, (refl, p.1))
+read_is layouts.Implicit form unit at order spec v end e =
+    let m = made_by (bytes_at unit at 0 spec.attribute)
+    (λ (b : List ℕ). signed spec.implicit) v end e in
+    let s = bytes_is unit at 0 spec.attribute m.0 end m.1 in
+    (m.0, s.0, (no_byte m.0 s.1, m.2))
 read_is layouts.Flag form unit at order spec v end e =
     let m = made_by (fixed_at unit at 1 order spec.attribute)
     (λ (n : ℕ). flag (not (n == 0))) v end e in
@@ -201,31 +202,33 @@ read_is layouts.Flag form unit at order spec v end e =
     let o = one_byte s.0 s.2 in
     let n : m.0 ≡ o.0 = s.3 ∙ ap (ordered order) o.1 ∙ byte_ordered order o.0 in
     (s.0, s.1, (o.0, o.1, m.2 ∙ ap (λ (n : ℕ). flag (not (n == 0))) n))
-read_is layouts.Present form unit at order spec v end e = let p =
-    empty form unit at (flag true) v end e in ([], p.0, (refl, p.1))
+read_is layouts.Present form unit at order spec v end e =
+    let m = made_by (bytes_at unit at 0 spec.attribute) (λ (b : List ℕ). flag true) v end e in
+    let s = bytes_is unit at 0 spec.attribute m.0 end m.1 in
+    (m.0, s.0, (no_byte m.0 s.1, m.2))
 read_is layouts.Text form unit at order spec v end e =
     let m = made_by (text_at unit at spec.attribute) (λ (t : List ℕ). text t) v end e in
     let s = text_at_is unit at spec.attribute m.0 end m.1 in
     (m.0 ++ 0 ∷ [], s.0, (m.0, refl, s.1, m.2))
 read_is layouts.Sixteen form unit at order spec v end e =
-    let m = made_by (held_at unit at 16 spec.attribute) (λ (b : List ℕ). sixteen b) v end e in
-    let s = held_is unit at 16 spec.attribute m.0 end m.1 in
+    let m = made_by (bytes_at unit at 16 spec.attribute) (λ (b : List ℕ). sixteen b) v end e in
+    let s = bytes_is unit at 16 spec.attribute m.0 end m.1 in
     (m.0, s.0, (s.1, m.2))
 read_is (layouts.Counted w kind) form unit at order spec v end e =
-    let b = bind_ok (fixed_at unit at w order spec.attribute) (λ (n : ℕ × ℕ). held_at unit n.1 n.0
+    let b = bind_ok (fixed_at unit at w order spec.attribute) (λ (n : ℕ × ℕ). bytes_at unit n.1 n.0
     spec.attribute >>= λ (b : List ℕ × ℕ). Ok (bytes kind b.0, b.1)) (v, end) e in
     let c = fixed_is unit at w order spec.attribute b.0.0 b.0.1 b.1 in
-    let m = made_by (held_at unit b.0.1 b.0.0 spec.attribute)
+    let m = made_by (bytes_at unit b.0.1 b.0.0 spec.attribute)
     (λ (b : List ℕ). bytes kind b) v end b.2 in
-    let s = held_is unit b.0.1 b.0.0 spec.attribute m.0 end m.1 in
+    let s = bytes_is unit b.0.1 b.0.0 spec.attribute m.0 end m.1 in
     (c.0 ++ m.0, join unit at b.0.1 end c.0 m.0 c.1 s.0, (c.0, m.0, refl, c.2, s.1 ∙ c.3, m.2))
 read_is (layouts.LebCounted kind) form unit at order spec v end e =
-    let b = bind_ok (uleb_at unit at spec.attribute) (λ (n : ℕ × ℕ). held_at unit n.1 n.0
+    let b = bind_ok (uleb_at unit at spec.attribute) (λ (n : ℕ × ℕ). bytes_at unit n.1 n.0
     spec.attribute >>= λ (b : List ℕ × ℕ). Ok (bytes kind b.0, b.1)) (v, end) e in
     let d = uleb_is unit at b.0.0 b.0.1 (uleb_at_is unit at spec.attribute b.0.0 b.0.1 b.1) in
-    let m = made_by (held_at unit b.0.1 b.0.0 spec.attribute)
+    let m = made_by (bytes_at unit b.0.1 b.0.0 spec.attribute)
     (λ (b : List ℕ). bytes kind b) v end b.2 in
-    let s = held_is unit b.0.1 b.0.0 spec.attribute m.0 end m.1 in (
+    let s = bytes_is unit b.0.1 b.0.0 spec.attribute m.0 end m.1 in (
       d.digits ++ m.0,
       join unit at b.0.1 end d.digits m.0 d.stands s.0,
       (d.digits, m.0, refl, d.leb, d.fits, s.1 ∙ d.is, m.2),
@@ -235,12 +238,15 @@ read_is (layouts.Elsewhere w) form unit at order spec v end e =
     let s = fixed_is unit at w order spec.attribute m.0 end m.1 in
     (s.0, s.1, (s.2, m.2))
 
-at_once : (unit : List ℕ) (at end : ℕ) (w v : Plain) (piece : List ℕ) → Stands unit at piece end
-    → piece ≡ [] → v ≡ w → ◌≡◌ {A = Result (Plain × ℕ) FormFault} (Ok (w, at)) (Ok (v, end))
-at_once unit at end w v piece s none is =
+-- no bytes, which stand not past the unit's end
+empty_gives : (unit : List ℕ) (at end attribute : ℕ) (w v : Plain) (piece : List ℕ)
+    → end ≤ length unit → Stands unit at piece end → piece ≡ [] → v ≡ w
+    → (bytes_at unit at 0 attribute >>= made_from (λ (b : List ℕ). w)) ≡ Ok (v, end)
+empty_gives unit at end attribute w v piece le s none is =
     let z : length piece ≡ 0 = ap (λ (xs : List ℕ). length xs) none in
-    let k : at ≡ end = omega (arith, s.2) in
-    ap (λ (k : ℕ). Ok (w, k)) k ∙ ap (λ (v : Plain). Ok (v, end)) (sym is)
+    bind_gives (bytes_at unit at 0 attribute) (made_from (λ (b : List ℕ). w)) (piece, end)
+    (bytes_gives unit at 0 attribute piece end (omega (arith, le, s.2)) s z)
+    ∙ ap (λ (v : Plain). Ok (v, end)) (sym is)
 
 -- so many bytes after a count: the count lies in the unit
 after_count : (unit : List ℕ) (at end : ℕ) (count body : List ℕ) → 1 ≤ length count
@@ -256,75 +262,74 @@ leb_some (b ∷ bs) h = omega arith
 
 body_gives : (unit : List ℕ) (at end n attribute : ℕ) (kind : BlockClass) (count body : List ℕ)
     → 1 ≤ length count → Stands unit at (count ++ body) end → length body ≡ n
-    → (held_at unit (at + length count) n attribute >>= made_from (λ (b : List ℕ). bytes kind b))
+    → (bytes_at unit (at + length count) n attribute >>= made_from (λ (b : List ℕ). bytes kind b))
     ≡ Ok (bytes kind body, end)
 body_gives unit at end n attribute kind count body some s l =
     let p = split unit at end count body s in
     let le : (at + length count) + n ≤ length unit =
     omega (arith, after_count unit at end count body some s) in
-    bind_gives (held_at unit (at + length count) n attribute) (made_from (λ (b : List ℕ). bytes kind
-    b)) (body, end) (held_gives unit (at + length count) n attribute body end le p.1 l)
+    bind_gives (bytes_at unit (at + length count) n attribute) (made_from (λ (b : List ℕ). bytes kind
+    b)) (body, end) (bytes_gives unit (at + length count) n attribute body end le p.1 l)
 
 pub read_gives : (l : FormLayout) (form : ℕ) (unit : List ℕ) (at : ℕ) (order : Order) (spec : Spec)
-    (v : Plain) (end : ℕ) → HasWidths l → Read l form unit at order spec v end
+    (v : Plain) (end : ℕ) → HasWidths l → end ≤ length unit → Read l form unit at order spec v end
     → read_at l form unit at order spec ≡ Ok (v, end)
 unfolding read_at
-read_gives (layouts.Fixed w kind) form unit at order spec v end h r =
+read_gives (layouts.Fixed w kind) form unit at order spec v end h le r =
     bind_gives (fixed_at unit at w order spec.attribute) (λ (n : ℕ × ℕ). Ok (number kind n.0, n.1))
     (ordered order r.0, end) (fixed_gives unit at w order spec.attribute end r.0 h.0 r.1 r.2.0)
     ∙ ap (λ (v : Plain). Ok (v, end)) (sym r.2.1)
-read_gives (layouts.Leb kind) form unit at order spec v end h r =
+read_gives (layouts.Leb kind) form unit at order spec v end h le r =
     bind_gives (uleb_at unit at spec.attribute) (λ (n : ℕ × ℕ). Ok (number kind n.0, n.1))
     (unsigned_of r.0, end) (uleb_at_gives unit at spec.attribute end r.0 r.1 r.2.0 r.2.1)
     ∙ ap (λ (v : Plain). Ok (v, end)) (sym r.2.2)
-read_gives layouts.Signed form unit at order spec v end h r =
+read_gives layouts.Signed form unit at order spec v end h le r =
     bind_gives (sleb_at unit at spec.attribute) (λ (n : ℤ × ℕ). Ok (signed n.0, n.1))
     (signed_of r.0, end) (signed_gives unit at spec.attribute end r.0 r.1 r.2.0 r.2.1)
     ∙ ap (λ (v : Plain). Ok (v, end)) (sym r.2.2)
-read_gives layouts.Implicit form unit at order spec v end h r =
-    at_once unit at end (signed spec.implicit) v r.0 r.1 r.2.0 r.2.1
-read_gives layouts.Flag form unit at order spec v end h r =
+read_gives layouts.Implicit form unit at order spec v end h le r =
+    empty_gives unit at end spec.attribute (signed spec.implicit) v r.0 le r.1 r.2.0 r.2.1
+read_gives layouts.Flag form unit at order spec v end h le r =
     let l : length r.0 ≡ 1 = ap (λ (xs : List ℕ). length xs) r.2.1 in
     let n : ordered order r.0 ≡ r.2.0 = ap (ordered order) r.2.1 ∙ byte_ordered order r.2.0 in
     bind_gives (fixed_at unit at 1 order spec.attribute)
     (λ (n : ℕ × ℕ). Ok (flag (not (n.0 == 0)), n.1)) (ordered order r.0, end)
     (fixed_gives unit at 1 order spec.attribute end r.0 (omega arith) r.1 l)
     ∙ ap (λ (n : ℕ). Ok (flag (not (n == 0)), end)) n ∙ ap (λ (v : Plain). Ok (v, end)) (sym r.2.2)
-read_gives layouts.Present form unit at order spec v end h r =
-    at_once unit at end (flag true) v r.0 r.1 r.2.0 r.2.1
-read_gives layouts.Text form unit at order spec v end h r =
+read_gives layouts.Present form unit at order spec v end h le r =
+    empty_gives unit at end spec.attribute (flag true) v r.0 le r.1 r.2.0 r.2.1
+read_gives layouts.Text form unit at order spec v end h le r =
     bind_gives (text_at unit at spec.attribute) (λ (t : List ℕ × ℕ). Ok (text t.0, t.1)) (
       r.2.0,
       end,
     ) (text_at_gives unit at spec.attribute r.2.0 end (subst (λ (xs : List ℕ).
     Stands unit at xs end) r.2.1 r.1) r.2.2) ∙ ap (λ (v : Plain). Ok (v, end)) (sym r.2.3)
-read_gives layouts.Sixteen form unit at order spec v end h r =
-    let le = fits_in unit at end r.0 (omega (arith, r.2.0)) r.1 in
-    bind_gives (held_at unit at 16 spec.attribute) (λ (b : List ℕ × ℕ). Ok (sixteen b.0, b.1)) (
+read_gives layouts.Sixteen form unit at order spec v end h le r =
+    bind_gives (bytes_at unit at 16 spec.attribute) (λ (b : List ℕ × ℕ). Ok (sixteen b.0, b.1)) (
       r.0,
       end,
-    ) (held_gives unit at 16 spec.attribute r.0 end (omega (arith, le, r.2.0)) r.1 r.2.0)
+    ) (bytes_gives unit at 16 spec.attribute r.0 end (omega (arith, le, r.1.2, r.2.0)) r.1 r.2.0)
     ∙ ap (λ (v : Plain). Ok (v, end)) (sym r.2.1)
-read_gives (layouts.Counted w kind) form unit at order spec v end h r =
+read_gives (layouts.Counted w kind) form unit at order spec v end h le r =
     let s : Stands unit at (r.2.0 ++ r.2.1) end =
     subst (λ (xs : List ℕ). Stands unit at xs end) r.2.2 r.1 in
     let p = split unit at end r.2.0 r.2.1 s in
     bind_gives (fixed_at unit at w order spec.attribute)
-    (λ (n : ℕ × ℕ). held_at unit n.1 n.0 spec.attribute >>= λ (b : List ℕ × ℕ).
+    (λ (n : ℕ × ℕ). bytes_at unit n.1 n.0 spec.attribute >>= λ (b : List ℕ × ℕ).
     Ok (bytes kind b.0, b.1)) (ordered order r.2.0, at + length r.2.0)
     (fixed_gives unit at w order spec.attribute (at + length r.2.0) r.2.0 h.0 p.0 r.2.3)
     ∙ body_gives unit at end (ordered order r.2.0) spec.attribute kind r.2.0 r.2.1
     (omega (arith, h.0, r.2.3)) s r.2.4 ∙ ap (λ (v : Plain). Ok (v, end)) (sym r.2.5)
-read_gives (layouts.LebCounted kind) form unit at order spec v end h r =
+read_gives (layouts.LebCounted kind) form unit at order spec v end h le r =
     let s : Stands unit at (r.2.0 ++ r.2.1) end =
     subst (λ (xs : List ℕ). Stands unit at xs end) r.2.2 r.1 in
     let p = split unit at end r.2.0 r.2.1 s in
-    bind_gives (uleb_at unit at spec.attribute) (λ (n : ℕ × ℕ). held_at unit n.1 n.0 spec.attribute
+    bind_gives (uleb_at unit at spec.attribute) (λ (n : ℕ × ℕ). bytes_at unit n.1 n.0 spec.attribute
     >>= λ (b : List ℕ × ℕ). Ok (bytes kind b.0, b.1)) (unsigned_of r.2.0, at + length r.2.0)
     (uleb_at_gives unit at spec.attribute (at + length r.2.0) r.2.0 p.0 r.2.3 r.2.4)
     ∙ body_gives unit at end (unsigned_of r.2.0) spec.attribute kind r.2.0 r.2.1
     (leb_some r.2.0 r.2.3) s r.2.5 ∙ ap (λ (v : Plain). Ok (v, end)) (sym r.2.6)
-read_gives (layouts.Elsewhere w) form unit at order spec v end h r =
+read_gives (layouts.Elsewhere w) form unit at order spec v end h le r =
     bind_gives (fixed_at unit at w order spec.attribute) (λ (n : ℕ × ℕ). Ok (elsewhere form, n.1))
     (ordered order r.0, end) (fixed_gives unit at w order spec.attribute end r.0 h.0 r.1 r.2.0)
     ∙ ap (λ (v : Plain). Ok (v, end)) (sym r.2.1)
@@ -431,15 +436,16 @@ of_form c spec form at v end e =
 
 gives_form : (c : Within) (spec : Spec) (form at : ℕ) (v : Shown) (end : ℕ)
     → ((l : FormLayout) → layout_of c.offset_bytes c.address_bytes form ≡ Some l → HasWidths l)
-    → IsOfForm c spec form at v end → after_form c spec (form, at) ≡ Ok (v, end)
-gives_form c spec form at v end wide i =
+    → end ≤ length c.unit → IsOfForm c spec form at v end
+    → after_form c spec (form, at) ≡ Ok (v, end)
+gives_form c spec form at v end wide le i =
     let shown : shown_as form v.value ≡ v = ap (λ (f : ℕ). shown_as f v.value) (sym i.named) in
     bind_gives (or_unknown form (layout_of c.offset_bytes c.address_bytes form))
     (λ (l : FormLayout). read_at l form c.unit at c.order spec >>= λ (v : Plain × ℕ).
     Ok (shown_as form v.0, v.1)) i.layout (ap (or_unknown form) i.row)
     ∙ bind_gives (read_at i.layout form c.unit at c.order spec)
     (λ (v : Plain × ℕ). Ok (shown_as form v.0, v.1)) (v.value, end) (read_gives i.layout form
-    c.unit at c.order spec v.value end (wide i.layout i.row) (i.piece, i.stands, i.means))
+    c.unit at c.order spec v.value end (wide i.layout i.row) le (i.piece, i.stands, i.means))
     ∙ ap (λ (v : Shown). Ok (v, end)) shown
 
 pub read : (c : Within) (spec : Spec) (at : ℕ) (v : Shown) (end : ℕ)
@@ -450,9 +456,10 @@ read c spec at v end e =
     (a.0.0, a.0.1, form_is c spec at a.0.0 a.0.1 a.1, of_form c spec a.0.0 a.0.1 v end a.2)
 
 pub spelled : (c : Within) (spec : Spec) (at : ℕ) (v : Shown) (end : ℕ) → HasWidth c.offset_bytes
-    → HasWidth c.address_bytes → IsValue c spec at v end → value_of c spec at ≡ Ok (v, end)
+    → HasWidth c.address_bytes → end ≤ length c.unit → IsValue c spec at v end
+    → value_of c spec at ≡ Ok (v, end)
 unfolding value_of
-spelled c spec at v end o a h =
+spelled c spec at v end o a le h =
     bind_gives (form_at c.unit at spec) (after_form c spec) (h.0, h.1)
     (form_gives c spec at h.0 h.1 h.2) ∙ gives_form c spec h.0 h.1 v end
-    (λ l e. has_widths c.offset_bytes c.address_bytes h.0 l o a e) h.3
+    (λ l e. has_widths c.offset_bytes c.address_bytes h.0 l o a e) le h.3

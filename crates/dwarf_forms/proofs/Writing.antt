@@ -54,10 +54,10 @@ pub record IsWritten (c : Within) (v : Value) : Type 0 where
   pub direct : v.spec.form ≢ 0x16
 
 pub value_written : (c : Within) (v : Value) (at end : ℕ) → HasWidth c.offset_bytes
-    → HasWidth c.address_bytes → IsWritten c v → Stands c.unit at v.bytes end
+    → HasWidth c.address_bytes → end ≤ length c.unit → IsWritten c v → Stands c.unit at v.bytes end
     → value_of c v.spec at ≡ Ok (shown_of v, end)
-value_written c v at end o a w s =
-    spelled c v.spec at (shown_of v) end o a (
+value_written c v at end o a le w s =
+    spelled c v.spec at (shown_of v) end o a le (
       v.spec.form,
       at,
       inl (w.direct, refl, refl),

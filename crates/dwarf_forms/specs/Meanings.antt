@@ -145,7 +145,7 @@ as_offset (Err e) = Err e
 abbrev pub plain_offset : ℕ → ℕ → Plain → Result (Option ℤ) FormFault
 plain_offset attribute form (number kind n) = as_offset (number_constant attribute form kind n)
 plain_offset attribute form (signed z) = Ok (Some z)
-plain_offset attribute form (bytes held bs) = bytes_offset attribute form held bs
+plain_offset attribute form (bytes kind bs) = bytes_offset attribute form kind bs
 plain_offset attribute form other = Err (WrongClass attribute form)
 
 abbrev pub offset_in : ℕ → Shown → Result (Option ℤ) FormFault

@@ -1,8 +1,7 @@
 -- Why no value stands at a place (DWARF 5, sections 7.5.4 to 7.6): the first piece of it, in the
--- order of the bytes, that can't be read,
--- and the fault that tells it. A piece that passes the unit's end is told by the attribute, a
--- number that does not fit 64 bits by its
--- place, and a form that the table does not have by itself.
+-- order of the bytes, that can't be read, and the fault that tells it. A piece that passes the
+-- unit's end is told by the attribute, a number that does not fit 64 bits by its place, and a form
+-- that the table does not have by itself.
 use Rattle.std.specs.Prelude.{ℕ, ◌≡◌, ◌+◌, ◌≤◌, ◌<◌, ◌^◌, ◌⊎◌, ⊤, false, List, [], ◌∷◌, length}
 use Rattle.std.specs.Prelude.{drop, None, Some}
 use Rattle.dw_base.specs.Leb128.{unsigned_of, signed_of, fits_i64}
@@ -59,14 +58,14 @@ IsNumber unit at n end = (digits : List ℕ) × AreDigits unit at digits end
     × (unsigned_of digits < 2 ^ 64) × (n ≡ unsigned_of digits)
 
 -- of a value of a layout: its bytes; or where it is counted the count, or what is counted. A value
--- without bytes lacks nothing
+-- without bytes is refused where its place itself passes the unit's end
 abbrev pub Lacks : FormLayout → Order → List ℕ → ℕ → ℕ → FormFault → Type 0
 Lacks (Fixed w kind) order unit attribute at f = NoBytes unit attribute at w f
 Lacks (Leb kind) order unit attribute at f = NoNumber unit attribute at f
 Lacks Signed order unit attribute at f = NoSigned unit attribute at f
-Lacks Implicit order unit attribute at f = ⊥
+Lacks Implicit order unit attribute at f = NoBytes unit attribute at 0 f
 Lacks Flag order unit attribute at f = NoBytes unit attribute at 1 f
-Lacks Present order unit attribute at f = ⊥
+Lacks Present order unit attribute at f = NoBytes unit attribute at 0 f
 Lacks Text order unit attribute at f = NoText unit attribute at f
 Lacks Sixteen order unit attribute at f = NoBytes unit attribute at 16 f
 Lacks (Counted w kind) order unit attribute at f =

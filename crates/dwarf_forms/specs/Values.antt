@@ -1,6 +1,6 @@
 -- Values of forms, over the bytes of a unit: what stands at a place, the place after it, and the
 -- first fault.
-use Rattle.std.specs.Prelude.{ℕ, ◌+◌, ◌≤◌, ℤ, Bool, true, not, List, length, take, drop, nat_le}
+use Rattle.std.specs.Prelude.{ℕ, ◌+◌, ℤ, Bool, true, not, List, length, take, drop, nat_le}
 use Rattle.std.specs.Prelude.{Option, None, Some, Result, Ok, Err, ◌==◌, ◌||◌, if◌then◌else◌}
 use Rattle.dw_base.specs.Leb128.{uleb_of, sleb_of}
 use Rattle.dw_base.specs.Numbers.{number_of}
@@ -24,7 +24,7 @@ use Rattle.dwarf_forms.specs.declared.given.FormCtx.{FormCtx}
 use Rattle.dwarf_forms.specs.declared.given.Given.{Given}
 use Rattle.dwarf_forms.specs.declared.given.FormValue.{FormValue}
 use Rattle.dwarf_forms.specs.declared.given.FormValue.TheVariants as values
-use Rattle.dwarf_forms.specs.Forms.{layout_of, HasWidth}
+use Rattle.dwarf_forms.specs.Forms.{layout_of}
 
 infixl 10 ◌>>=◌
 abbrev pub ◌>>=◌ : {A B : Type 0} → Result A FormFault → (A → Result B FormFault)
@@ -90,15 +90,16 @@ uleb_at unit at attribute = of_leb at attribute (uleb_of unit at)
 unfoldable pub sleb_at : List ℕ → ℕ → ℕ → Result (ℤ × ℕ) FormFault
 sleb_at unit at attribute = of_leb at attribute (sleb_of unit at)
 
-unfoldable pub held_at : List ℕ → ℕ → ℕ → ℕ → Result (List ℕ × ℕ) FormFault
-held_at unit at count attribute = if nat_le (at + count) (length unit)
+unfoldable pub bytes_at : List ℕ → ℕ → ℕ → ℕ → Result (List ℕ × ℕ) FormFault
+bytes_at unit at count attribute = if nat_le (at + count) (length unit)
     then Ok (take count (drop at unit), at + count) else Err (ValueTruncated attribute)
 
 unfoldable pub text_at : List ℕ → ℕ → ℕ → Result (List ℕ × ℕ) FormFault
 text_at unit at attribute =
     or_cut attribute (text_of unit at) >>= λ (t : List ℕ). Ok (t, at + length t + 1)
 
--- the value of a layout, and the place after it
+-- the value of a layout, and the place after it; one without bytes stands not past the unit's end
+-- either
 unfoldable pub read_at : FormLayout → ℕ → List ℕ → ℕ → Order → Spec → Result (Plain × ℕ) FormFault
 read_at (layouts.Fixed w kind) form unit at order spec =
     fixed_at unit at w order spec.attribute >>= λ (n : ℕ × ℕ). Ok (number kind n.0, n.1)
@@ -106,19 +107,21 @@ read_at (layouts.Leb kind) form unit at order spec =
     uleb_at unit at spec.attribute >>= λ (n : ℕ × ℕ). Ok (number kind n.0, n.1)
 read_at layouts.Signed form unit at order spec =
     sleb_at unit at spec.attribute >>= λ (n : ℤ × ℕ). Ok (signed n.0, n.1)
-read_at layouts.Implicit form unit at order spec = Ok (signed spec.implicit, at)
+read_at layouts.Implicit form unit at order spec =
+    bytes_at unit at 0 spec.attribute >>= λ (b : List ℕ × ℕ). Ok (signed spec.implicit, b.1)
 read_at layouts.Flag form unit at order spec =
     fixed_at unit at 1 order spec.attribute >>= λ (n : ℕ × ℕ). Ok (flag (not (n.0 == 0)), n.1)
-read_at layouts.Present form unit at order spec = Ok (flag true, at)
+read_at layouts.Present form unit at order spec =
+    bytes_at unit at 0 spec.attribute >>= λ (b : List ℕ × ℕ). Ok (flag true, b.1)
 read_at layouts.Text form unit at order spec =
     text_at unit at spec.attribute >>= λ (t : List ℕ × ℕ). Ok (text t.0, t.1)
 read_at layouts.Sixteen form unit at order spec =
-    held_at unit at 16 spec.attribute >>= λ (b : List ℕ × ℕ). Ok (sixteen b.0, b.1)
+    bytes_at unit at 16 spec.attribute >>= λ (b : List ℕ × ℕ). Ok (sixteen b.0, b.1)
 read_at (layouts.Counted w kind) form unit at order spec =
-    fixed_at unit at w order spec.attribute >>= λ (n : ℕ × ℕ). held_at unit n.1 n.0 spec.attribute
+    fixed_at unit at w order spec.attribute >>= λ (n : ℕ × ℕ). bytes_at unit n.1 n.0 spec.attribute
     >>= λ (b : List ℕ × ℕ). Ok (bytes kind b.0, b.1)
 read_at (layouts.LebCounted kind) form unit at order spec =
-    uleb_at unit at spec.attribute >>= λ (n : ℕ × ℕ). held_at unit n.1 n.0 spec.attribute
+    uleb_at unit at spec.attribute >>= λ (n : ℕ × ℕ). bytes_at unit n.1 n.0 spec.attribute
     >>= λ (b : List ℕ × ℕ). Ok (bytes kind b.0, b.1)
 read_at (layouts.Elsewhere w) form unit at order spec =
     fixed_at unit at w order spec.attribute >>= λ (n : ℕ × ℕ). Ok (elsewhere form, n.1)
@@ -169,9 +172,3 @@ within c = record {
 
 abbrev pub given : Given → Shown
 given g = record { form = g.form; value = plain g.value }
-
--- the unit lies in its section, and its widths are those of numbers
-pub record IsContext (c : FormCtx) : Type 0 where
-  pub inside : c.end ≤ length c.info.now
-  pub offsets : HasWidth c.offset_bytes
-  pub addresses : HasWidth c.address_bytes

@@ -1,7 +1,7 @@
 //! What values stand for, read at once where their form is one of the most common ones.
 ghost use Rattle.std.specs.Prelude.{◌≡◌, ◌≤◌, ℕ, pos, Some, Ok, IfOk, IfSome};
 ghost use Rattle.dwarf_forms.specs.Forms.{layout_of};
-ghost use Rattle.dwarf_forms.specs.Values.{value_of, within, IsContext};
+ghost use Rattle.dwarf_forms.specs.Values.{value_of, within};
 ghost use Rattle.dwarf_forms.specs.Meanings.{sections, meant, name_in, target_in, constant_in};
 ghost use Rattle.dwarf_forms.specs.Meanings.{offset_in, Fits64};
 ghost use Rattle.dwarf_forms.specs.declared.layout.FormLayout.TheVariants.{Fixed};
@@ -11,19 +11,17 @@ use crate::fault::FormFault;
 use crate::given::FormCtx;
 use crate::meaning::{byte_offset_of, constant_of, name_of, string, target_of};
 use crate::reading::{unit_of, value};
-use dw_base::{Name, number};
+use dw_base::{InfoOffset, Name, number};
 use dwarf_abbrev::Spec;
-use dwarf_abbrev::constants::{DW_FORM_data1, DW_FORM_data2, DW_FORM_ref4, DW_FORM_strp};
+use dwarf_abbrev::constants::{DW_FORM_data1, DW_FORM_data2, DW_FORM_ref4, DW_FORM_strp, DwForm};
 
-/// The name that a value of any form is or refers to.
-fn name_by_value<'a>(
+/// `name_at`, of any form.
+fn name_in_any_form<'a>(
     form: &FormCtx<'a>,
     ctx: &FormCtx<'a>,
     spec: &Spec,
-    at: u64,
+    at: InfoOffset,
 ) -> Result<Name<'a>, FormFault>
-    requires form { IsContext form.now }
-    requires context { IsContext ctx.now }
     ensures { result ≡ meant (name_in (sections ctx.now) spec.now.attribute)
         (value_of (within form.now) spec.now at) }
 {
@@ -34,21 +32,19 @@ fn name_by_value<'a>(
 /// The name that the value of an attribute at the offset `at` of `.debug_info` is or refers to. The
 /// value is read in `form`, and the name in the sections of `ctx`.
 ///
-/// It is refused as `value` is, and then as `name_of`.
+/// It is refused as `value` is, and then as `name_of`; so its work grows, too.
 #[inline(always)]
 pub fn name_at<'a>(
     form: &FormCtx<'a>,
     ctx: &FormCtx<'a>,
     spec: &Spec,
-    at: u64,
+    at: InfoOffset,
 ) -> Result<Name<'a>, FormFault>
-    requires form { IsContext form.now }
-    requires context { IsContext ctx.now }
     ensures { result ≡ meant (name_in (sections ctx.now) spec.now.attribute)
         (value_of (within form.now) spec.now at) }
 {
     if spec.form != DW_FORM_strp {
-        return name_by_value(form, ctx, spec, at);
+        return name_in_any_form(form, ctx, spec, at);
     }
     match number(unit_of(form), at, form.offset_bytes, form.order) {
         Some(offset) => string(ctx.strings, offset),
@@ -56,14 +52,13 @@ pub fn name_at<'a>(
     }
 }
 
-/// The entry that a value of any form refers to.
-fn target_by_value(
+/// `target_at`, of any form.
+fn target_in_any_form(
     form: &FormCtx<'_>,
     ctx: &FormCtx<'_>,
     spec: &Spec,
-    at: u64,
+    at: InfoOffset,
 ) -> Result<u128, FormFault>
-    requires { IsContext form.now }
     ensures { result ≡ meant (target_in (sections ctx.now) spec.now.attribute)
         (value_of (within form.now) spec.now at) }
 {
@@ -75,20 +70,19 @@ fn target_by_value(
 /// `.debug_info` refers to; it can pass 2^64. The value is read in `form`, and counts in the unit
 /// of `ctx`.
 ///
-/// It is refused as `value` is, and then as `target_of`.
+/// It is refused as `value` is, and then as `target_of`; its work grows as that of `value`.
 #[inline(always)]
 pub fn target_at(
     form: &FormCtx<'_>,
     ctx: &FormCtx<'_>,
     spec: &Spec,
-    at: u64,
+    at: InfoOffset,
 ) -> Result<u128, FormFault>
-    requires { IsContext form.now }
     ensures { result ≡ meant (target_in (sections ctx.now) spec.now.attribute)
         (value_of (within form.now) spec.now at) }
 {
     if spec.form != DW_FORM_ref4 {
-        return target_by_value(form, ctx, spec, at);
+        return target_in_any_form(form, ctx, spec, at);
     }
     match number(unit_of(form), at, 4, form.order) {
         Some(offset) => Ok(u128::from(ctx.unit) + u128::from(offset)),
@@ -96,9 +90,8 @@ pub fn target_at(
     }
 }
 
-/// The number that a value of any form is.
-fn constant_by_value(form: &FormCtx<'_>, spec: &Spec, at: u64) -> Result<i128, FormFault>
-    requires { IsContext form.now }
+/// `constant_at`, of any form.
+fn constant_in_any_form(form: &FormCtx<'_>, spec: &Spec, at: InfoOffset) -> Result<i128, FormFault>
     ensures value { result ≡ meant (constant_in spec.now.attribute)
         (value_of (within form.now) spec.now at) }
     ensures small { IfOk result Fits64 }
@@ -107,9 +100,12 @@ fn constant_by_value(form: &FormCtx<'_>, spec: &Spec, at: u64) -> Result<i128, F
     constant_of(spec.attribute, &given)
 }
 
-/// The offset that a value of any form gives a member.
-fn byte_offset_by_value(form: &FormCtx<'_>, spec: &Spec, at: u64) -> Result<Option<i128>, FormFault>
-    requires { IsContext form.now }
+/// `byte_offset_at`, of any form.
+fn byte_offset_in_any_form(
+    form: &FormCtx<'_>,
+    spec: &Spec,
+    at: InfoOffset,
+) -> Result<Option<i128>, FormFault>
     ensures value { result ≡ meant (offset_in spec.now.attribute)
         (value_of (within form.now) spec.now at) }
     ensures small { IfOk result (λ o. IfSome o Fits64) }
@@ -120,7 +116,7 @@ fn byte_offset_by_value(form: &FormCtx<'_>, spec: &Spec, at: u64) -> Result<Opti
 
 /// The width of a constant of one byte or two; `None` for the other forms.
 #[inline(always)]
-fn short_constant(form: u64) -> Option<u32>
+fn short_constant(form: DwForm) -> Option<u32>
     ensures small { IfSome result (λ width. (1 ≤ width) × (width ≤ 2)) }
     ensures row { (o a : ℕ) → IfSome result
         (λ width. layout_of o a form ≡ Some (Fixed width Unsigned)) }
@@ -132,58 +128,44 @@ fn short_constant(form: u64) -> Option<u32>
     }
 }
 
-/// The number that a constant is.
-#[inline(always)]
-fn plain_number(n: u64) -> Result<i128, FormFault>
-    ensures { result ≡ Ok (pos n) }
-{
-    Ok(i128::from(n))
-}
-
 /// The number of class constant that the value of an attribute at the offset `at` of `.debug_info`
 /// is.
 ///
-/// It is refused as `value` is, and then as `constant_of`.
+/// It is refused as `value` is, and then as `constant_of`; its work grows as that of `value`.
 #[inline(always)]
-pub fn constant_at(form: &FormCtx<'_>, spec: &Spec, at: u64) -> Result<i128, FormFault>
-    requires { IsContext form.now }
+pub fn constant_at(form: &FormCtx<'_>, spec: &Spec, at: InfoOffset) -> Result<i128, FormFault>
     ensures value { result ≡ meant (constant_in spec.now.attribute)
         (value_of (within form.now) spec.now at) }
     ensures small { IfOk result Fits64 }
 {
     let Some(width) = short_constant(spec.form) else {
-        return constant_by_value(form, spec, at);
+        return constant_in_any_form(form, spec, at);
     };
     match number(unit_of(form), at, width, form.order) {
-        Some(n) => plain_number(n),
+        Some(n) => Ok(i128::from(n)),
         None => Err(FormFault::ValueTruncated(spec.attribute)),
     }
-}
-
-/// The offset that a constant is.
-#[inline(always)]
-fn plain_offset(n: u64) -> Option<i128>
-    ensures { result ≡ Some (pos n) }
-{
-    Some(i128::from(n))
 }
 
 /// The offset in bytes that the value of an attribute at the offset `at` of `.debug_info` gives a
 /// member.
 ///
-/// It is refused as `value` is, and then as `byte_offset_of`.
+/// It is refused as `value` is, and then as `byte_offset_of`; so its work grows, too.
 #[inline(always)]
-pub fn byte_offset_at(form: &FormCtx<'_>, spec: &Spec, at: u64) -> Result<Option<i128>, FormFault>
-    requires { IsContext form.now }
+pub fn byte_offset_at(
+    form: &FormCtx<'_>,
+    spec: &Spec,
+    at: InfoOffset,
+) -> Result<Option<i128>, FormFault>
     ensures value { result ≡ meant (offset_in spec.now.attribute)
         (value_of (within form.now) spec.now at) }
     ensures small { IfOk result (λ o. IfSome o Fits64) }
 {
     let Some(width) = short_constant(spec.form) else {
-        return byte_offset_by_value(form, spec, at);
+        return byte_offset_in_any_form(form, spec, at);
     };
     match number(unit_of(form), at, width, form.order) {
-        Some(n) => Ok(plain_offset(n)),
+        Some(n) => Ok(Some(i128::from(n))),
         None => Err(FormFault::ValueTruncated(spec.attribute)),
     }
 }

@@ -1,4 +1,6 @@
 //! Why a value, or what it stands for, can't be read.
+use dw_base::InfoOffset;
+use dwarf_abbrev::constants::{DwAt, DwForm};
 use thiserror::Error;
 
 /// Why a value can't be read, or isn't what is asked for.
@@ -6,13 +8,13 @@ use thiserror::Error;
 pub enum FormFault {
     /// The LEB128 number that begins at this offset of `.debug_info` doesn't fit 64 bits.
     #[error("the number at {0} does not fit 64 bits")]
-    LebWide(u64),
+    LebWide(InfoOffset),
     /// This form is unknown, or is one that an indirect form can't name.
     #[error("the form {0} is unknown")]
-    FormUnknown(u64),
+    FormUnknown(DwForm),
     /// The value of this attribute passes the end of its unit.
     #[error("the value of the attribute {0} is cut off")]
-    ValueTruncated(u64),
+    ValueTruncated(DwAt),
     /// No text begins at this offset of its section of strings.
     #[error("no string begins at {0}")]
     StringOut(u64),
@@ -21,8 +23,8 @@ pub enum FormFault {
     StrxOut(u64),
     /// This form refers into a supplementary file, which isn't read.
     #[error("the form {0} refers into another file")]
-    AltForm(u64),
+    AltForm(DwForm),
     /// The value of this attribute, of this form, isn't of a class that can be asked for here.
     #[error("the attribute {0} has the form {1}")]
-    WrongClass(u64, u64),
+    WrongClass(DwAt, DwForm),
 }

@@ -1,15 +1,20 @@
 //! Values of attributes, and what they are read in.
-use dw_base::{Name, Order, TextSection};
+ghost use Rattle.std.specs.Prelude.{◌≤◌, length};
+ghost use Rattle.dwarf_forms.specs.Forms.{HasWidth};
 
-/// What the values of a unit are read in.
+use dw_base::{InfoOffset, Name, Order, TextSection};
+use dwarf_abbrev::constants::DwForm;
+
+/// What the values of a unit are read in. The unit lies in its section, and its numbers have 1 to 8
+/// bytes.
 #[derive(Clone, Copy)]
 pub struct FormCtx<'a> {
     /// `.debug_info`.
     pub info: &'a [u8],
     /// The offset of the unit's first header byte in `.debug_info`.
-    pub unit: u64,
+    pub unit: InfoOffset,
     /// The offset at which the unit ends in `.debug_info`; no value passes it.
-    pub end: u64,
+    pub end: InfoOffset,
     /// The byte order of the file.
     pub order: Order,
     /// How many bytes the unit's offsets have, 4 or 8.
@@ -24,6 +29,9 @@ pub struct FormCtx<'a> {
     pub str_offsets: &'a [u8],
     /// The offset in `.debug_str_offsets` from which the unit's indices count.
     pub str_base: u64,
+    pub ghost inside: { end ≤ length info.now },
+    pub ghost offsets: { HasWidth offset_bytes },
+    pub ghost addresses: { HasWidth address_bytes },
 }
 
 /// A value. Texts, blocks and expressions are slices of their section; nothing is copied.
@@ -41,7 +49,7 @@ pub enum FormValue<'a> {
     Block(&'a [u8]),
     /// A DWARF expression.
     Expr(&'a [u8]),
-    /// A flag.
+    /// A flag, which is true for every byte but 0.
     Flag(bool),
     /// A text in `.debug_info` itself.
     Text(Name<'a>),
@@ -56,18 +64,18 @@ pub enum FormValue<'a> {
     /// An entry, by its offset from the first byte of the unit's header.
     UnitRef(u64),
     /// An entry, by its offset in `.debug_info`.
-    InfoRef(u64),
+    InfoRef(InfoOffset),
     /// An offset in a section that the attribute tells.
     SecOffset(u64),
     /// Something in a supplementary file, by this form.
-    Alt(u64),
+    Alt(DwForm),
 }
 
 /// A value, and the form that was used for it: that after an indirect one.
 #[derive(Debug, Drop)]
 pub struct Given<'a> {
     /// The code of the form, a DW_FORM number.
-    pub form: u64,
+    pub form: DwForm,
     /// The value.
     pub value: FormValue<'a>,
 }

@@ -1,8 +1,9 @@
 //! What reading a value means, in the standard's own words.
-ghost use Rattle.dwarf_forms.specs.Law.{ValuesAreRead, ValuesStandInUnits, RefusalsAreFirst};
+ghost use Rattle.dwarf_forms.specs.Law.{ValuesAreRead, RefusalsAreFirst};
 ghost use Rattle.dwarf_forms.specs.Sizes.{WidthsAreOfLayouts};
 
-/// A value is read exactly where one stands, and then it is that one and ends where that one does.
+/// A value is read exactly where one stands that begins and ends not past the unit's end, and then
+/// it is that one and ends where that one does.
 pub fn values_are_read()
     ensures { ValuesAreRead }
 {}
@@ -11,12 +12,6 @@ pub fn values_are_read()
 /// read.
 pub fn refusals_are_first()
     ensures { RefusalsAreFirst }
-{}
-
-/// At a place that is not past the unit's end a value is read exactly where one stands that ends
-/// not past it either.
-pub fn values_stand_in_units()
-    ensures { ValuesStandInUnits }
 {}
 
 /// The widths of the table of forms of abbreviations are those of the layouts here, form by form.

@@ -11,10 +11,11 @@ use dwarf_abbrev::constants::{
     DW_FORM_ref_udata, DW_FORM_ref1, DW_FORM_ref2, DW_FORM_ref4, DW_FORM_ref8, DW_FORM_rnglistx,
     DW_FORM_sdata, DW_FORM_sec_offset, DW_FORM_string, DW_FORM_strp, DW_FORM_strp_sup,
     DW_FORM_strx, DW_FORM_strx1, DW_FORM_strx2, DW_FORM_strx3, DW_FORM_strx4, DW_FORM_udata,
+    DwForm,
 };
 
 /// What a number means.
-#[derive(Clone, Copy, PartialEq, Eq)]
+#[derive(Clone, Copy)]
 pub enum NumberClass {
     /// An address of the program.
     Address,
@@ -37,7 +38,7 @@ pub enum NumberClass {
 }
 
 /// What some counted bytes mean.
-#[derive(Clone, Copy, PartialEq, Eq)]
+#[derive(Clone, Copy)]
 pub enum BlockClass {
     /// Any bytes.
     Block,
@@ -46,7 +47,7 @@ pub enum BlockClass {
 }
 
 /// How the bytes of a form lie.
-#[derive(Clone, Copy, PartialEq, Eq)]
+#[derive(Clone, Copy)]
 pub enum FormLayout {
     /// A number of this many bytes.
     Fixed(u32, NumberClass),
@@ -75,7 +76,7 @@ pub enum FormLayout {
 /// The layout of a form, for offsets and addresses of these many bytes. `None` exactly where the
 /// table has no row for it. The form indirect has no layout of its own: it names another one.
 #[inline(always)]
-pub fn form_layout(form: u64, offset_bytes: u32, address_bytes: u32) -> Option<FormLayout>
+pub fn form_layout(form: DwForm, offset_bytes: u32, address_bytes: u32) -> Option<FormLayout>
     ensures row { result ≡ layout_of offset_bytes address_bytes form }
     ensures widths { HasWidth offset_bytes → HasWidth address_bytes → IfSome result HasWidths }
 {

@@ -1,14 +1,14 @@
 //! What values stand for.
 ghost use Rattle.std.specs.Prelude.{◌≡◌, IfOk, IfSome};
 ghost use Rattle.dw_base.specs.Sections.{bytes_of};
-ghost use Rattle.dwarf_forms.specs.Values.{given as shown, IsContext};
+ghost use Rattle.dwarf_forms.specs.Values.{given as shown};
 ghost use Rattle.dwarf_forms.specs.Meanings.{sections, string_at, indexed_at, name_in, constant_in};
 ghost use Rattle.dwarf_forms.specs.Meanings.{flag_in, target_in, operand_of, offset_in, Fits64};
 
 use crate::fault::FormFault;
 use crate::given::{FormCtx, FormValue, Given};
 use dw_base::{Name, TextSection, number, uleb};
-use dwarf_abbrev::constants::DW_OP_plus_uconst;
+use dwarf_abbrev::constants::{DW_OP_plus_uconst, DwAt};
 
 /// The text at an offset of a section of strings.
 #[inline(always)]
@@ -23,7 +23,6 @@ pub(crate) fn string<'a>(section: TextSection<'a>, offset: u64) -> Result<Name<'
 
 /// The text at the offset that `.debug_str_offsets` has at an index.
 fn indexed<'a>(ctx: &FormCtx<'a>, index: u64) -> Result<Name<'a>, FormFault>
-    requires { IsContext ctx.now }
     ensures { result ≡ indexed_at (sections ctx.now) index }
 {
     let place = u128::from(ctx.str_base) + u128::from(index) * u128::from(ctx.offset_bytes);
@@ -42,12 +41,14 @@ fn indexed<'a>(ctx: &FormCtx<'a>, index: u64) -> Result<Name<'a>, FormFault>
 /// `StringOut` where its section has no text at its offset, `StrxOut` where `.debug_str_offsets`
 /// has no number at its index, `AltForm` where it lies in a supplementary file, and `WrongClass`
 /// for every other value.
+///
+/// The work is constant where the ends of the section's texts are known, else it grows with the
+/// bytes of the name.
 pub fn name_of<'a>(
     ctx: &FormCtx<'a>,
-    attribute: u64,
+    attribute: DwAt,
     given: &Given<'a>,
 ) -> Result<Name<'a>, FormFault>
-    requires { IsContext ctx.now }
     ensures { result ≡ name_in (sections ctx.now) attribute (shown given.now) }
 {
     match &given.value {
@@ -61,8 +62,8 @@ pub fn name_of<'a>(
 }
 
 /// The number that a value of class constant is. `WrongClass` for every other value, and for one of
-/// 16 bytes.
-pub fn constant_of(attribute: u64, given: &Given<'_>) -> Result<i128, FormFault>
+/// 16 bytes. The work is constant.
+pub fn constant_of(attribute: DwAt, given: &Given<'_>) -> Result<i128, FormFault>
     ensures value { result ≡ constant_in attribute (shown given.now) }
     ensures small { IfOk result Fits64 }
 {
@@ -73,8 +74,8 @@ pub fn constant_of(attribute: u64, given: &Given<'_>) -> Result<i128, FormFault>
     }
 }
 
-/// What a flag says. `WrongClass` for every other value.
-pub fn flag_of(attribute: u64, given: &Given<'_>) -> Result<bool, FormFault>
+/// What a flag says. `WrongClass` for every other value. The work is constant.
+pub fn flag_of(attribute: DwAt, given: &Given<'_>) -> Result<bool, FormFault>
     ensures { result ≡ flag_in attribute (shown given.now) }
 {
     match &given.value {
@@ -84,8 +85,9 @@ pub fn flag_of(attribute: u64, given: &Given<'_>) -> Result<bool, FormFault>
 }
 
 /// The offset in `.debug_info` of the entry that a value refers to; it can pass 2^64. `AltForm`
-/// where the value's form refers into a supplementary file, `WrongClass` for every other value.
-pub fn target_of(ctx: &FormCtx<'_>, attribute: u64, given: &Given<'_>) -> Result<u128, FormFault>
+/// where the value's form refers into a supplementary file, `WrongClass` for every other value. The
+/// work is constant.
+pub fn target_of(ctx: &FormCtx<'_>, attribute: DwAt, given: &Given<'_>) -> Result<u128, FormFault>
     ensures { result ≡ target_in (sections ctx.now) attribute (shown given.now) }
 {
     match &given.value {
@@ -113,8 +115,8 @@ fn operand(expression: &[u8]) -> Option<i128>
 
 /// The offset in bytes that a value gives a member: a constant, or the operand of an expression
 /// that is one DW_OP_plus_uconst; `None` exactly for every other expression. `WrongClass` for every
-/// other value.
-pub fn byte_offset_of(attribute: u64, given: &Given<'_>) -> Result<Option<i128>, FormFault>
+/// other value. The work grows with the bytes of the expression.
+pub fn byte_offset_of(attribute: DwAt, given: &Given<'_>) -> Result<Option<i128>, FormFault>
     ensures value { result ≡ offset_in attribute (shown given.now) }
     ensures small { IfOk result (λ o. IfSome o Fits64) }
 {

@@ -1,17 +1,19 @@
 //! Reading values (DWARF 5, sections 7.5.4 to 7.5.6).
 ghost use Rattle.std.specs.Prelude.{◌≡◌, take};
+ghost use Rattle.dwarf_forms.specs.Law.{Reads, Skips};
 ghost use Rattle.dwarf_forms.specs.Forms.{HasWidth, HasWidths};
-ghost use Rattle.dwarf_forms.specs.Values.{seen, plain, fixed_at, uleb_at, sleb_at, held_at};
+ghost use Rattle.dwarf_forms.specs.Values.{seen, plain, fixed_at, uleb_at, sleb_at, bytes_at};
 ghost use Rattle.dwarf_forms.specs.Values.{number_as, bytes_as, text_at, read_at, form_at};
-ghost use Rattle.dwarf_forms.specs.Values.{value_of, end_of, within, given, IsContext};
+ghost use Rattle.dwarf_forms.specs.Values.{value_of, end_of, within, given};
 
 use crate::fault::FormFault;
 use crate::given::{FormCtx, FormValue, Given};
 use crate::layout::{BlockClass, FormLayout, NumberClass, form_layout};
-use dw_base::{LebFault, Name, Order, number, sleb, text_at as name_at, uleb};
+use dw_base::{InfoOffset, LebFault, Name, Order, number, sleb, text_at as name_at, uleb};
 use dwarf_abbrev::Spec;
-use dwarf_abbrev::constants::{DW_FORM_implicit_const, DW_FORM_indirect};
+use dwarf_abbrev::constants::{DW_FORM_implicit_const, DW_FORM_indirect, DwAt, DwForm};
 
+/// A number of so many bytes, and the offset after it.
 #[tactic(auto, unfolding(crate::specs::Values::fixed_at))]
 #[inline(always)]
 fn fixed(
@@ -19,7 +21,7 @@ fn fixed(
     at: u64,
     width: u32,
     order: Order,
-    attribute: u64,
+    attribute: DwAt,
 ) -> Result<(u64, u64), FormFault>
     requires { HasWidth width }
     ensures { result ≡ fixed_at bytes.now at width order attribute }
@@ -30,9 +32,10 @@ fn fixed(
     }
 }
 
+/// An unsigned LEB128 number, and the offset after it.
 #[tactic(auto, unfolding(crate::specs::Values::uleb_at))]
 #[inline(always)]
-fn unsigned(bytes: &[u8], at: u64, attribute: u64) -> Result<(u64, u64), FormFault>
+fn unsigned(bytes: &[u8], at: u64, attribute: DwAt) -> Result<(u64, u64), FormFault>
     ensures { result ≡ uleb_at bytes.now at attribute }
 {
     match uleb(bytes, at) {
@@ -42,9 +45,10 @@ fn unsigned(bytes: &[u8], at: u64, attribute: u64) -> Result<(u64, u64), FormFau
     }
 }
 
+/// A signed LEB128 number, and the offset after it.
 #[tactic(auto, unfolding(crate::specs::Values::sleb_at))]
 #[inline(always)]
-fn signed(bytes: &[u8], at: u64, attribute: u64) -> Result<(i64, u64), FormFault>
+fn signed(bytes: &[u8], at: u64, attribute: DwAt) -> Result<(i64, u64), FormFault>
     ensures { result ≡ sleb_at bytes.now at attribute }
 {
     match sleb(bytes, at) {
@@ -54,16 +58,17 @@ fn signed(bytes: &[u8], at: u64, attribute: u64) -> Result<(i64, u64), FormFault
     }
 }
 
-/// So many bytes from an offset, and the offset after them.
-#[tactic(auto, unfolding(crate::specs::Values::held_at))]
+/// So many bytes from an offset, and the offset after them. Where there are none, the offset still
+/// can't be past the end.
+#[tactic(auto, unfolding(crate::specs::Values::bytes_at))]
 #[inline(always)]
-fn held<'a>(
+fn bytes_at<'a>(
     bytes: &'a [u8],
     at: u64,
     count: u64,
-    attribute: u64,
+    attribute: DwAt,
 ) -> Result<(&'a [u8], u64), FormFault>
-    ensures { seen (λ x. (x.0.now, x.1)) result ≡ held_at bytes.now at count attribute }
+    ensures { seen (λ x. (x.0.now, x.1)) result ≡ bytes_at bytes.now at count attribute }
 {
     let len = bytes.len() as u64;
     if at > len || count > len - at {
@@ -76,7 +81,7 @@ fn held<'a>(
 /// The text at an offset, and the offset after its NUL.
 #[tactic(auto, unfolding(crate::specs::Values::text_at))]
 #[inline(always)]
-fn text<'a>(bytes: &'a [u8], at: u64, attribute: u64) -> Result<(Name<'a>, u64), FormFault>
+fn text<'a>(bytes: &'a [u8], at: u64, attribute: DwAt) -> Result<(Name<'a>, u64), FormFault>
     ensures { result ≡ text_at bytes.now at attribute }
 {
     match name_at(bytes, at) {
@@ -90,7 +95,7 @@ fn text<'a>(bytes: &'a [u8], at: u64, attribute: u64) -> Result<(Name<'a>, u64),
 
 /// The value that a number is.
 #[inline(always)]
-fn made<'a>(kind: NumberClass, n: u64) -> FormValue<'a>
+fn number_value<'a>(kind: NumberClass, n: u64) -> FormValue<'a>
     ensures { plain result ≡ number_as kind n }
 {
     match kind {
@@ -108,7 +113,7 @@ fn made<'a>(kind: NumberClass, n: u64) -> FormValue<'a>
 
 /// The value that some counted bytes are.
 #[inline(always)]
-fn made_of<'a>(kind: BlockClass, bytes: &'a [u8]) -> FormValue<'a>
+fn block_value<'a>(kind: BlockClass, bytes: &'a [u8]) -> FormValue<'a>
     ensures { plain result ≡ bytes_as kind bytes.now }
 {
     match kind {
@@ -124,7 +129,7 @@ fn read<'a>(
     bytes: &'a [u8],
     at: u64,
     layout: FormLayout,
-    form: u64,
+    form: DwForm,
     order: Order,
     spec: &Spec,
 ) -> Result<(FormValue<'a>, u64), FormFault>
@@ -135,39 +140,45 @@ fn read<'a>(
     match layout {
         FormLayout::Fixed(width, kind) => {
             let (n, end) = fixed(bytes, at, width, order, spec.attribute)?;
-            Ok((made(kind, n), end))
+            Ok((number_value(kind, n), end))
         }
         FormLayout::Leb(kind) => {
             let (n, end) = unsigned(bytes, at, spec.attribute)?;
-            Ok((made(kind, n), end))
+            Ok((number_value(kind, n), end))
         }
         FormLayout::Signed => {
             let (z, end) = signed(bytes, at, spec.attribute)?;
             Ok((FormValue::Signed(z), end))
         }
-        FormLayout::Implicit => Ok((FormValue::Signed(spec.implicit), at)),
+        FormLayout::Implicit => {
+            let (_, end) = bytes_at(bytes, at, 0, spec.attribute)?;
+            Ok((FormValue::Signed(spec.implicit), end))
+        }
         FormLayout::Flag => {
             let (n, end) = fixed(bytes, at, 1, order, spec.attribute)?;
             Ok((FormValue::Flag(n != 0), end))
         }
-        FormLayout::Present => Ok((FormValue::Flag(true), at)),
+        FormLayout::Present => {
+            let (_, end) = bytes_at(bytes, at, 0, spec.attribute)?;
+            Ok((FormValue::Flag(true), end))
+        }
         FormLayout::Text => {
             let (name, end) = text(bytes, at, spec.attribute)?;
             Ok((FormValue::Text(name), end))
         }
         FormLayout::Sixteen => {
-            let (found, end) = held(bytes, at, 16, spec.attribute)?;
+            let (found, end) = bytes_at(bytes, at, 16, spec.attribute)?;
             Ok((FormValue::Sixteen(found), end))
         }
         FormLayout::Counted(width, kind) => {
             let (count, after) = fixed(bytes, at, width, order, spec.attribute)?;
-            let (found, end) = held(bytes, after, count, spec.attribute)?;
-            Ok((made_of(kind, found), end))
+            let (found, end) = bytes_at(bytes, after, count, spec.attribute)?;
+            Ok((block_value(kind, found), end))
         }
         FormLayout::LebCounted(kind) => {
             let (count, after) = unsigned(bytes, at, spec.attribute)?;
-            let (found, end) = held(bytes, after, count, spec.attribute)?;
-            Ok((made_of(kind, found), end))
+            let (found, end) = bytes_at(bytes, after, count, spec.attribute)?;
+            Ok((block_value(kind, found), end))
         }
         FormLayout::Elsewhere(width) => {
             let (_, end) = fixed(bytes, at, width, order, spec.attribute)?;
@@ -179,7 +190,7 @@ fn read<'a>(
 /// The form that is used, after an indirect one, and the offset of its value.
 #[tactic(auto, unfolding(crate::specs::Values::form_at))]
 #[inline(always)]
-fn used_form(bytes: &[u8], at: u64, spec: &Spec) -> Result<(u64, u64), FormFault>
+fn used_form(bytes: &[u8], at: u64, spec: &Spec) -> Result<(DwForm, u64), FormFault>
     ensures { result ≡ form_at bytes.now at spec.now }
 {
     if spec.form != DW_FORM_indirect {
@@ -192,27 +203,31 @@ fn used_form(bytes: &[u8], at: u64, spec: &Spec) -> Result<(u64, u64), FormFault
     Ok((form, after))
 }
 
-/// `.debug_info` up to the unit's end.
+/// `.debug_info` up to the unit's end. The work is constant.
 #[inline(always)]
 pub fn unit_of<'a>(ctx: &FormCtx<'a>) -> &'a [u8]
-    requires { IsContext ctx.now }
     ensures { result.now ≡ take ctx.now.end ctx.now.info.now }
 {
     let info: &'a [u8] = ctx.info;
     &info[..ctx.end as usize]
 }
 
-/// The value of an attribute at the offset `at` of `.debug_info`, and the offset after it.
+/// The value of an attribute at the offset `at` of `.debug_info`, and the offset after it. It begins
+/// and ends not past the unit's end, one without bytes too. The work grows with the bytes of the
+/// value.
 ///
 /// It is refused exactly where no value stands there: `FormUnknown` where the table of forms has no
 /// row for the form, or for the one that an indirect form names, or where that one is indirect or
-/// implicit_const; else `LebWide` where a LEB128 number lies in the unit and doesn't fit 64 bits;
-/// else
-/// `ValueTruncated` where the value passes the unit's end.
+/// implicit_const; else `LebWide` where a LEB128 number, that of a form too, lies in the unit and
+/// doesn't fit 64 bits; else `ValueTruncated` where the value passes the unit's end.
 #[tactic(auto, unfolding(crate::specs::Values::value_of))]
-pub fn value<'a>(ctx: &FormCtx<'a>, spec: &Spec, at: u64) -> Result<(Given<'a>, u64), FormFault>
-    requires { IsContext ctx.now }
-    ensures { seen (λ x. (given x.0, x.1)) result ≡ value_of (within ctx.now) spec.now at }
+pub fn value<'a>(
+    ctx: &FormCtx<'a>,
+    spec: &Spec,
+    at: InfoOffset,
+) -> Result<(Given<'a>, InfoOffset), FormFault>
+    ensures value { seen (λ x. (given x.0, x.1)) result ≡ value_of (within ctx.now) spec.now at }
+    ensures reads { Reads (within ctx.now) spec.now at (seen (λ x. (given x.0, x.1)) result) }
 {
     let bytes = unit_of(ctx);
     let (form, at) = used_form(bytes, at, spec)?;
@@ -226,11 +241,11 @@ pub fn value<'a>(ctx: &FormCtx<'a>, spec: &Spec, at: u64) -> Result<(Given<'a>, 
 }
 
 /// The offset after the value of an attribute at the offset `at` of `.debug_info`. It is refused
-/// exactly where and as `value` is.
+/// exactly where and as `value` is, and its work grows as that of `value`.
 #[inline(always)]
-pub fn skip(ctx: &FormCtx<'_>, spec: &Spec, at: u64) -> Result<u64, FormFault>
-    requires { IsContext ctx.now }
-    ensures { result ≡ end_of (value_of (within ctx.now) spec.now at) }
+pub fn skip(ctx: &FormCtx<'_>, spec: &Spec, at: InfoOffset) -> Result<InfoOffset, FormFault>
+    ensures value { result ≡ end_of (value_of (within ctx.now) spec.now at) }
+    ensures skips { Skips (within ctx.now) spec.now at result }
 {
     let (_, end) = value(ctx, spec, at)?;
     Ok(end)

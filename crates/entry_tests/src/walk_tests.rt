@@ -1,6 +1,5 @@
 //! Entries of units by hand, of damaged ones, of a deep one, and of one that gcc wrote.
 ghost use Rattle.elf_sections.specs.Images.{file_of as bytes_of};
-ghost use Rattle.dwarf_forms.specs.Values.{IsContext};
 ghost use Rattle.entry_tree.specs.Contexts.{IsUnitOf};
 
 use dw_base::Order;
@@ -162,8 +161,8 @@ enum AskedOf {
     Name,
     /// The form and the value of an attribute.
     Value(u64),
-    /// Whether it has a name and a size, its size, and its value.
-    Wanted,
+    /// Whether it has a name and a size, its first size, and its value.
+    Attributes,
 }
 
 /// An entry: its offset, depth and tag, and what is told of it.
@@ -177,7 +176,6 @@ struct ToldEntry {
 
 /// The name of an entry.
 fn name_text(alloc: Global, ctx: &FormCtx<'_>, entry: &Entry<'_, '_>) -> Option<String>
-    requires { IsContext ctx.now }
 {
     let mut text = String::new(alloc);
     if let Some(given) = entry.attr(3).ok()? {
@@ -196,11 +194,11 @@ fn value_text(alloc: Global, entry: &Entry<'_, '_>, attribute: u64) -> Option<St
     }
 }
 
-/// Whether an entry has a name and a size, its size, and its value.
-fn wanted_text(alloc: Global, entry: &Entry<'_, '_>) -> Option<String> {
-    let wanted = entry.wanted().ok()?;
+/// Whether an entry has a name and a size, its first size, and its value.
+fn attributes_text(alloc: Global, entry: &Entry<'_, '_>) -> Option<String> {
     let (name, size) = (entry.has(3), entry.has(0x0b));
-    let (first, value) = (&wanted.byte_size, &wanted.const_value);
+    let first = entry.attr(0x0b).ok()?;
+    let value = entry.attr(0x1c).ok()?;
     format!(in alloc; "{name} {size} {first:?} {value:?}").ok()
 }
 
@@ -211,13 +209,12 @@ fn text_of(
     entry: &Entry<'_, '_>,
     asked: AskedOf,
 ) -> Option<String>
-    requires { IsContext ctx.now }
 {
     match asked {
         AskedOf::Nothing => Some(String::new(alloc)),
         AskedOf::Name => name_text(alloc, ctx, entry),
         AskedOf::Value(attribute) => value_text(alloc, entry, attribute),
-        AskedOf::Wanted => wanted_text(alloc, entry),
+        AskedOf::Attributes => attributes_text(alloc, entry),
     }
 }
 
@@ -229,10 +226,9 @@ fn push_told(
     entry: &Entry<'_, '_>,
     asked: AskedOf,
 ) -> Option<()>
-    requires { IsContext ctx.now }
 {
     let text = text_of(alloc, ctx, entry, asked)?;
-    let (at, depth, tag) = (entry.at(), entry.depth(), entry.tag());
+    let (at, depth, tag) = (entry.at, entry.depth, entry.tag);
     entries
         .push(ToldEntry {
             at,
@@ -259,7 +255,6 @@ fn entries_of(
     most: u64,
     asked: AskedOf,
 ) -> Result<Vec<ToldEntry>, Outcome>
-    requires { IsContext ctx.now }
 {
     let mut entries = Vec::new(alloc);
     for _ in 0..=most {
@@ -640,8 +635,8 @@ fn entries_cut_off(rt: HostRuntime) -> Result<(), Fail> {
     Ok(())
 }
 
-/// Entries, and whether they have a name and a size, their size, and their value.
-const WANTED: &[(usize, &str)] = &[
+/// Entries, and whether they have a name and a size, their first size, and their value.
+const ATTRIBUTES: &[(usize, &str)] = &[
     (0, "false false None None"),
     (
         1,
@@ -655,10 +650,10 @@ const WANTED: &[(usize, &str)] = &[
 
 /// The first of two attributes of one name counts; a value can stand in the abbreviation.
 #[test]
-fn wanted_attributes(rt: HostRuntime) -> Result<(), Fail> {
+fn first_attributes(rt: HostRuntime) -> Result<(), Fail> {
     let file = sized_file(rt.alloc(), 4, 8, 1000)?;
-    let (_, entries) = walked(rt.alloc(), &file, AskedOf::Wanted)?;
-    for &(index, text) in WANTED {
+    let (_, entries) = walked(rt.alloc(), &file, AskedOf::Attributes)?;
+    for &(index, text) in ATTRIBUTES {
         let found = entries.get(index).map_or("", |one| one.text.as_str());
         assert_eq!(rt; found, text);
     }

@@ -10,7 +10,7 @@ use Rattle.dw_base.specs.declared.leb128.LebFault.TheVariants.{Truncated, TooWid
 use Rattle.dwarf_abbrev.specs.Declarations.{Declaration, declaration_with}
 use Rattle.dwarf_forms.specs.declared.fault.FormFault.{FormFault}
 use Rattle.dwarf_abbrev.specs.declared.spec.Spec.{Spec}
-use Rattle.dwarf_forms.specs.Values.{Shown, Within, within, IsContext}
+use Rattle.dwarf_forms.specs.Values.{Shown, Within, within}
 use Rattle.dwarf_forms.specs.declared.given.FormCtx.{FormCtx}
 use Rattle.std.proofs.lemmas.List.{length-take-le}
 use Rattle.entry_tree.specs.declared.fault.WalkFault.{WalkFault}
@@ -178,8 +178,8 @@ module _ (c : Within) (declarations : List Declaration) (first at lists : ℕ) w
   entry_after r from end h =
       subst (Goes c at (length c.unit)) (sym h) (item_goes c declarations first at lists)
 
-pub unit_length : (ctx : FormCtx) → IsContext ctx → length (within ctx).unit ≡ ctx.end
-unit_length ctx h = length-take-le ctx.end ctx.info.now h.inside
+pub unit_length : (ctx : FormCtx) → length (within ctx).unit ≡ ctx.end
+unit_length ctx = length-take-le ctx.end ctx.info.now ctx.inside
 
 all_read : (q : Result (List (ℕ × Shown) × ℕ) FormFault) (end : ℕ) → end_of_values q ≡ Ok end
     → is_ok q ≡ true

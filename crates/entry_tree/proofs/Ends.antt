@@ -9,7 +9,7 @@ use Rattle.dwarf_abbrev.specs.declared.spec.Spec.{Spec}
 use Rattle.dwarf_forms.specs.declared.fault.FormFault.{FormFault}
 use Rattle.dwarf_forms.specs.Values.{Shown, Within, value_of, end_of}
 use Rattle.dwarf_forms.proofs.Progress.{value_grows}
-use Rattle.std.proofs.lemmas.Bool.{eq-eqb, ne_eqb, or_parts}
+use Rattle.std.proofs.lemmas.Bool.{eq-eqb, or_parts}
 use Rattle.entry_tree.specs.Reads.{and_then, values_at, end_of_values, ends_at, found_in}
 use Rattle.entry_tree.specs.Reads.{value_with}
 use Rattle.entry_tree.specs.Items.{listed}
@@ -74,26 +74,12 @@ pub found_more : (c : Within) (s : Spec) (ss : List Spec) (at name : ℕ) → fo
 unfolding found_in
 found_more c s ss at name = refl
 
-pub found_past : (c : Within) (specs : List Spec) (i at name : ℕ) → length specs ≤ i
-    → found_in c (drop i specs) at name ≡ Ok None
-found_past c specs i at name le =
-    ap (λ (ss : List Spec). found_in c ss at name) (drop_all i specs le) ∙ unfolding_none c at name
-
 pub found_here : (c : Within) (specs : List Spec) (i at name : ℕ) (d : Spec) → i < length specs
     → (get_or specs i d).attribute ≡ name → found_in c (drop i specs) at name
     ≡ and_then (value_of c (get_or specs i d) at) (λ (v : Shown × ℕ). Ok (Some v.0))
 found_here c specs i at name d lt is =
     let t : ((get_or specs i d).attribute == name) ≡ true =
     eq-eqb (get_or specs i d).attribute name is in
-    ap (λ (ss : List Spec). found_in c ss at name) (drop_more specs i d lt)
-    ∙ found_more c (get_or specs i d) (drop (i + 1) specs) at name ∙ rw t refl
-
-pub found_later : (c : Within) (specs : List Spec) (i at name : ℕ) (d : Spec) → i < length specs
-    → ((get_or specs i d).attribute ≡ name → ⊥) → found_in c (drop i specs) at name ≡ and_then
-    (end_of (value_of c (get_or specs i d) at)) (λ (e : ℕ). found_in c (drop (i + 1) specs) e name)
-found_later c specs i at name d lt ne =
-    let t : ((get_or specs i d).attribute == name) ≡ false =
-    ne_eqb (get_or specs i d).attribute name ne in
     ap (λ (ss : List Spec). found_in c ss at name) (drop_more specs i d lt)
     ∙ found_more c (get_or specs i d) (drop (i + 1) specs) at name ∙ rw t refl
 

@@ -1,17 +1,17 @@
 -- A walk's fault is that of the first item that can't stand where it stands.
-use Rattle.std.proofs.Common.{◌≡◌, ℕ, List, [], ◌∷◌, ◌++◌, Option, Some, Err, sym, ap, subst, ◌∙◌}
-use Rattle.std.proofs.Common.{append_assoc}
+use Rattle.std.proofs.Common.{◌≡◌, ℕ, List, [], ◌∷◌, ◌++◌, Option, None, Some, Err, refl, sym, ap}
+use Rattle.std.proofs.Common.{subst, ◌∙◌, append_assoc}
 use Rattle.std.proofs.lemmas.List.{append-nil}
 use Rattle.dwarf_abbrev.specs.Declarations.{Declaration}
 use Rattle.dwarf_forms.specs.Values.{Within}
 use Rattle.entry_tree.specs.Items.{Given, Coming, item_at, coming_from}
 use Rattle.entry_tree.specs.Tree.{Item, Follow, open_behind, entries_among}
-use Rattle.entry_tree.specs.Refusals.{IsRefused, FaultsAreFirst}
+use Rattle.entry_tree.specs.Refusals.{IsRefused, FaultsAreFirst, AreEntriesTo, AreEntries}
 use Rattle.entry_tree.specs.declared.fault.WalkFault.{WalkFault}
 use Rattle.entry_tree.proofs.Ahead.{item_fails}
 use Rattle.entry_tree.proofs.Refused.{item_refused, item_out}
 use Rattle.entry_tree.proofs.Tiling.{Begun, Ending, begun_on, item_end, items_walked, starts}
-use Rattle.entry_tree.proofs.Tiling.{walked}
+use Rattle.entry_tree.proofs.Tiling.{walked, entries_are}
 
 module _ (c : Within) (declarations : List Declaration) (first : ℕ) where
   -- items that follow one another begin at the first byte
@@ -59,3 +59,16 @@ faults_are c declarations first es f = (forth, back)
         (λ (begun : Begun first h.1 h.0). sym (item_fails c declarations first h.1
         (open_behind h.0) f (sym (item_out c declarations first h.1 h.0 begun f h.4))))
         ∙ ap (λ (vs : List Given). record { entries = vs; ending = Some f }) (sym h.3)
+
+-- what comes of a unit, in one
+are_to : (c : Within) (declarations : List Declaration) (first : ℕ) (es : List Given)
+    (o : Option WalkFault) → coming_from c declarations first first 0
+    ≡ record { entries = es; ending = o } → AreEntriesTo c declarations first es o
+are_to c declarations first es None e = (entries_are c declarations first es).0 e
+are_to c declarations first es (Some f) e = (faults_are c declarations first es f).0 e
+
+pub are_entries : (c : Within) (declarations : List Declaration) (first : ℕ)
+    → AreEntries c declarations first (coming_from c declarations first first 0)
+are_entries c declarations first = are_to c declarations first
+    (coming_from c declarations first first 0).entries
+    (coming_from c declarations first first 0).ending refl

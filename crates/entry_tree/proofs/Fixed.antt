@@ -1,12 +1,14 @@
 -- Values of fixed sizes: by one addition.
-use Rattle.std.proofs.Common.{◌≡◌, ℕ, ◌+◌, ◌*◌, ◌^◌, ◌<◌, ◌≤◌, List, [], ◌∷◌, ◌++◌, length, take}
+use Rattle.std.proofs.Common.{◌≡◌, ℕ, ◌+◌, ◌-◌, ◌≤◌, List, [], ◌∷◌, ◌++◌, length, take}
 use Rattle.std.proofs.Common.{drop, zero, suc, Option, None, Some, Result, Ok, refl, sym, ap, ◌∙◌}
 use Rattle.std.proofs.Common.{arith}
+use Rattle.std.specs.Option.{IfSome}
 use Rattle.std.proofs.lemmas.List.{take-append-drop}
-use Rattle.std.proofs.Math.Nat.{mul-le-mul_left}
 use Rattle.std.proofs.lemmas.Option.{same_Some}
 use Rattle.dwarf_abbrev.specs.declared.spec.Spec.{Spec}
-use Rattle.dwarf_abbrev.specs.Sizes.{bytes_of, plus, sizes_of}
+use Rattle.dwarf_abbrev.specs.declared.runs.FixedRun.{FixedRun}
+use Rattle.dwarf_abbrev.specs.Sizes.{bytes_of, plus, sizes_of, total}
+use Rattle.dwarf_abbrev.specs.ValueMaps.{IsRun}
 use Rattle.dwarf_forms.specs.declared.fault.FormFault.{FormFault}
 use Rattle.dwarf_forms.specs.Values.{Shown, Within, end_of}
 use Rattle.dwarf_forms.proofs.Fixed.{value_fixed}
@@ -56,5 +58,25 @@ ends_behind_run c specs reached count from at w le size inside before =
     (λ (m : ℕ). ends_at c (drop reached (take count specs)) m)) before
     ∙ ends_fixed c (drop reached (take count specs)) at w size inside
 
-pub small_product : (n w : ℕ) → n < 2 ^ 32 → w ≤ 8 → n * w < 2 ^ 36
-small_product n w h le = let p : n * w ≤ n * 8 = mul-le-mul_left n le in omega (arith, p, h)
+-- the values of a run
+pub run_passed : (c : Within) (specs : List Spec) (start i from at end : ℕ) (r : FixedRun)
+    → IsRun specs i r → i ≡ start + r.values
+    → end ≡ at + total c.offset_bytes c.address_bytes r → end ≤ length c.unit
+    → ends_at c (take start specs) from ≡ Ok at → ends_at c (take i specs) from ≡ Ok end
+run_passed c specs start i from at end r run is sum le before =
+    let begins : i - r.values ≡ start = omega (arith, is) in
+    let inside : at + total c.offset_bytes c.address_bytes r ≤ length c.unit = rw (← sum) le in
+    ends_behind_run c specs start i from at (total c.offset_bytes c.address_bytes r)
+    (omega (arith, is))
+    (ap (λ (n : ℕ). sizes_of c.offset_bytes c.address_bytes (drop n (take i specs))) (sym begins)
+    ∙ run.1 c.offset_bytes c.address_bytes) inside before
+    ∙ ap (λ (n : ℕ). Ok n) (sym sum)
+
+pub run_passed_by : (c : Within) (specs : List Spec) (start i from at : ℕ) (r : FixedRun)
+    (o : Option ℕ) → IsRun specs i r → i ≡ start + r.values
+    → IfSome o (λ (end : ℕ). end ≡ at + total c.offset_bytes c.address_bytes r)
+    → IfSome o (λ (end : ℕ). end ≤ length c.unit) → ends_at c (take start specs) from ≡ Ok at
+    → IfSome o (λ (end : ℕ). ends_at c (take i specs) from ≡ Ok end)
+run_passed_by c specs start i from at r None run is sum le before = tt
+run_passed_by c specs start i from at r (Some end) run is sum le before =
+    run_passed c specs start i from at end r run is sum le before

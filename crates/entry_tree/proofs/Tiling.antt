@@ -98,7 +98,7 @@ begun_on first at end before i begun lt =
     by [] b = let e : at ≡ first = b.fresh refl in omega arith
     by (j ∷ js) b = let e : first < at = b.later (omega arith) in omega arith
 
-read_values : (c : Within) (d : Declaration) (from end : ℕ) (q : Result (List (ℕ × Shown) × ℕ)
+pub read_values : (c : Within) (d : Declaration) (from end : ℕ) (q : Result (List (ℕ × Shown) × ℕ)
     FormFault) → values_at c d.specs from ≡ q → end_of_values q ≡ Ok end → q ≡ Ok (listed q, end)
 read_values c d from end (Ok vs) h e = let same : vs.1 ≡ end = cc in
     ap (λ (k : ℕ). Ok (vs.0, k)) same

@@ -7,7 +7,7 @@ use Rattle.dw_base.specs.declared.leb128.LebFault.TheVariants.{Truncated, TooWid
 use Rattle.dwarf_abbrev.specs.declared.constants.TheConstants.{DW_TAG_compile_unit}
 use Rattle.dwarf_abbrev.specs.declared.constants.TheConstants.{DW_TAG_partial_unit}
 use Rattle.dwarf_abbrev.specs.Declarations.{Declaration, declaration_with}
-use Rattle.dwarf_abbrev.specs.Rows.{lent}
+use Rattle.dwarf_abbrev.specs.Rows.{shown}
 use Rattle.dwarf_forms.specs.declared.fault.FormFault.{FormFault}
 use Rattle.dwarf_forms.specs.declared.fault.FormFault.TheVariants.{LebWide, ValueTruncated}
 use Rattle.dwarf_forms.specs.Values.{Shown, Within}
@@ -38,7 +38,7 @@ pub data Standing : Type 0 where
 abbrev pub shown_item : Item → Standing
 shown_item items.End = nothing
 shown_item (items.Null end) = null end
-shown_item (items.Found a from end) = entry (lent a) from end
+shown_item (items.Found a from end) = entry (shown a) from end
 
 abbrev pub of_code : {A : Type 0} → ℕ → Result A LebFault → Result A WalkFault
 of_code at (Ok x) = Ok x

@@ -1,8 +1,7 @@
 -- Why a walk ends with a fault: the first item of a unit, in the order of the bytes, that can't
--- stand where it stands, and the first
--- piece of it that can't be read or is wrong there.
+-- stand where it stands, and the first piece of it that can't be read or is wrong there.
 use Rattle.std.specs.Prelude.{ℕ, ◌≡◌, ◌≢◌, ◌<◌, ◌≤◌, ◌↔◌, ◌⊎◌, false, List, [], ◌∷◌, ◌++◌, length}
-use Rattle.std.specs.Prelude.{None, Some, Ok, Err}
+use Rattle.std.specs.Prelude.{Option, None, Some, Ok, Err}
 use Rattle.dw_base.specs.Leb128.{uleb_of}
 use Rattle.dwarf_abbrev.specs.Declarations.{Declaration, declaration_with}
 use Rattle.dwarf_abbrev.specs.declared.spec.Spec.{Spec}
@@ -10,8 +9,8 @@ use Rattle.dwarf_forms.specs.Values.{Shown, Within, value_of}
 use Rattle.dwarf_forms.specs.Refusals.{NoNumber}
 use Rattle.dwarf_forms.specs.declared.fault.FormFault.{FormFault}
 use Rattle.entry_tree.specs.Reads.{values_at}
-use Rattle.entry_tree.specs.Items.{Given, coming_from, is_root}
-use Rattle.entry_tree.specs.Tree.{Item, open_behind, MayStand, Follow, entries_among}
+use Rattle.entry_tree.specs.Items.{Given, Coming, coming_from, is_root}
+use Rattle.entry_tree.specs.Tree.{Item, open_behind, MayStand, Follow, IsTree, entries_among}
 use Rattle.entry_tree.specs.declared.fault.WalkFault.{WalkFault}
 use Rattle.entry_tree.specs.declared.fault.WalkFault.TheVariants.{UnitRoot, AbbrevMissing, Form}
 use Rattle.entry_tree.specs.declared.fault.WalkFault.TheVariants.{TreeOpen, AfterRoot}
@@ -71,3 +70,15 @@ FaultsAreFirst =
     → (coming_from c declarations first first 0 ≡ record { entries = es; ending = Some f })
     ↔ ((items : List Item) × (at : ℕ) × Follow c declarations [] first items at
     × (es ≡ entries_among [] items) × IsRefused c declarations items at f)
+
+-- entries of a unit up to its end are those of the tree that its items are; up to a fault, those of
+-- the items before the first one that is refused
+abbrev pub AreEntriesTo : Within → List Declaration → ℕ → List Given → Option WalkFault → Type 0
+AreEntriesTo c declarations first es None =
+    (items : List Item) × IsTree c declarations first items × (es ≡ entries_among [] items)
+AreEntriesTo c declarations first es (Some f) =
+    (items : List Item) × (at : ℕ) × Follow c declarations [] first items at
+    × (es ≡ entries_among [] items) × IsRefused c declarations items at f
+
+abbrev pub AreEntries : Within → List Declaration → ℕ → Coming → Type 0
+AreEntries c declarations first r = AreEntriesTo c declarations first r.entries r.ending

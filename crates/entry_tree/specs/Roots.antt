@@ -1,5 +1,6 @@
 -- The root of a unit: its first entry, which is a compilation unit or a partial unit.
-use Rattle.std.specs.Prelude.{ℕ, ◌==◌, ℤ, List, Option, None, Some, Result, Ok, Err, if◌then◌else◌}
+use Rattle.std.specs.Prelude.{ℕ, ◌≡◌, ◌⊎◌, ◌==◌, ℤ, List, [], Option, None, Some, Result, Ok, Err}
+use Rattle.std.specs.Prelude.{if◌then◌else◌}
 use Rattle.dwarf_abbrev.specs.declared.constants.TheConstants.{DW_AT_language}
 use Rattle.dwarf_abbrev.specs.declared.constants.TheConstants.{DW_AT_str_offsets_base}
 use Rattle.dwarf_abbrev.specs.Declarations.{Declaration}
@@ -14,8 +15,10 @@ use Rattle.entry_tree.specs.Reads.{value_with}
 use Rattle.entry_tree.specs.Items.{◌>>=◌, Standing, Given, item_at, given_at, of_form}
 use Rattle.entry_tree.specs.Items.Standing.{nothing, null, entry}
 use Rattle.entry_tree.specs.declared.fault.WalkFault.{WalkFault}
-use Rattle.entry_tree.specs.declared.fault.WalkFault.TheVariants.{UnitRoot}
+use Rattle.entry_tree.specs.declared.fault.WalkFault.TheVariants.{UnitRoot, Form}
 use Rattle.entry_tree.specs.declared.roots.RootInfo.{RootInfo}
+use Rattle.entry_tree.specs.Tree.{Found, Item, IsItem}
+use Rattle.entry_tree.specs.Refusals.{IsRefused}
 
 abbrev pub as_some : Result ℤ FormFault → Result (Option ℤ) FormFault
 as_some (Ok z) = Ok (Some z)
@@ -27,9 +30,8 @@ language_in None = Ok None
 language_in (Some g) = as_some (constant_in DW_AT_language g)
 
 -- where the unit's indices into .debug_str_offsets count from: an offset of a section or a
--- constant; without one they count from
--- behind the section's header (DWARF 5, section 7.26), which has 8 bytes, and 16 where offsets have
--- 8
+-- constant; without one they count from behind the section's header (DWARF 5, section 7.26), which
+-- has 8 bytes, and 16 where offsets have 8
 abbrev pub number_base : ℕ → NumberClass → ℕ → Result ℕ FormFault
 number_base form SecOffset n = Ok n
 number_base form Unsigned n = Ok n
@@ -60,3 +62,32 @@ root_of c declarations first =
     of_form first (base_in c.offset_bytes (value_with DW_AT_str_offsets_base g.values))
     >>= λ (base : ℕ).
     Ok (record { tag = g.tag; language = language; str_base = base })
+
+-- the same by the tree: an entry is the first item of the unit, its root
+abbrev pub root_item : ℕ → Found → Item
+root_item first e = record { at = first; entry = Some e }
+
+abbrev pub IsRootEntry : Within → List Declaration → ℕ → Found → Type 0
+IsRootEntry c declarations first e =
+    (end : ℕ) × IsItem c declarations [] (root_item first e) end
+
+-- what it says of the unit
+pub record RootSays (c : Within) (e : Found) (r : RootInfo) : Type 0 where
+  pub tag : r.tag ≡ e.declaration.tag
+  pub language : language_in (value_with DW_AT_language e.values) ≡ Ok r.language
+  pub base : base_in c.offset_bytes (value_with DW_AT_str_offsets_base e.values) ≡ Ok r.str_base
+
+-- or the first of the two that is of a wrong class
+abbrev pub IsWrong : Within → Found → FormFault → Type 0
+IsWrong c e g =
+    (language_in (value_with DW_AT_language e.values) ≡ Err g)
+    ⊎ ((language : Option ℤ) × (language_in (value_with DW_AT_language e.values) ≡ Ok language)
+    × (base_in c.offset_bytes (value_with DW_AT_str_offsets_base e.values) ≡ Err g))
+
+-- the root of a unit and what it says; or the first item is refused, or a value of the root
+abbrev pub IsRoot : Within → List Declaration → ℕ → Result RootInfo WalkFault → Type 0
+IsRoot c declarations first (Ok r) =
+    (e : Found) × IsRootEntry c declarations first e × RootSays c e r
+IsRoot c declarations first (Err f) =
+    IsRefused c declarations [] first f ⊎ ((e : Found) × IsRootEntry c declarations first e
+    × (g : FormFault) × IsWrong c e g × (f ≡ Form first g))

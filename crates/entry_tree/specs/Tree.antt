@@ -1,12 +1,10 @@
 -- The tree of a unit, by tiling and counting (DWARF 5, sections 7.5.2 and 7.5.3).
 --
 -- The items of a unit follow one another from its first entry on. An item is a null, which is the
--- code 0, or an entry, which is the
--- code of an abbreviation and one value for each of its pairs. The lists open before an item are
--- the entries with children
--- before it, less the nulls before it. The first item is the root. Behind it there are entries only
--- as long as a list is open;
--- after that all items are nulls. The depth of an entry is the number of lists open before it.
+-- code 0, or an entry, which is the code of an abbreviation and one value for each of its pairs. The
+-- lists open before an item are the entries with children before it, less the nulls before it. The
+-- first item is the root. Behind it there are entries only as long as a list is open; after that all
+-- items are nulls. The depth of an entry is the number of lists open before it.
 use Rattle.std.specs.Prelude.{ℕ, ◌≡◌, ◌≢◌, ◌+◌, ◌-◌, ◌<◌, ◌≤◌, ◌↔◌, true, List, [], ◌∷◌, ◌++◌}
 use Rattle.std.specs.Prelude.{length, Option, None, Some, Ok, if◌then◌else◌}
 use Rattle.dw_base.specs.Leb128.{uleb_of}

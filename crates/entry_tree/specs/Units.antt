@@ -1,6 +1,5 @@
 -- The units of .debug_info (DWARF 5, sections 7.4 and 7.5.1; DWARF 4, section 7.5.1.1): their
--- headers follow one another from 0 to the
--- section's end.
+-- headers follow one another from 0 to the section's end.
 use Rattle.std.specs.Prelude.{ℕ, zero, suc, ◌≡◌, ◌+◌, ◌<◌, ◌≤◌, ◌==◌, ◌||◌, nat_lt, nat_le, get_or}
 use Rattle.std.specs.Prelude.{List, [], ◌∷◌, ◌++◌, length, take, Option, None, Some, Result, Ok}
 use Rattle.std.specs.Prelude.{Err, if◌then◌else◌, ⊤}
@@ -42,8 +41,7 @@ pub record IsInside (info : List ℕ) (e : UnitSpan) : Type 0 where
   pub width : HasWidth e.offset_bytes
 
 -- the initial length (section 7.4): 4 bytes; or the escape 0xffffffff and 8 bytes, and then offsets
--- have 8 bytes. From 0xfffffff0
--- on the other values are reserved. The unit ends inside the section.
+-- have 8 bytes. From 0xfffffff0 on the other values are reserved. The unit ends inside the section.
 unfoldable pub extent_at : List ℕ → Order → ℕ → Result UnitSpan UnitFault
 extent_at info order at =
     or_short at (number_of info at 4 order) >>= λ (short : ℕ).
@@ -95,9 +93,8 @@ abbrev pub check_address : ℕ → ℕ → Result ℕ UnitFault
 check_address at size = if size == 4 || size == 8 then Ok size else Err (AddressSize at size)
 
 -- the header of the unit at a place, or the first of its checks that fails: the length, two bytes
--- of version, the version, the
--- whole header of that version inside the unit, the unit's type in version 5, and the size of its
--- addresses
+-- of version, the version, the whole header of that version inside the unit, the unit's type in
+-- version 5, and the size of its addresses
 unfoldable pub unit_at : List ℕ → Order → ℕ → Result Unit UnitFault
 unit_at info order at =
     extent_at info order at >>= λ (e : UnitSpan).

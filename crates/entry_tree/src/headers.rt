@@ -1,4 +1,9 @@
 //! Headers of units.
+//!
+//! Units of DWARF 4 and 5 are read, in one file too. A header of version 4 says no unit type and is
+//! taken for that of a compilation unit: type units of version 4 stand in a section of their own
+//! (`.debug_types`), which is not read, and a partial unit of version 4 shows by its root alone.
+//! Versions 2 and 3 differ in more than the header, and are refused.
 ghost use Rattle.std.specs.Prelude.{◌≡◌, ◌≤◌, ◌<◌, ◌^◌, ◌+◌, length, get_or, IfOk, All};
 ghost use Rattle.dw_base.specs.Numbers.{number_of};
 ghost use Rattle.entry_tree.specs.Units.{extent_of, extent_at, fields_of, check_type, type_in};
@@ -17,9 +22,10 @@ use dwarf_abbrev::constants::{DW_UT_compile, DW_UT_partial};
 use elf_sections::{Image, Kind};
 use std::alloc::Global;
 
-/// The escape to lengths of 8 bytes, and the first reserved length.
+/// The length that escapes to lengths of 8 bytes (section 7.4).
 const LONG: u64 = 0xffff_ffff;
 
+/// The first reserved length.
 const RESERVED: u64 = 0xffff_fff0;
 
 /// How far a unit goes: the offset after its length, the offset after its last byte, and how many
@@ -223,6 +229,8 @@ fn read_units(alloc: Global, info: &[u8], order: Order) -> Result<UnitList, Unit
 /// is cut off; `UnitVersion` where that is neither 4 nor 5; `UnitLength` where the header of that
 /// version passes the unit's end; `UnitType` where a unit of version 5 is neither a compilation
 /// unit nor a partial unit; `AddressSize` where addresses have neither 4 nor 8 bytes.
+///
+/// Its work grows with the number of units.
 pub fn units(alloc: Global, image: &Image<'_>) -> Result<UnitList, UnitFault>
     ensures gives { Gives result (units_of (info_of (file_of image.now))
         (order_of (file_of image.now))) }

@@ -2,7 +2,7 @@
 ghost use Rattle.entry_tree.specs.Tree.{EntriesAreTree};
 ghost use Rattle.entry_tree.specs.Refusals.{FaultsAreFirst};
 ghost use Rattle.entry_tree.specs.Rising.{EntriesRise};
-ghost use Rattle.entry_tree.specs.Firsts.{HasByAbbreviation};
+ghost use Rattle.entry_tree.specs.Attributes.{HasByAbbreviation};
 
 /// A walk gives just the entries of the tree that the items of a unit are, with their depths by
 /// counting.

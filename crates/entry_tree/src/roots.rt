@@ -4,7 +4,7 @@ ghost use Rattle.dwarf_forms.specs.Values.{given as shown};
 ghost use Rattle.elf_sections.specs.Images.{file_of};
 ghost use Rattle.entry_tree.specs.Contexts.{IsUnitOf, within_of};
 ghost use Rattle.std.specs.Option.{option_map};
-ghost use Rattle.entry_tree.specs.Roots.{base_in, language_in, root_of};
+ghost use Rattle.entry_tree.specs.Roots.{base_in, language_in, root_of, IsRoot};
 ghost use Rattle.entry_tree.specs.Items.{of_form};
 
 use crate::contexts::context;
@@ -12,7 +12,7 @@ use crate::fault::WalkFault;
 use crate::unit::Unit;
 use crate::walk::first_entry;
 use dwarf_abbrev::Abbrevs;
-use dwarf_abbrev::constants::{DW_AT_language, DW_AT_str_offsets_base};
+use dwarf_abbrev::constants::{DW_AT_language, DW_AT_str_offsets_base, DwTag};
 use dwarf_forms::{FormFault, FormValue, Given, constant_of};
 use elf_sections::Image;
 
@@ -20,7 +20,7 @@ use elf_sections::Image;
 #[derive(Clone, Copy, PartialEq, Eq)]
 pub struct RootInfo {
     /// DW_TAG_compile_unit or DW_TAG_partial_unit.
-    pub tag: u64,
+    pub tag: DwTag,
     /// The DW_LANG number, where one is given.
     pub language: Option<i128>,
     /// The offset in `.debug_str_offsets` from which the unit's indices count: its
@@ -55,15 +55,19 @@ fn read_base(offset_bytes: u32, given: Option<Given<'_>>) -> Result<u64, FormFau
     }
 }
 
-/// Reads the first entry of a unit of an image. `abbrevs` is the table of the unit's abbreviations.
-///
-/// It is refused by the first of these: `UnitRoot` with tag 0 where the first entry is missing or
-/// null; `Form` where its code is cut off or doesn't fit 64 bits; `AbbrevMissing`; `UnitRoot` where
-/// it is neither a compilation unit nor a partial unit; `Form` for the first value that can't be
-/// read; then `Form` with `WrongClass` where the language is no constant, and where the base of
-/// string offsets is neither an offset of a section nor a constant.
+/// What was read at the root.
+fn at_root<T: Copy>(unit: &Unit, read: Result<T, FormFault>) -> Result<T, WalkFault>
+    ensures { result ≡ of_form unit.now.first read }
+{
+    match read {
+        Ok(value) => Ok(value),
+        Err(fault) => Err(WalkFault::Form(unit.first, fault)),
+    }
+}
+
+/// The root of a unit, piece by piece.
 #[tactic(auto, unfolding(crate::specs::Roots::root_of))]
-pub fn root(image: &Image<'_>, unit: &Unit, abbrevs: &Abbrevs) -> Result<RootInfo, WalkFault>
+fn read_root(image: &Image<'_>, unit: &Unit, abbrevs: &Abbrevs) -> Result<RootInfo, WalkFault>
     requires { IsUnitOf (file_of image.now) unit.now }
     ensures { result ≡ root_of (within_of (file_of image.now) unit.now) abbrevs.now unit.now.first }
 {
@@ -73,18 +77,28 @@ pub fn root(image: &Image<'_>, unit: &Unit, abbrevs: &Abbrevs) -> Result<RootInf
     let base = read_base(unit.offset_bytes, entry.attr(DW_AT_str_offsets_base)?);
     let str_base = at_root(unit, base)?;
     Ok(RootInfo {
-        tag: entry.tag(),
+        tag: entry.tag,
         language,
         str_base,
     })
 }
 
-/// What was read at the root.
-fn at_root<T: Copy>(unit: &Unit, read: Result<T, FormFault>) -> Result<T, WalkFault>
-    ensures { result ≡ of_form unit.now.first read }
+/// Reads the first entry of a unit of an image. `abbrevs` is the table of the unit's abbreviations.
+///
+/// It is refused by the first of these: `UnitRoot` with tag 0 where the first entry is missing or
+/// null; `Form` where its code is cut off or doesn't fit 64 bits; `AbbrevMissing`; `UnitRoot` where
+/// it is neither a compilation unit nor a partial unit; `Form` for the first value that can't be
+/// read; then `Form` with `WrongClass` where the language is no constant, and where the base of
+/// string offsets is neither an offset of a section nor a constant. Language and base are read
+/// whatever the unit's language is, and nothing behind the first entry is.
+///
+/// Its work grows as that of `Walk::next` at the first entry and of `Entry::attr`, twice.
+pub fn root(image: &Image<'_>, unit: &Unit, abbrevs: &Abbrevs) -> Result<RootInfo, WalkFault>
+    requires { IsUnitOf (file_of image.now) unit.now }
+    ensures gives { result
+        ≡ root_of (within_of (file_of image.now) unit.now) abbrevs.now unit.now.first }
+    ensures tree { IsRoot (within_of (file_of image.now) unit.now) abbrevs.now unit.now.first
+        result }
 {
-    match read {
-        Ok(value) => Ok(value),
-        Err(fault) => Err(WalkFault::Form(unit.first, fault)),
-    }
+    read_root(image, unit, abbrevs)
 }

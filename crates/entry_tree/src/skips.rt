@@ -1,16 +1,16 @@
 //! Passing the values of an entry.
-ghost use Rattle.std.specs.Prelude.{◌≡◌, ◌+◌, ℕ, Some, Ok, IfSome, take};
+ghost use Rattle.std.specs.Prelude.{◌≡◌, ◌+◌, ◌≤◌, ◌<◌, ℕ, Some, Ok, IfSome, take, length};
 ghost use Rattle.dwarf_abbrev.specs.Sizes.{total};
-ghost use Rattle.dwarf_abbrev.specs.ValueMaps.{IsMapOf};
-ghost use Rattle.dwarf_forms.specs.Values.{IsContext, within};
+ghost use Rattle.dwarf_abbrev.specs.ValueMaps.{IsRun};
+ghost use Rattle.dwarf_forms.specs.Values.{within};
 ghost use Rattle.entry_tree.specs.Reads.{ends_at};
 
-use dwarf_abbrev::{Size, Spec, ValueMap};
+use dw_base::InfoOffset;
+use dwarf_abbrev::{Abbrev, FixedRun, Spec};
 use dwarf_forms::{FormCtx, FormFault, skip, unit_of};
 
 /// The place after the values of some pairs, value by value.
-fn skip_all(ctx: &FormCtx<'_>, specs: &[Spec], at: u64) -> Result<u64, FormFault>
-    requires { IsContext ctx.now }
+fn skip_all(ctx: &FormCtx<'_>, specs: &[Spec], at: InfoOffset) -> Result<InfoOffset, FormFault>
     ensures { result ≡ ends_at (within ctx.now) specs.now at }
 {
     let mut at = at;
@@ -20,40 +20,25 @@ fn skip_all(ctx: &FormCtx<'_>, specs: &[Spec], at: u64) -> Result<u64, FormFault
     Ok(at)
 }
 
-/// The bytes of a size.
+/// The bytes of a run.
 #[inline(always)]
-fn bytes_in(ctx: &FormCtx<'_>, size: Size) -> u64
-    requires { IsContext ctx.now }
-    ensures { result ≡ total ctx.now.offset_bytes ctx.now.address_bytes size }
+fn bytes_in(ctx: &FormCtx<'_>, run: FixedRun) -> u64
+    ensures { result ≡ total ctx.now.offset_bytes ctx.now.address_bytes run }
 {
-    u64::from(size.bytes)
-        + u64::from(size.offsets) * u64::from(ctx.offset_bytes)
-        + u64::from(size.addresses) * u64::from(ctx.address_bytes)
+    u64::from(run.bytes)
+        + u64::from(run.offsets) * u64::from(ctx.offset_bytes)
+        + u64::from(run.addresses) * u64::from(ctx.address_bytes)
 }
 
-/// The place after the values of the first `count` pairs, by one addition, where the place after
-/// those of the first `reached` is known. `None` where a value without a fixed width stands
-/// between, and where the values do not all lie in the unit.
+/// The place after the values of a run that begins at `at`, by one addition. `None` where they do
+/// not all lie in the unit.
 #[inline(always)]
-fn place_behind_run(
-    ctx: &FormCtx<'_>,
-    specs: &[Spec],
-    map: &ValueMap,
-    reached: usize,
-    at: u64,
-    count: usize,
-) -> Option<u64>
-    requires context { IsContext ctx.now }
-    requires map { IsMapOf specs.now map.now }
-    ensures { IfSome result (λ end. (from : ℕ)
-        → ends_at (within ctx.now) (take reached specs.now) from ≡ Ok at
-        → ends_at (within ctx.now) (take count specs.now) from ≡ Ok end) }
+fn place_behind_run(ctx: &FormCtx<'_>, run: FixedRun, at: InfoOffset) -> Option<InfoOffset>
+    ensures sum { IfSome result
+        (λ end. end ≡ at + total ctx.now.offset_bytes ctx.now.address_bytes run) }
+    ensures inside { IfSome result (λ end. end ≤ length (within ctx.now).unit) }
 {
-    let run = map.runs.get(count)?;
-    if run.from != reached {
-        return None;
-    }
-    let sum = bytes_in(ctx, run.size);
+    let sum = bytes_in(ctx, run);
     let length = unit_of(ctx).len() as u64;
     if at <= length && sum <= length - at {
         Some(at + sum)
@@ -64,8 +49,12 @@ fn place_behind_run(
 
 /// The place after a value, where it can be read.
 #[inline(always)]
-fn place_behind_value(ctx: &FormCtx<'_>, specs: &[Spec], index: usize, at: u64) -> Option<u64>
-    requires { IsContext ctx.now }
+fn place_behind_value(
+    ctx: &FormCtx<'_>,
+    specs: &[Spec],
+    index: usize,
+    at: InfoOffset,
+) -> Option<InfoOffset>
     ensures { IfSome result (λ end. (from : ℕ)
         → ends_at (within ctx.now) (take index specs.now) from ≡ Ok at
         → ends_at (within ctx.now) (take (index + 1) specs.now) from ≡ Ok end) }
@@ -77,68 +66,115 @@ fn place_behind_value(ctx: &FormCtx<'_>, specs: &[Spec], index: usize, at: u64) 
     }
 }
 
+/// The run that begins with the value `start`. That is known at once where only the last value
+/// before `end` has no fixed width.
+fn run_before(abbreviation: &Abbrev<'_>, start: usize, end: usize) -> FixedRun
+    requires { start < end }
+    ensures { IsRun abbreviation.now.specs.now (start + result.values) result }
+{
+    match abbreviation.run_to(end - 1) {
+        Some(run) if run.values as usize == end - 1 - start => run,
+        _ => abbreviation.run_from(start),
+    }
+}
+
 /// The place after the values of the first `count` pairs: the values without a fixed width are
 /// passed one by one, those between them by one addition. `None` where one can't be read.
-fn place_behind_loose(
+fn place_behind_runs(
     ctx: &FormCtx<'_>,
-    specs: &[Spec],
-    map: &ValueMap,
+    abbreviation: &Abbrev<'_>,
     count: usize,
-    from: u64,
-) -> Option<u64>
-    requires context { IsContext ctx.now }
-    requires map { IsMapOf specs.now map.now }
-    ensures { IfSome result (λ end. ends_at (within ctx.now) (take count specs.now) from ≡ Ok end) }
+    from: InfoOffset,
+) -> Option<InfoOffset>
+    ensures { IfSome result
+        (λ end. ends_at (within ctx.now) (take count abbreviation.now.specs.now) from ≡ Ok end) }
 {
+    let last = abbreviation.run_to(count)?;
+    let tail = count - last.values as usize;
     let mut reached = 0;
     let mut at = from;
-    for loose in map.loose.as_slice() {
-        let index = *loose;
-        if index >= count {
-            return place_behind_run(ctx, specs, map, reached, at, count);
+    'runs: while reached < tail {
+        let run = run_before(abbreviation, reached, tail);
+        let values = run.values as usize;
+        if values >= tail - reached {
+            return None;
         }
-        let start = place_behind_run(ctx, specs, map, reached, at, index)?;
-        at = place_behind_value(ctx, specs, index, start)?;
+        let index = reached + values;
+        let start = place_behind_run(ctx, run, at)?;
+        at = place_behind_value(ctx, abbreviation.specs, index, start)?;
         reached = index + 1;
     }
-    place_behind_run(ctx, specs, map, reached, at, count)
+    if reached != tail {
+        return None;
+    }
+    place_behind_run(ctx, last, at)
+}
+
+/// The place after the values of the first `count` pairs, where not all of them have a fixed width
+/// or one can't be read. It is refused as the values are, one after the other.
+#[inline(never)]
+fn place_behind_mixed(
+    ctx: &FormCtx<'_>,
+    abbreviation: &Abbrev<'_>,
+    count: usize,
+    from: InfoOffset,
+) -> Result<InfoOffset, FormFault>
+    requires { count ≤ length abbreviation.now.specs.now }
+    ensures { result ≡ ends_at (within ctx.now) (take count abbreviation.now.specs.now) from }
+{
+    match place_behind_runs(ctx, abbreviation, count, from) {
+        Some(end) => Ok(end),
+        // value by value, for the fault of the first that can't be read
+        None => skip_all(ctx, &abbreviation.specs[..count], from),
+    }
+}
+
+/// The place after the values of the first `count` pairs, where all of them have a fixed width and
+/// lie in the unit.
+#[inline(always)]
+fn place_behind_fixed(
+    ctx: &FormCtx<'_>,
+    abbreviation: &Abbrev<'_>,
+    count: usize,
+    from: InfoOffset,
+) -> Option<InfoOffset>
+    ensures { IfSome result
+        (λ end. ends_at (within ctx.now) (take count abbreviation.now.specs.now) from ≡ Ok end) }
+{
+    let run = abbreviation.run_to(count)?;
+    if run.values as usize == count {
+        place_behind_run(ctx, run, from)
+    } else {
+        None
+    }
 }
 
 /// The place after the values of the first `count` pairs, by one addition where all of them have a
-/// fixed width. `None` where one can't be read.
+/// fixed width. It is refused as the values are, one after the other.
 #[inline(always)]
 pub(crate) fn place_behind(
     ctx: &FormCtx<'_>,
-    specs: &[Spec],
-    map: &ValueMap,
+    abbreviation: &Abbrev<'_>,
     count: usize,
-    from: u64,
-) -> Option<u64>
-    requires context { IsContext ctx.now }
-    requires map { IsMapOf specs.now map.now }
-    ensures { IfSome result (λ end. ends_at (within ctx.now) (take count specs.now) from ≡ Ok end) }
+    from: InfoOffset,
+) -> Result<InfoOffset, FormFault>
+    requires { count ≤ length abbreviation.now.specs.now }
+    ensures { result ≡ ends_at (within ctx.now) (take count abbreviation.now.specs.now) from }
 {
-    match place_behind_run(ctx, specs, map, 0, from, count) {
-        Some(end) => Some(end),
-        None => place_behind_loose(ctx, specs, map, count, from),
+    match place_behind_fixed(ctx, abbreviation, count, from) {
+        Some(end) => Ok(end),
+        None => place_behind_mixed(ctx, abbreviation, count, from),
     }
 }
 
-/// The place after the values of some pairs. It is refused as the values are, one after the other.
+/// The place after the values of all pairs. It is refused as the values are, one after the other.
 #[inline(always)]
 pub(crate) fn skip_values(
     ctx: &FormCtx<'_>,
-    specs: &[Spec],
-    map: &ValueMap,
-    at: u64,
-) -> Result<u64, FormFault>
-    requires context { IsContext ctx.now }
-    requires map { IsMapOf specs.now map.now }
-    ensures { result ≡ ends_at (within ctx.now) specs.now at }
+    abbreviation: &Abbrev<'_>,
+    at: InfoOffset,
+) -> Result<InfoOffset, FormFault>
+    ensures { result ≡ ends_at (within ctx.now) abbreviation.now.specs.now at }
 {
-    match place_behind(ctx, specs, map, specs.len(), at) {
-        Some(end) => Ok(end),
-        // value by value, for the fault of the first that can't be read
-        None => skip_all(ctx, specs, at),
-    }
+    place_behind(ctx, abbreviation, abbreviation.specs.len(), at)
 }

@@ -1,5 +1,5 @@
 //! Units of `.debug_info`, and why a header is refused.
-use dw_base::Listed;
+use dw_base::{InfoOffset, Listed};
 use std::alloc::AllocFailed;
 use thiserror::Error;
 
@@ -8,11 +8,11 @@ use thiserror::Error;
 #[derive(Clone, Copy, Debug, PartialEq, Eq)]
 pub struct Unit {
     /// The offset of the unit's first byte.
-    pub at: u64,
+    pub at: InfoOffset,
     /// The offset of its first entry.
-    pub first: u64,
+    pub first: InfoOffset,
     /// The offset after its last byte.
-    pub end: u64,
+    pub end: InfoOffset,
     /// The offset of its abbreviations in `.debug_abbrev`.
     pub abbrev_at: u64,
     /// How many bytes its addresses have, 4 or 8.

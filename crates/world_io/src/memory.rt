@@ -128,9 +128,9 @@ impl World for MemoryWorld {
         self.turn = self.turn.saturating_add(1);
         let file = find(self.files.items(), name.as_bytes());
         if stop.is_none() {
-            return give(file, most, into);
+            return load_whole(file, most, into);
         }
-        if give_part(file, most, stop, into).is_err() {
+        if load_part(file, most, stop, into).is_err() {
             return Err(LoadFault::Memory);
         }
         self.faults.loads = self.faults.loads.saturating_add(1);
@@ -183,10 +183,10 @@ impl World for MemoryWorld {
         self.calls = self.calls.saturating_add(1);
         let stop = takes_at(self.stops.items(), self.turn);
         self.turn = self.turn.saturating_add(1);
-        let Ok(file) = held(self.alloc, name.as_bytes(), part_of(bytes, stop)) else {
+        let Ok(file) = new_file(self.alloc, name.as_bytes(), part_of(bytes, stop)) else {
             return Err(OutFault::Memory);
         };
-        if put(&mut self.stored, file).is_err() {
+        if put_first(&mut self.stored, file).is_err() {
             return Err(OutFault::Memory);
         }
         if stop.is_some() {
@@ -245,7 +245,7 @@ fn front(bytes: &[u8], most: u64) -> &[u8]
 }
 
 /// Copies a file's bytes, where there is no stop.
-fn give(file: Option<&[u8]>, most: u64, into: &mut Vec<u8>) -> Result<(), LoadFault>
+fn load_whole(file: Option<&[u8]>, most: u64, into: &mut Vec<u8>) -> Result<(), LoadFault>
     requires most { most < 2 ^ 32 }
     requires empty { into.old.items ≡ [] }
     ensures few { OnOk result (length into.new.items ≤ most) }
@@ -276,7 +276,7 @@ fn give(file: Option<&[u8]>, most: u64, into: &mut Vec<u8>) -> Result<(), LoadFa
 }
 
 /// Copies what a load takes before it fails.
-fn give_part(
+fn load_part(
     file: Option<&[u8]>,
     most: u64,
     stop: Option<u64>,
@@ -296,7 +296,7 @@ fn give_part(
 }
 
 /// A file made of copies.
-fn held(alloc: Global, name: &[u8], bytes: &[u8]) -> Result<HeldFile, AllocError>
+fn new_file(alloc: Global, name: &[u8], bytes: &[u8]) -> Result<HeldFile, AllocError>
     ensures { IfOk result (λ f. (f.name ≡ name.now) × (f.bytes ≡ bytes.now)) }
 {
     Ok(HeldFile {
@@ -306,7 +306,7 @@ fn held(alloc: Global, name: &[u8], bytes: &[u8]) -> Result<HeldFile, AllocError
 }
 
 /// Puts a file before the others, so that it counts.
-fn put(files: &mut Vec<HeldFile>, file: HeldFile) -> Result<(), AllocError>
+fn put_first(files: &mut Vec<HeldFile>, file: HeldFile) -> Result<(), AllocError>
     ensures ok { OnOk result (files.new.items ≡ file ∷ files.old.items) }
     ensures err { OnErr result (files.new.items ≡ files.old.items) }
 {
