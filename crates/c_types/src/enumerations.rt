@@ -3,7 +3,6 @@ ghost use Rattle.std.specs.Prelude.{◌≡◌, ◌++◌, [], ◌∷◌, ◌||◌
 ghost use Rattle.std.specs.Prelude.{OnOk, IfOk, IfSome, if◌then◌else◌};
 ghost use Rattle.c_model.specs.declared.kinds.TheConstants.{BTF_KIND_ENUM, BTF_KIND_ENUM64};
 ghost use Rattle.dwarf_abbrev.specs.declared.constants.TheConstants.{DW_AT_declaration};
-ghost use Rattle.dwarf_forms.specs.Values.{IsContext};
 ghost use Rattle.dwarf_forms.specs.Meanings.{Sections, sections, Fits64};
 ghost use Rattle.type_attributes.specs.Scopes.{scope};
 ghost use Rattle.type_attributes.specs.Faults.{noted};
@@ -121,7 +120,6 @@ fn meet_enumerator<'a>(
     enumerator: &Entry<'_, 'a>,
     parent: &mut OpenEnumeration<'a>,
 ) -> Result<(), AllocError>
-    requires { IsContext ctx.now }
     ensures has_some { OnOk result (parent.new.has_some ≡ true) }
     ensures has_negative { OnOk result (parent.new.has_negative
         ≡ (parent.old.has_negative || is_negative enumerator.now)) }
@@ -179,7 +177,6 @@ pub(crate) fn meet_enumeration<'a>(
     child: &Entry<'_, 'a>,
     parent: &mut OpenEnumeration<'a>,
 ) -> Result<(), AllocError>
-    requires { IsContext ctx.now }
     ensures { OnOk result
         (GathersEnumerator (sections ctx.now) child.now parent.old parent.new) }
 {
@@ -323,7 +320,6 @@ pub(crate) fn open_enumeration<'a>(
     entry: &Entry<'_, 'a>,
     declared: Option<TypeFault>,
 ) -> OpenEnumeration<'a>
-    requires context { IsContext ctx.now.form }
     requires defined { is_set (flag_asked DW_AT_declaration entry.now) ≡ false }
     requires declared { declared ≡ noted None (flag_asked DW_AT_declaration entry.now).refused }
     ensures { ComesTo (scope ctx.now) (Enumeration result)
@@ -358,7 +354,6 @@ pub(crate) fn declared_enumeration<'a>(
     entry: &Entry<'_, 'a>,
     least: &mut Option<TypeFault>,
 ) -> SourceType<'a>
-    requires context { IsContext ctx.now }
     ensures made { result ≡ (bare_row (name_in_full (name_asked (sections ctx.now)
         entry.now)) entry.now true).made }
     ensures noted { least.new ≡ noted least.old ((name_asked (sections ctx.now)

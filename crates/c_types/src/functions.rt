@@ -1,6 +1,5 @@
 //! Subroutine types.
 ghost use Rattle.std.specs.Prelude.{◌≡◌, ◌++◌, [], ◌∷◌, ◌||◌, ◌==◌, OnOk, IfOk};
-ghost use Rattle.dwarf_forms.specs.Values.{IsContext};
 ghost use Rattle.dwarf_forms.specs.Meanings.{Sections, sections};
 ghost use Rattle.type_attributes.specs.Scopes.{scope};
 ghost use Rattle.type_attributes.specs.Faults.{noted};
@@ -31,7 +30,6 @@ fn meet_parameter<'a>(
     child: &Entry<'_, 'a>,
     parent: &mut OpenFunction<'a>,
 ) -> Result<(), AllocError>
-    requires { IsContext ctx.now }
     ensures parts { OnOk result (parent.new.parts.items ≡ parent.old.parts.items
         ++ parameter_part (sections ctx.now) child.now ∷ []) }
     ensures targets { OnOk result (parent.new.targets.items ≡ parent.old.targets.items
@@ -59,7 +57,6 @@ pub(crate) fn meet_function<'a>(
     child: &Entry<'_, 'a>,
     parent: &mut OpenFunction<'a>,
 ) -> Result<(), AllocError>
-    requires { IsContext ctx.now }
     ensures { OnOk result
         (GathersParameter (sections ctx.now) child.now parent.old parent.new) }
 {
@@ -156,7 +153,6 @@ pub(crate) fn open_function<'a>(
     ctx: &UnitCtx<'_, 'a>,
     entry: &Entry<'_, 'a>,
 ) -> Result<OpenFunction<'a>, AllocError>
-    requires { IsContext ctx.now.form }
     ensures { IfOk result (λ o. ComesTo (scope ctx.now) (Function o)
         (function_row (sections ctx.now.form) entry.now)) }
 {
