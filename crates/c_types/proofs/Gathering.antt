@@ -2,7 +2,6 @@
 use Rattle.std.proofs.Common.{◌≡◌, ℕ, ◌==◌, ◌||◌, ◌&&◌, Bool, true, false, List, [], ◌∷◌, ◌++◌, map}
 use Rattle.std.proofs.Common.{Option, if◌then◌else◌, refl, sym, ap, ◌∙◌, append_assoc}
 use Rattle.std.proofs.lemmas.List.{append-nil}
-use Rattle.std.proofs.Math.Bool.{or-false}
 use Rattle.entry_tree.specs.Items.{Given}
 use Rattle.type_attributes.specs.declared.fault.TypeFault.{TypeFault}
 use Rattle.type_attributes.specs.Faults.{noted}
@@ -49,11 +48,6 @@ notes tag refused old new e o after all took made h =
     (sym (one_refused refused e (tagged tag new) (e.tag == tag)))
     ∙ sym (ap (λ (ks : List Given). noted o (refused_by refused (tagged tag ks))) took) ∙ h
 
-pub has_noted : (tag : ℕ) (refused : Given → List TypeFault) (kids : List Given) (o all : Option
-    TypeFault) → kids ≡ [] → noted o (refused_by refused (tagged tag kids)) ≡ all → o ≡ all
-has_noted tag refused kids o all none h =
-    sym (ap (λ (ks : List Given). noted o (refused_by refused (tagged tag ks))) none) ∙ h
-
 -- whether one so far, or one that is left, passes a test
 pub tests : (test : Given → Bool) (old new : List Given) (e : Given) (b after all : Bool)
     → old ≡ e ∷ new → after ≡ (b || test e) → (b || some_is test old) ≡ all
@@ -61,11 +55,6 @@ pub tests : (test : Given → Bool) (old new : List Given) (e : Given) (b after 
 tests test old new e b after all took made h =
     ap (λ (x : Bool). x || some_is test new) made ∙ sym (or_assoc b (test e) (some_is test new))
     ∙ sym (ap (λ (ks : List Given). b || some_is test ks) took) ∙ h
-
-pub has_tested : (test : Given → Bool) (kids : List Given) (b all : Bool) → kids ≡ []
-    → (b || some_is test kids) ≡ all → b ≡ all
-has_tested test kids b all none h =
-    sym (or-false b) ∙ sym (ap (λ (ks : List Given). b || some_is test ks) none) ∙ h
 
 one_test : (test : Given → Bool) (e : Given) (es : List Given) (t : Bool)
     → some_is test (if t then e ∷ es else es) ≡ ((t && test e) || some_is test es)
@@ -81,8 +70,3 @@ tag_tests tag test old new e b after all took made h =
     ∙ sym (or_assoc b (e.tag == tag && test e) (some_is test (tagged tag new)))
     ∙ ap (λ (x : Bool). b || x) (sym (one_test test e (tagged tag new) (e.tag == tag)))
     ∙ sym (ap (λ (ks : List Given). b || some_is test (tagged tag ks)) took) ∙ h
-
-pub tag_tested : (tag : ℕ) (test : Given → Bool) (kids : List Given) (b all : Bool) → kids ≡ []
-    → (b || some_is test (tagged tag kids)) ≡ all → b ≡ all
-tag_tested tag test kids b all none h =
-    sym (or-false b) ∙ sym (ap (λ (ks : List Given). b || some_is test (tagged tag ks)) none) ∙ h

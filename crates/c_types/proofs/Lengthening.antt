@@ -120,7 +120,3 @@ extends l more all old new e took made h =
     ∙ sym (extend_one l e (tagged DW_TAG_subrange_type new)
     (e.tag == DW_TAG_subrange_type))
     ∙ sym (ap (λ (ks : List Given). extended l (lengths_of ks)) took) ∙ h
-
-pub extended_all : (l all : Lengths) (kids : List Given) → kids ≡ []
-    → extended l (lengths_of kids) ≡ all → l ≡ all
-extended_all l all kids none h = sym (ap (λ (ks : List Given). extended l (lengths_of ks)) none) ∙ h

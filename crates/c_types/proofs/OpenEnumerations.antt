@@ -35,7 +35,7 @@ unfolding enumeration_made
 made_is c o kids = refl
 
 refused_is : (c : Sections) (o : OpenEnumeration) (kids : List Given)
-    → enumeration_refused c o kids ≡ (if ends_bare o kids then o.bare
+    → enumeration_refused c o kids ≡ (if ends_bare o kids then o.fault_if_bare
     else enumerated c o (all_negative o kids) (length (all_enumerators c o kids)) kids)
 unfolding enumeration_refused
 refused_is c o kids = refl
@@ -53,7 +53,7 @@ made_closed c o =
     made_is c o [] ∙ rw (s, n, p) refl
 
 pub refused_closed : (c : Sections) (o : OpenEnumeration)
-    → enumeration_refused c o [] ≡ (if is_bare_now o then o.bare
+    → enumeration_refused c o [] ≡ (if is_bare_now o then o.fault_if_bare
     else noted (own_sign o o.has_negative) (too_many o.at (length o.parts.items)))
 refused_closed c o =
     let s : all_some o [] ≡ o.has_some = or-false o.has_some in
@@ -62,11 +62,11 @@ refused_closed c o =
     refused_is c o [] ∙ rw (s, n, p) refl
 
 pub own_signed : (o : OpenEnumeration) → o.has_negative ≡ true
-    → own_sign o o.has_negative ≡ o.signed
+    → own_sign o o.has_negative ≡ o.fault_if_signed
 own_signed o e = rw e refl
 
 pub own_unsigned : (o : OpenEnumeration) → o.has_negative ≡ false
-    → own_sign o o.has_negative ≡ o.unsigned
+    → own_sign o o.has_negative ≡ o.fault_if_unsigned
 own_unsigned o e = rw e refl
 
 -- a child is met
@@ -152,11 +152,13 @@ pub record IsFresh (c : Sections) (e : Given) (o : OpenEnumeration) : Type 0 whe
   pub has_some : o.has_some ≡ false
   pub has_negative : o.has_negative ≡ false
   pub parts : o.parts.items ≡ []
-  pub bare : o.bare
+  pub bare : o.fault_if_bare
       ≡ noted (noted None (flag_asked DW_AT_declaration e).refused) (name_asked c e).refused
-  pub unsigned : o.unsigned ≡ noted (noted o.bare (constant_asked DW_AT_byte_size e).refused)
+  pub unsigned : o.fault_if_unsigned
+      ≡ noted (noted o.fault_if_bare (constant_asked DW_AT_byte_size e).refused)
       (enum_size_refused e.at (constant_asked DW_AT_byte_size e).said)
-  pub signed : o.signed ≡ noted (noted o.bare (constant_asked DW_AT_byte_size e).refused)
+  pub signed : o.fault_if_signed
+      ≡ noted (noted o.fault_if_bare (constant_asked DW_AT_byte_size e).refused)
       (enum_size_refused e.at (constant_asked DW_AT_byte_size e).said)
 
 abbrev named : Sections → Given → List ℕ
@@ -197,7 +199,8 @@ made_way : (c : Sections) (e : Given) (bare negative : Bool) (enumerators : List
 made_way c e true negative enumerators = refl
 made_way c e false negative enumerators = refl
 
-fresh_own : (o : OpenEnumeration) (x : Option TypeFault) (b : Bool) → o.unsigned ≡ x → o.signed ≡ x
+fresh_own : (o : OpenEnumeration) (x : Option TypeFault) (b : Bool) → o.fault_if_unsigned ≡ x
+    → o.fault_if_signed ≡ x
     → own_sign o b ≡ x
 fresh_own o x true p q = q
 fresh_own o x false p q = p
@@ -213,7 +216,7 @@ by_way true x y fs r q h k = h
 by_way false x y fs r q h k = k
 
 module _ (c : Sections) (e : Given) (o : OpenEnumeration) (h : IsFresh c e o) where
-  bare_way : o.bare
+  bare_way : o.fault_if_bare
       ≡ noted None (((flag_asked DW_AT_declaration e).refused ++ (name_asked c e).refused)
       ++ (bare_row (named c e) e false).refused)
   bare_way =

@@ -56,10 +56,10 @@ refused_closed c o =
     let m : all_members c o [] ≡ o.members.items = append-nil o.members.items in
     refused_is c o [] ∙ rw (f, m) refl
 
-pub own_packed : (o : OpenStructure) → o.fields ≡ true → own o o.fields ≡ o.packed
+pub own_packed : (o : OpenStructure) → o.fields ≡ true → own o o.fields ≡ o.fault_if_packed
 own_packed o e = rw e refl
 
-pub own_plain : (o : OpenStructure) → o.fields ≡ false → own o o.fields ≡ o.plain
+pub own_plain : (o : OpenStructure) → o.fields ≡ false → own o o.fields ≡ o.fault_if_plain
 own_plain o e = rw e refl
 
 -- a child is met
@@ -140,8 +140,8 @@ pub record IsFresh (c : Scope) (union : Bool) (e : Given) (found : Option TypeFa
   pub is_union : o.is_union ≡ union
   pub name : o.name ≡ name_in_full (name_asked c.sections e)
   pub size : o.size ≡ size_in (constant_asked DW_AT_byte_size e).said
-  pub plain : o.plain ≡ found
-  pub packed : o.packed ≡ found
+  pub plain : o.fault_if_plain ≡ found
+  pub packed : o.fault_if_packed ≡ found
 
 fresh_made : (c : Scope) (union : Bool) (e : Given) (found : Option TypeFault) (o : OpenStructure)
     (kids : List Given) → IsFresh c union e found o
@@ -158,8 +158,8 @@ fresh_made c union e found o kids h =
       parts_same c (has_fields (tagged DW_TAG_member kids)) (tagged DW_TAG_member kids),
     ) refl
 
-fresh_own : (o : OpenStructure) (found : Option TypeFault) (b : Bool) → o.plain ≡ found
-    → o.packed ≡ found → own o b ≡ found
+fresh_own : (o : OpenStructure) (found : Option TypeFault) (b : Bool) → o.fault_if_plain ≡ found
+    → o.fault_if_packed ≡ found → own o b ≡ found
 fresh_own o found true p q = q
 fresh_own o found false p q = p
 

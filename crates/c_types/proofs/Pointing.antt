@@ -4,9 +4,8 @@ use Rattle.std.proofs.Common.{◌++◌, length, Option, None, Some, is_some, if�
 use Rattle.std.proofs.Common.{ap, ◌∙◌, subst, arith}
 use Rattle.std.specs.Prelude.{slice_get, slice_set, take}
 use Rattle.std.proofs.lemmas.Bool.{eqb-true, eqb-false, eq-eqb, ne_eqb}
-use Rattle.std.proofs.lemmas.List.{length-append}
 use Rattle.std.proofs.lemmas.Option.{none-some, same_Some, slice_get_within, get_or_from_slice_get}
-use Rattle.std.proofs.lemmas.List.Elements.{All-head, All-tail, All-push, All-weaker}
+use Rattle.std.proofs.lemmas.List.Elements.{All-head, All-tail}
 use Rattle.std.proofs.Math.Seq.{set-append_seam}
 use Rattle.dwarf_forms.specs.Meanings.{Sections}
 use Rattle.entry_tree.specs.Items.{Given}
@@ -31,7 +30,7 @@ use Rattle.c_types.specs.Pointers.{is_type_tag, own_target, link_to, pointer_row
 use Rattle.c_types.specs.Pointers.{pointed_in, tag_asked, tag_in, tag_type, tag_made}
 use Rattle.c_types.specs.Opened.{pointer_by, pointer_made, kept_made, kept_refused, ComesTo}
 use Rattle.c_types.specs.Types.{listed}
-use Rattle.c_types.specs.Walking.{made_at, refused_at, filled, least_of, AreNested, ArePlaced}
+use Rattle.c_types.specs.Walking.{made_at, refused_at, filled, least_of, AreNested}
 use Rattle.c_types.specs.Walking.{AreAbove, opened_pointer, with_last, IsComplete, pointer_in}
 use Rattle.c_types.specs.Walking.{own_of, pointed_at}
 use Rattle.c_types.proofs.Stack as stack
@@ -42,7 +41,8 @@ use Rattle.c_types.proofs.OpenPointers.{pointer_linked, tag_told}
 
 push_one : (p o : Open) (d : ℕ) (a x y : Option Target) (t s : Bool) → (p.depth + 1 == d) ≡ t
     → (o.depth + 1 == d) ≡ s → p.depth < o.depth → x ≡ (if s then a else y)
-    → (if t then own_of p.kept else x) ≡ (if s then a else (if t then own_of p.kept else y))
+    → (if t then own_of p.open_type else x)
+    ≡ (if s then a else (if t then own_of p.open_type else y))
 push_one p o d a x y true true e f lt h = let m : p.depth + 1 ≡ d = eqb-true (p.depth + 1) d e in
     let n : o.depth + 1 ≡ d = eqb-true (o.depth + 1) d f in absurd (omega (arith, m, n, lt))
 push_one p o d a x y true false e f lt h = refl
@@ -50,10 +50,11 @@ push_one p o d a x y false s e f lt h = h
 
 -- one open type more, deeper than all others
 pub pointed_push : (os : List Open) (o : Open) (d : ℕ) → AreAbove o.depth os
-    → pointed_at (os ++ o ∷ []) d ≡ (if o.depth + 1 == d then own_of o.kept else pointed_at os d)
+    → pointed_at (os ++ o ∷ []) d
+    ≡ (if o.depth + 1 == d then own_of o.open_type else pointed_at os d)
 pointed_push [] o d above = refl
 pointed_push (p ∷ os) o d above =
-    push_one p o d (own_of o.kept) (pointed_at (os ++ o ∷ []) d) (pointed_at os d) (p.depth + 1
+    push_one p o d (own_of o.open_type) (pointed_at (os ++ o ∷ []) d) (pointed_at os d) (p.depth + 1
     == d) (o.depth + 1 == d) refl refl (All-head (λ (q : Open). q.depth < o.depth) p os above)
     (pointed_push os o d (All-tail (λ (q : Open). q.depth < o.depth) p os above))
 
@@ -63,7 +64,8 @@ pub pointed_pop : (os : List Open) (o : Open) (d : ℕ) → d ≤ o.depth
 pointed_pop [] o d le = let no : (o.depth + 1 == d) ≡ false =
     ne_eqb (o.depth + 1) d (λ (p : o.depth + 1 ≡ d). omega (arith, p, le)) in rw no refl
 pointed_pop (p ∷ os) o d le = ap
-    (λ (x : Option Target). if p.depth + 1 == d then own_of p.kept else x) (pointed_pop os o d le)
+    (λ (x : Option Target). if p.depth + 1 == d then own_of p.open_type else x)
+    (pointed_pop os o d le)
 
 -- none is deep enough
 pub pointed_far : (os : List Open) (d : ℕ) → AreFar d os → pointed_at os d ≡ None
@@ -89,14 +91,15 @@ pointed_unopened os k d above = unopened os k d (k + 1 == d) refl above
 
 -- the last of some that are nested is the only one in which an entry may stand directly
 pub pointed_last : (os : List Open) (o : Open) (k : ℕ) → AreNested (os ++ o ∷ []) → o.depth < k
-    → pointed_at (os ++ o ∷ []) k ≡ (if o.depth + 1 == k then own_of o.kept else None)
+    → pointed_at (os ++ o ∷ []) k ≡ (if o.depth + 1 == k then own_of o.open_type else None)
 pointed_last os o k nested lt =
     let above = (nested_pop os o nested).1 in
-    pointed_push os o k above ∙ ap (λ (x : Option Target). if o.depth + 1 == k then own_of o.kept
+    pointed_push os o k above
+    ∙ ap (λ (x : Option Target). if o.depth + 1 == k then own_of o.open_type
     else x) (pointed_far os k (above_far os o.depth k lt above))
 
 pub pointed_here : (os : List Open) (o : Open) (k : ℕ) → AreNested (os ++ o ∷ []) → o.depth + 1 ≡ k
-    → pointed_at (os ++ o ∷ []) k ≡ own_of o.kept
+    → pointed_at (os ++ o ∷ []) k ≡ own_of o.open_type
 pointed_here os o k nested one =
     let same : (o.depth + 1 == k) ≡ true = eq-eqb (o.depth + 1) k one in
     pointed_last os o k nested (omega (arith, one)) ∙ rw same refl
@@ -111,14 +114,14 @@ none_if false = refl
 
 -- where it is a pointer, and where it is none
 pub stands_in : (os : List Open) (o : Open) (k : ℕ) (own : Target) → AreNested (os ++ o ∷ [])
-    → o.depth < k → own_of o.kept ≡ Some own
+    → o.depth < k → own_of o.open_type ≡ Some own
     → is_some (pointed_at (os ++ o ∷ []) k) ≡ (o.depth + 1 == k)
 stands_in os o k own nested lt is = ap (λ (x : Option Target). is_some x) (pointed_last os o k
     nested lt ∙ ap (λ (x : Option Target). if o.depth + 1 == k then x else None) is)
     ∙ some_if (o.depth + 1 == k) own
 
 pub stands_out : (os : List Open) (o : Open) (k : ℕ) → AreNested (os ++ o ∷ []) → o.depth < k
-    → own_of o.kept ≡ None → pointed_at (os ++ o ∷ []) k ≡ None
+    → own_of o.open_type ≡ None → pointed_at (os ++ o ∷ []) k ≡ None
 stands_out os o k nested lt is = pointed_last os o k nested lt ∙ ap
     (λ (x : Option Target). if o.depth + 1 == k then x else None) is ∙ none_if (o.depth + 1 == k)
 
@@ -154,11 +157,12 @@ split_last os o is =
 
 -- one in the place of another
 pub pointed_replaced : (os : List Open) (o p : Open) (d : ℕ) → p.depth ≡ o.depth
-    → own_of p.kept ≡ own_of o.kept → pointed_at (os ++ p ∷ []) d ≡ pointed_at (os ++ o ∷ []) d
-pointed_replaced [] o p d depth own = ap (λ (n : ℕ). if n + 1 == d then own_of p.kept
+    → own_of p.open_type ≡ own_of o.open_type
+    → pointed_at (os ++ p ∷ []) d ≡ pointed_at (os ++ o ∷ []) d
+pointed_replaced [] o p d depth own = ap (λ (n : ℕ). if n + 1 == d then own_of p.open_type
     else None) depth ∙ ap (λ (x : Option Target). if o.depth + 1 == d then x else None) own
 pointed_replaced (q ∷ os) o p d depth own = ap (λ (x : Option Target). if q.depth + 1 == d
-    then own_of q.kept else x) (pointed_replaced os o p d depth own)
+    then own_of q.open_type else x) (pointed_replaced os o p d depth own)
 
 -- a pointer that was the last entry, in which the next one does not stand
 joined_none : (x : Option TypeFault) → joined None x ≡ x
@@ -239,17 +243,6 @@ pub pointer_alone : (c : Scope) (p : LastPointer) → made_at c (opened_pointer 
 pointer_alone c p = stack.made_is c (opened_pointer p) []
     ∙ pointers.made_closed c.sections (record { at = p.at; kind = 2; name = []; own = p.own })
 
-pub placed_push : (os : List Open) (o : Open) (types more : List SourceType) (t : SourceType)
-    → more ≡ types ++ t ∷ [] → o.index ≡ length types → ArePlaced (length types) os
-    → ArePlaced (length more) (os ++ o ∷ [])
-placed_push os o types more t is index placed =
-    let longer : length more ≡ length types + 1 =
-    ap (λ (ts : List SourceType). length ts) is ∙ length-append types (t ∷ []) in
-    All-push (λ (p : Open). p.index < length more) os o
-    (All-weaker (λ (p : Open). p.index < length types) (λ (p : Open). p.index < length more)
-    (λ (p : Open) (lt : p.index < length types). omega (arith, lt, longer)) os placed)
-    (omega (arith, index, longer))
-
 -- what is kept of a tag entry comes to its type, without refusals
 abbrev pub tag_row : Sections → ℕ → List ℕ → Target → List Given → Row
 tag_row c at name own kids = record {
@@ -264,9 +257,9 @@ tag_comes c at name own = record { made = λ kids. refl; refused = λ kids. refl
 
 -- a tag entry: what is kept of its pointer refers to it, and it is kept in its place
 module _ (c : Scope) (left : List Open) (o : Open) (q : OpenPointer) (e : Given) (n : List ℕ)
-    (kept : o.kept ≡ Pointer q) (nested : AreNested (left ++ o ∷ [])) (lt : o.depth < e.depth)
+    (kept : o.open_type ≡ Pointer q) (nested : AreNested (left ++ o ∷ [])) (lt : o.depth < e.depth)
     (tag : tag_in c.sections (pointed_at (left ++ o ∷ []) e.depth) e ≡ Some n) where
-  own : own_of o.kept ≡ Some q.own
+  own : own_of o.open_type ≡ Some q.own
   own = ap own_of kept
 
   told : ((o.depth + 1 == e.depth) ≡ true) × (is_type_tag c.sections e ≡ true)

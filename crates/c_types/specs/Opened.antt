@@ -82,7 +82,7 @@ structure_made s o kids =
 
 -- and the first refusal of its row
 abbrev pub own : OpenStructure → Bool → Option TypeFault
-own o fields = if fields then o.packed else o.plain
+own o fields = if fields then o.fault_if_packed else o.fault_if_plain
 
 unfoldable pub structure_refused : Scope → OpenStructure → List Given → Option TypeFault
 structure_refused s o kids =
@@ -148,7 +148,7 @@ enumeration_made c o kids =
     enumeration_by o (ends_bare o kids) (all_negative o kids) (all_enumerators c o kids)
 
 abbrev pub own_sign : OpenEnumeration → Bool → Option TypeFault
-own_sign o negative = if negative then o.signed else o.unsigned
+own_sign o negative = if negative then o.fault_if_signed else o.fault_if_unsigned
 
 abbrev pub enumerated : Sections → OpenEnumeration → Bool → ℕ → List Given → Option TypeFault
 enumerated c o negative count kids = noted (own_sign o negative)
@@ -156,7 +156,7 @@ enumerated c o negative count kids = noted (own_sign o negative)
     ++ too_many o.at count)
 
 unfoldable pub enumeration_refused : Sections → OpenEnumeration → List Given → Option TypeFault
-enumeration_refused c o kids = if ends_bare o kids then o.bare
+enumeration_refused c o kids = if ends_bare o kids then o.fault_if_bare
     else enumerated c o (all_negative o kids) (length (all_enumerators c o kids)) kids
 
 -- of an open array: the lengths of all dimensions
@@ -211,8 +211,10 @@ pub record GathersMember (s : Scope) (e : Given) (old new : OpenStructure) : Typ
   pub members : new.members.items ≡ old.members.items ++ made_if DW_TAG_member (kept_of s) e
   pub targets : new.targets.items ≡ old.targets.items ++ made_if DW_TAG_member (member_target s) e
   pub fields : new.fields ≡ (old.fields || (e.tag == DW_TAG_member && has DW_AT_bit_size e))
-  pub plain : new.plain ≡ noted old.plain (refused_if DW_TAG_member (member_refused s false) e)
-  pub packed : new.packed ≡ noted old.packed (refused_if DW_TAG_member (member_refused s true) e)
+  pub plain : new.fault_if_plain
+      ≡ noted old.fault_if_plain (refused_if DW_TAG_member (member_refused s false) e)
+  pub packed : new.fault_if_packed
+      ≡ noted old.fault_if_packed (refused_if DW_TAG_member (member_refused s true) e)
   pub at : new.at ≡ old.at
   pub is_union : new.is_union ≡ old.is_union
   pub name : new.name ≡ old.name
@@ -234,11 +236,13 @@ pub record GathersEnumerator (c : Sections) (e : Given) (old new : OpenEnumerati
       ≡ (old.has_negative || (e.tag == DW_TAG_enumerator && is_negative e))
   pub parts : new.parts.items
       ≡ old.parts.items ++ made_if DW_TAG_enumerator (enumerator_part c old.wide) e
-  pub unsigned : new.unsigned
-      ≡ noted old.unsigned (refused_if DW_TAG_enumerator (enumerator_refused c old.wide false) e)
-  pub signed : new.signed
-      ≡ noted old.signed (refused_if DW_TAG_enumerator (enumerator_refused c old.wide true) e)
-  pub bare : new.bare ≡ old.bare
+  pub unsigned : new.fault_if_unsigned
+      ≡ noted old.fault_if_unsigned
+      (refused_if DW_TAG_enumerator (enumerator_refused c old.wide false) e)
+  pub signed : new.fault_if_signed
+      ≡ noted old.fault_if_signed
+      (refused_if DW_TAG_enumerator (enumerator_refused c old.wide true) e)
+  pub bare : new.fault_if_bare ≡ old.fault_if_bare
   pub at : new.at ≡ old.at
   pub name : new.name ≡ old.name
   pub size : new.size ≡ old.size

@@ -1,8 +1,7 @@
 -- Pointers (DWARF 5, section 5.3), and the annotations under them, which compilers write beside the
--- standard. A tag entry is an
--- annotation (0x6000) whose parent is a pointer and whose name is `btf_type_tag`. A pointer refers
--- to its first tag entry, a tag entry
--- to the next one of the same pointer, and the last of these to the pointer's own type.
+-- standard. A tag entry is an annotation (0x6000) whose parent is a pointer and whose name is
+-- `btf_type_tag`. A pointer refers to its first tag entry, a tag entry to the next one of the same
+-- pointer, and the last of these to the pointer's own type.
 use Rattle.std.specs.Prelude.{ℕ, ◌-◌, ◌==◌, ◌&&◌, Bool, List, [], ◌∷◌, ◌++◌, codes, Option, None}
 use Rattle.std.specs.Prelude.{Some, is_some, if◌then◌else◌}
 use Rattle.std.specs.Str.{bytes_eq}

@@ -91,7 +91,7 @@ fn length(entry: &Entry<'_, '_>) -> Option<u64>
 }
 
 /// A product that stops at 2^32.
-fn capped(product: u64, n: u64) -> u64
+fn capped_product(product: u64, n: u64) -> u64
     ensures { result ≡ min (product * n) (2 ^ 32) }
 {
     let whole = u128::from(product) * u128::from(n);
@@ -108,12 +108,12 @@ fn with_length(lengths: Lengths, length: Option<u64>) -> Lengths
 {
     match length {
         None => Lengths {
-            product: capped(lengths.product, 0),
+            product: capped_product(lengths.product, 0),
             any: true,
             long: true,
         },
         Some(n) => Lengths {
-            product: capped(lengths.product, n),
+            product: capped_product(lengths.product, n),
             any: true,
             long: lengths.long || n >= TOO_LONG,
         },
@@ -177,16 +177,16 @@ pub(crate) fn complete_array<'a>(
     alloc: Global,
     whole: OpenArray,
 ) -> Result<Complete<'a>, AllocError>
-    ensures made { IfOk result (λ d. d.made ≡ array_made whole []) }
-    ensures refused { IfOk result (λ d. d.refused ≡ array_refused whole []) }
+    ensures source { IfOk result (λ d. d.source ≡ array_made whole []) }
+    ensures fault { IfOk result (λ d. d.fault ≡ array_refused whole []) }
 {
-    let mut refused = whole.least;
+    let mut fault = whole.least;
     note_if(
-        &mut refused,
+        &mut fault,
         are_too_long(whole.lengths),
         TypeFault::ArrayLength(whole.at),
     );
-    let made = SourceType {
+    let source = SourceType {
         at: whole.at,
         label: Label {
             kind: BTF_KIND_ARRAY,
@@ -198,7 +198,7 @@ pub(crate) fn complete_array<'a>(
         },
         targets: two_targets(alloc, whole.target)?,
     };
-    Ok(Complete { made, refused })
+    Ok(Complete { source, fault })
 }
 
 /// An array begins.

@@ -1,8 +1,8 @@
 //! Enumerations.
 ghost use Rattle.std.specs.Prelude.{◌≡◌, ◌++◌, [], ◌∷◌, ◌||◌, ◌&&◌, ◌==◌, not, None, true, false};
-ghost use Rattle.std.specs.Prelude.{OnOk, IfOk, IfSome};
+ghost use Rattle.std.specs.Prelude.{OnOk, IfOk, IfSome, if◌then◌else◌};
+ghost use Rattle.c_model.specs.declared.kinds.TheConstants.{BTF_KIND_ENUM, BTF_KIND_ENUM64};
 ghost use Rattle.dwarf_abbrev.specs.declared.constants.TheConstants.{DW_AT_declaration};
-ghost use Rattle.dwarf_forms.specs.Values.{IsContext};
 ghost use Rattle.dwarf_forms.specs.Meanings.{Sections, sections, Fits64};
 ghost use Rattle.type_attributes.specs.Scopes.{scope};
 ghost use Rattle.type_attributes.specs.Faults.{noted};
@@ -120,18 +120,18 @@ fn meet_enumerator<'a>(
     enumerator: &Entry<'_, 'a>,
     parent: &mut OpenEnumeration<'a>,
 ) -> Result<(), AllocError>
-    requires { IsContext ctx.now }
     ensures has_some { OnOk result (parent.new.has_some ≡ true) }
     ensures has_negative { OnOk result (parent.new.has_negative
         ≡ (parent.old.has_negative || is_negative enumerator.now)) }
     ensures parts { OnOk result (parent.new.parts.items ≡ parent.old.parts.items
         ++ enumerator_part (sections ctx.now) parent.old.wide enumerator.now ∷ []) }
-    ensures unsigned { OnOk result (parent.new.unsigned ≡
-        noted parent.old.unsigned
+    ensures unsigned { OnOk result (parent.new.fault_if_unsigned ≡
+        noted parent.old.fault_if_unsigned
         (enumerator_refused (sections ctx.now) parent.old.wide false enumerator.now)) }
-    ensures signed { OnOk result (parent.new.signed ≡ noted parent.old.signed
+    ensures signed { OnOk result (parent.new.fault_if_signed
+        ≡ noted parent.old.fault_if_signed
         (enumerator_refused (sections ctx.now) parent.old.wide true enumerator.now)) }
-    ensures bare { OnOk result (parent.new.bare ≡ parent.old.bare) }
+    ensures bare { OnOk result (parent.new.fault_if_bare ≡ parent.old.fault_if_bare) }
     ensures at { OnOk result (parent.new.at ≡ parent.old.at) }
     ensures name { OnOk result (parent.new.name ≡ parent.old.name) }
     ensures size { OnOk result (parent.new.size ≡ parent.old.size) }
@@ -146,10 +146,22 @@ fn meet_enumerator<'a>(
     );
     let value = signed_constant(enumerator, DW_AT_const_value, &mut found);
     let wide = parent.wide;
-    note_found(&mut parent.unsigned, &found);
-    note_value(&mut parent.unsigned, enumerator.at(), wide, false, value);
-    note_found(&mut parent.signed, &found);
-    note_value(&mut parent.signed, enumerator.at(), wide, true, value);
+    note_found(&mut parent.fault_if_unsigned, &found);
+    note_value(
+        &mut parent.fault_if_unsigned,
+        enumerator.at(),
+        wide,
+        false,
+        value,
+    );
+    note_found(&mut parent.fault_if_signed, &found);
+    note_value(
+        &mut parent.fault_if_signed,
+        enumerator.at(),
+        wide,
+        true,
+        value,
+    );
     parent.has_some = true;
     parent.has_negative = parent.has_negative || is_below_zero(value);
     parent.parts.push(Part {
@@ -165,7 +177,6 @@ pub(crate) fn meet_enumeration<'a>(
     child: &Entry<'_, 'a>,
     parent: &mut OpenEnumeration<'a>,
 ) -> Result<(), AllocError>
-    requires { IsContext ctx.now }
     ensures { OnOk result
         (GathersEnumerator (sections ctx.now) child.now parent.old parent.new) }
 {
@@ -195,7 +206,14 @@ fn note_enum_size(least: &mut Option<TypeFault>, at: u64, size: Option<i128>)
     }
 }
 
-fn make_enumeration<'a>(
+/// The BTF kind of an enumeration, by whether its values have 64 bits.
+fn kind_of(wide: bool) -> u8
+    ensures { result ≡ (if wide then BTF_KIND_ENUM64 else BTF_KIND_ENUM) }
+{
+    if wide { BTF_KIND_ENUM64 } else { BTF_KIND_ENUM }
+}
+
+fn make_label<'a>(
     wide: bool,
     name: Name<'a>,
     signed: bool,
@@ -204,24 +222,28 @@ fn make_enumeration<'a>(
 ) -> Label<'a>
     ensures { result ≡ enumeration_label wide name.entry signed size parts.entry }
 {
-    if wide {
-        Label {
-            kind: BTF_KIND_ENUM64,
-            name,
-            flag: signed,
-            size,
-            extra: 0,
-            parts,
-        }
-    } else {
-        Label {
-            kind: BTF_KIND_ENUM,
-            name,
-            flag: signed,
-            size,
-            extra: 0,
-            parts,
-        }
+    Label {
+        kind: kind_of(wide),
+        name,
+        flag: signed,
+        size,
+        extra: 0,
+        parts,
+    }
+}
+
+/// An enumeration of 4 bytes without enumerators.
+fn bare_enumeration<'a>(alloc: Global, at: u64, name: Name<'a>) -> SourceType<'a>
+    ensures { result ≡ record {
+      at = at;
+      label = enumeration_label false name.entry false 4 [];
+      targets = [];
+    } }
+{
+    SourceType {
+        at,
+        label: make_label(false, name, false, 4, Parts::new(Vec::new(alloc))),
+        targets: no_targets(alloc),
     }
 }
 
@@ -233,48 +255,60 @@ fn is_bare(whole: &OpenEnumeration<'_>) -> bool
 }
 
 /// The type of an enumeration whose children have all come.
+fn enumeration_type<'a>(
+    alloc: Global,
+    whole: &OpenEnumeration<'a>,
+) -> Result<SourceType<'a>, AllocError>
+    ensures { IfOk result (λ t. (c : Sections) → t ≡ enumeration_made c whole.now []) }
+{
+    let name = whole.name.again();
+    if is_bare(whole) {
+        return Ok(bare_enumeration(alloc, whole.at, name));
+    }
+    let parts = copy_of_parts(alloc, &whole.parts)?;
+    Ok(SourceType {
+        at: whole.at,
+        label: make_label(whole.wide, name, whole.has_negative, whole.size, parts),
+        targets: no_targets(alloc),
+    })
+}
+
+/// The first refusal of the row of an enumeration whose children have all come.
+fn enumeration_fault(whole: &OpenEnumeration<'_>) -> Option<TypeFault>
+    ensures { (c : Sections) → result ≡ enumeration_refused c whole.now [] }
+{
+    if is_bare(whole) {
+        return whole.fault_if_bare;
+    }
+    let mut fault = if whole.has_negative {
+        whole.fault_if_signed
+    } else {
+        whole.fault_if_unsigned
+    };
+    let count = whole.parts.len() as u64;
+    note_if(
+        &mut fault,
+        count > MOST,
+        TypeFault::TooMany(whole.at, count),
+    );
+    fault
+}
+
+/// What an enumeration comes to whose children have all come.
 pub(crate) fn complete_enumeration<'a>(
     alloc: Global,
     spare: &mut Spare<'a>,
     whole: OpenEnumeration<'a>,
 ) -> Result<Complete<'a>, AllocError>
-    ensures made { IfOk result (λ d. (c : Sections) → d.made ≡
+    ensures source { IfOk result (λ d. (c : Sections) → d.source ≡
         enumeration_made c whole.entry []) }
-    ensures refused { IfOk result (λ d. (c : Sections) → d.refused ≡
+    ensures fault { IfOk result (λ d. (c : Sections) → d.fault ≡
         enumeration_refused c whole.entry []) }
 {
-    let bare = is_bare(&whole);
-    let OpenEnumeration {
-        at,
-        name,
-        size,
-        wide,
-        has_some: _,
-        has_negative,
-        parts,
-        bare: refused,
-        unsigned,
-        signed,
-    } = whole;
-    let targets = no_targets(alloc);
-    if bare {
-        let label = make_enumeration(false, name, false, 4, Parts::new(Vec::new(alloc)));
-        spare.keep_parts(parts);
-        return Ok(Complete {
-            made: SourceType { at, label, targets },
-            refused,
-        });
-    }
-    let mut refused = if has_negative { signed } else { unsigned };
-    let count = parts.len() as u64;
-    note_if(&mut refused, count > MOST, TypeFault::TooMany(at, count));
-    let copy = copy_of_parts(alloc, &parts)?;
-    spare.keep_parts(parts);
-    let label = make_enumeration(wide, name, has_negative, size, copy);
-    Ok(Complete {
-        made: SourceType { at, label, targets },
-        refused,
-    })
+    let source = enumeration_type(alloc, &whole)?;
+    let fault = enumeration_fault(&whole);
+    spare.keep_parts(whole.parts);
+    Ok(Complete { source, fault })
 }
 
 /// An enumeration begins that isn't declared alone; whether it is, was asked before.
@@ -286,16 +320,15 @@ pub(crate) fn open_enumeration<'a>(
     entry: &Entry<'_, 'a>,
     declared: Option<TypeFault>,
 ) -> OpenEnumeration<'a>
-    requires context { IsContext ctx.now.form }
     requires defined { is_set (flag_asked DW_AT_declaration entry.now) ≡ false }
     requires declared { declared ≡ noted None (flag_asked DW_AT_declaration entry.now).refused }
     ensures { ComesTo (scope ctx.now) (Enumeration result)
         (enumeration_row (sections ctx.now.form) entry.now) }
 {
     let at = entry.at();
-    let mut bare = declared;
-    let name = name(&ctx.form, entry, &mut bare);
-    let mut found = bare;
+    let mut fault_if_bare = declared;
+    let name = name(&ctx.form, entry, &mut fault_if_bare);
+    let mut found = fault_if_bare;
     let size = constant(entry, DW_AT_byte_size, &mut found);
     note_enum_size(&mut found, at, size);
     let size = given_size(size);
@@ -307,9 +340,9 @@ pub(crate) fn open_enumeration<'a>(
         has_some: false,
         has_negative: false,
         parts: spare.parts(alloc),
-        bare,
-        unsigned: found,
-        signed: found,
+        fault_if_bare,
+        fault_if_unsigned: found,
+        fault_if_signed: found,
     }
 }
 
@@ -321,7 +354,6 @@ pub(crate) fn declared_enumeration<'a>(
     entry: &Entry<'_, 'a>,
     least: &mut Option<TypeFault>,
 ) -> SourceType<'a>
-    requires context { IsContext ctx.now }
     ensures made { result ≡ (bare_row (name_in_full (name_asked (sections ctx.now)
         entry.now)) entry.now true).made }
     ensures noted { least.new ≡ noted least.old ((name_asked (sections ctx.now)
@@ -334,9 +366,5 @@ pub(crate) fn declared_enumeration<'a>(
         is_unnamed(&name),
         TypeFault::UnnamedForward(entry.at()),
     );
-    SourceType {
-        at: entry.at(),
-        label: make_enumeration(false, name, false, 4, Parts::new(Vec::new(alloc))),
-        targets: no_targets(alloc),
-    }
+    bare_enumeration(alloc, entry.at(), name)
 }

@@ -1,11 +1,10 @@
 //! Subroutine types.
 ghost use Rattle.std.specs.Prelude.{◌≡◌, ◌++◌, [], ◌∷◌, ◌||◌, ◌==◌, OnOk, IfOk};
-ghost use Rattle.dwarf_forms.specs.Values.{IsContext};
 ghost use Rattle.dwarf_forms.specs.Meanings.{Sections, sections};
 ghost use Rattle.type_attributes.specs.Scopes.{scope};
 ghost use Rattle.type_attributes.specs.Faults.{noted};
 ghost use Rattle.c_types.specs.Functions.{parameter_part, parameter_target, parameter_refused};
-ghost use Rattle.c_types.specs.Functions.{rest_part, rest_target, function_row};
+ghost use Rattle.c_types.specs.Functions.{rest_part, rest_target, function_label, function_row};
 ghost use Rattle.c_types.specs.Opened.{function_made, function_refused, ComesTo, GathersParameter};
 ghost use Rattle.c_types.specs.declared.open.OpenType.TheVariants.{Function};
 
@@ -31,7 +30,6 @@ fn meet_parameter<'a>(
     child: &Entry<'_, 'a>,
     parent: &mut OpenFunction<'a>,
 ) -> Result<(), AllocError>
-    requires { IsContext ctx.now }
     ensures parts { OnOk result (parent.new.parts.items ≡ parent.old.parts.items
         ++ parameter_part (sections ctx.now) child.now ∷ []) }
     ensures targets { OnOk result (parent.new.targets.items ≡ parent.old.targets.items
@@ -59,7 +57,6 @@ pub(crate) fn meet_function<'a>(
     child: &Entry<'_, 'a>,
     parent: &mut OpenFunction<'a>,
 ) -> Result<(), AllocError>
-    requires { IsContext ctx.now }
     ensures { OnOk result
         (GathersParameter (sections ctx.now) child.now parent.old parent.new) }
 {
@@ -91,14 +88,43 @@ fn end_parameters(
     Ok(())
 }
 
-/// The type of a subroutine type whose children have all come.
+/// The subroutine type of some parameters, given the types of its result and of these.
+fn function_type<'a>(
+    alloc: Global,
+    at: u64,
+    parts: &[Part<'a>],
+    targets: &[Target],
+) -> Result<SourceType<'a>, AllocError>
+    ensures { IfOk result (λ t. t ≡ record {
+      at = at;
+      label = function_label parts.now;
+      targets = targets.now;
+    }) }
+{
+    let parts = copy_of_parts(alloc, parts)?;
+    let targets = Vec::from_slice(alloc, targets)?;
+    Ok(SourceType {
+        at,
+        label: Label {
+            kind: BTF_KIND_FUNC_PROTO,
+            name: Name::new(&[]),
+            flag: false,
+            size: 0,
+            extra: 0,
+            parts,
+        },
+        targets: Targets::new(targets),
+    })
+}
+
+/// What a subroutine type comes to whose children have all come.
 pub(crate) fn complete_function<'a>(
     alloc: Global,
     spare: &mut Spare<'a>,
     whole: OpenFunction<'a>,
 ) -> Result<Complete<'a>, AllocError>
-    ensures made { IfOk result (λ d. (c : Sections) → d.made ≡ function_made c whole.entry []) }
-    ensures refused { IfOk result (λ d. (c : Sections) → d.refused ≡
+    ensures source { IfOk result (λ d. (c : Sections) → d.source ≡ function_made c whole.entry []) }
+    ensures fault { IfOk result (λ d. (c : Sections) → d.fault ≡
         function_refused c whole.entry []) }
 {
     let OpenFunction {
@@ -110,35 +136,23 @@ pub(crate) fn complete_function<'a>(
     } = whole;
     let mut parts = parts;
     let mut targets = targets;
-    let mut refused = least;
     end_parameters(variadic, &mut parts, &mut targets)?;
+    let source = function_type(alloc, at, &parts, &targets)?;
+    let mut fault = least;
     let count = parts.len() as u64;
-    note_if(&mut refused, count > MOST, TypeFault::TooMany(at, count));
-    let made = SourceType {
-        at,
-        label: Label {
-            kind: BTF_KIND_FUNC_PROTO,
-            name: Name::new(&[]),
-            flag: false,
-            size: 0,
-            extra: 0,
-            parts: copy_of_parts(alloc, &parts)?,
-        },
-        targets: Targets::new(Vec::from_slice(alloc, &targets)?),
-    };
+    note_if(&mut fault, count > MOST, TypeFault::TooMany(at, count));
     spare.keep_parts(parts);
     spare.keep_targets(targets);
-    Ok(Complete { made, refused })
+    Ok(Complete { source, fault })
 }
 
 /// A subroutine type begins.
-pub fn open_function<'a>(
+pub(crate) fn open_function<'a>(
     alloc: Global,
     spare: &mut Spare<'a>,
     ctx: &UnitCtx<'_, 'a>,
     entry: &Entry<'_, 'a>,
 ) -> Result<OpenFunction<'a>, AllocError>
-    requires { IsContext ctx.now.form }
     ensures { IfOk result (λ o. ComesTo (scope ctx.now) (Function o)
         (function_row (sections ctx.now.form) entry.now)) }
 {

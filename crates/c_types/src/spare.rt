@@ -16,7 +16,7 @@ pub struct Spare<'a> {
 }
 
 /// A list without items: one of these, where there is one.
-fn taken<X: Drop>(alloc: Global, lists: &mut Vec<Vec<X>>) -> Vec<X>
+fn empty_list<X: Drop>(alloc: Global, lists: &mut Vec<Vec<X>>) -> Vec<X>
     ensures { result.items ≡ [] }
 {
     match lists.pop() {
@@ -43,21 +43,21 @@ impl<'a> Spare<'a> {
     pub(crate) fn members(&mut self, alloc: Global) -> Vec<Member<'a>>
         ensures { result.items ≡ [] }
     {
-        taken(alloc, &mut self.members)
+        empty_list(alloc, &mut self.members)
     }
 
     /// An empty list for parts.
     pub(crate) fn parts(&mut self, alloc: Global) -> Vec<Part<'a>>
         ensures { result.items ≡ [] }
     {
-        taken(alloc, &mut self.parts)
+        empty_list(alloc, &mut self.parts)
     }
 
     /// An empty list for targets.
     pub(crate) fn targets(&mut self, alloc: Global) -> Vec<Target>
         ensures { result.items ≡ [] }
     {
-        taken(alloc, &mut self.targets)
+        empty_list(alloc, &mut self.targets)
     }
 
     /// Keeps the lists of a structure. Where memory is wanting, they are let go.

@@ -1,7 +1,6 @@
 //! Where the types of a unit stand. An entry is one by its tag, or as a type tag under a pointer.
 ghost use Rattle.std.specs.Prelude.{◌≡◌, ◌++◌, ◌∷◌, [], ◌||◌, ◌==◌, ◌≤◌, ◌+◌, ℕ, List, OnOk, false};
 ghost use Rattle.std.specs.Prelude.{true, if◌then◌else◌};
-ghost use Rattle.dwarf_forms.specs.Values.{IsContext};
 ghost use Rattle.dwarf_forms.specs.Meanings.{sections};
 ghost use Rattle.c_types.specs.Pointers.{is_type_tag as names_type_tag};
 ghost use Rattle.func_entries.specs.Walking.{has_row as tag_has_row, is_type as entry_is_type};
@@ -50,7 +49,6 @@ fn has_row(tag: u64) -> bool
 
 /// Whether an entry is an annotation with the name of type tags.
 fn is_type_tag(ctx: &FormCtx<'_>, entry: &Entry<'_, '_>) -> bool
-    requires { IsContext ctx.now }
     ensures { result ≡ names_type_tag (sections ctx.now) entry.now }
 {
     if entry.tag() != DW_TAG_GNU_annotation {
@@ -76,7 +74,6 @@ fn is_below(depths: &[u32], depth: u32) -> bool
 
 /// Whether an entry is a type.
 fn is_type(ctx: &FormCtx<'_>, entry: &Entry<'_, '_>, pointers: &[u32]) -> bool
-    requires context { IsContext ctx.now }
     requires deepening { AreDeepening pointers.now }
     requires above { AllAbove entry.now.depth pointers.now }
     ensures { result ≡ entry_is_type (sections ctx.now)
@@ -144,8 +141,7 @@ pub(crate) fn place(
     entry: &Entry<'_, '_>,
     placing: &mut Placing,
 ) -> Result<(), AllocError>
-    requires context { IsContext ctx.now }
-    requires deepening { AreDeepening placing.old.pointers.items }
+    requires { AreDeepening placing.old.pointers.items }
     ensures places { OnOk result (placing.new.places.items ≡ placing.old.places.items ++ place_of
         (sections ctx.now) (stands_in placing.old.pointers.items entry.now.depth)
         entry.now) }

@@ -54,6 +54,8 @@ fn read_unit<'a>(
 /// reads it.
 ///
 /// `Abbrev` doesn't come. The other refusals are those of `functions_of_unit`.
+///
+/// The work grows with the bytes of the unit's entries and with those of the names that they give.
 pub fn functions_of_unit_with<'a>(
     alloc: Global,
     image: &Image<'a>,
@@ -76,14 +78,16 @@ pub fn functions_of_unit_with<'a>(
 /// parameters. References are still offsets in `.debug_info`.
 ///
 /// A unit of a language that is passed over has no functions. The refusal is the first of:
-/// `Abbrev`;
-/// `Walk` of the root, with its language and its base of string offsets; `Walk` of all its entries;
-/// then that of a function or of one of its parameters whose entry has the lowest offset, at one
-/// entry the one of the lowest number in the order of the variants, and of two of one number the
-/// one that keeps the lower values: `Form` of the function's name, declaration, external or type,
-/// or of the parameter's name or type, `MissingType` of the parameter, `TooMany` of the function.
-/// Where the name of a subprogram is refused, it counts as one that is not empty, and a declaration
-/// that is refused as one that is not true. `Memory` comes only where memory can't be found.
+/// `Abbrev`; `Walk` of the root, with its language and its base of string offsets; `Walk` of all
+/// its entries; then that of a function or of one of its parameters whose entry has the lowest
+/// offset, at one entry the one of the lowest number in the order of the variants, and of two of
+/// one number the one that keeps the lower values: `Form` of the function's name, declaration,
+/// external or type, or of the parameter's name or type, `MissingType` of the parameter, `TooMany`
+/// of the function. Where the name of a subprogram is refused, it counts as one that is not empty,
+/// and a declaration that is refused as one that is not true. `Memory` comes only where memory
+/// can't be found.
+///
+/// The work is that of `c_types::read_abbrevs` and of `functions_of_unit_with`.
 pub fn functions_of_unit<'a>(
     alloc: Global,
     image: &Image<'a>,

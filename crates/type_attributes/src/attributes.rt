@@ -1,7 +1,7 @@
 //! Attributes that a row asks for: what they say, and their refusals.
 ghost use Rattle.std.specs.Prelude.{◌≡◌, IfSome};
 ghost use Rattle.std.specs.Option.{option_map};
-ghost use Rattle.dwarf_forms.specs.Values.{given as shown, IsContext};
+ghost use Rattle.dwarf_forms.specs.Values.{given as shown};
 ghost use Rattle.dwarf_forms.specs.Meanings.{sections, Fits64};
 ghost use Rattle.entry_tree.specs.Reads.{value_with};
 ghost use Rattle.type_attributes.specs.Faults.{noted};
@@ -104,7 +104,6 @@ pub fn text<'a>(
     name: u64,
     least: &mut Option<TypeFault>,
 ) -> Name<'a>
-    requires { IsContext ctx.now }
     ensures said { result ≡ name_in_full (text_asked name (sections ctx.now) entry.now) }
     ensures noted { least.new
         ≡ noted least.old (text_asked name (sections ctx.now) entry.now).refused }
@@ -121,7 +120,6 @@ pub fn text<'a>(
 
 /// The name of an entry; the empty one where it has none.
 pub fn name<'a>(ctx: &FormCtx<'a>, entry: &Entry<'_, 'a>, least: &mut Option<TypeFault>) -> Name<'a>
-    requires { IsContext ctx.now }
     ensures said { result ≡ name_in_full (name_asked (sections ctx.now) entry.now) }
     ensures noted { least.new
         ≡ noted least.old (name_asked (sections ctx.now) entry.now).refused }

@@ -1,6 +1,5 @@
 //! Base types and unspecified types.
 ghost use Rattle.std.specs.Prelude.{◌≡◌, ◌≤◌, IsTrue};
-ghost use Rattle.dwarf_forms.specs.Values.{IsContext};
 ghost use Rattle.dwarf_forms.specs.Meanings.{sections};
 ghost use Rattle.type_attributes.specs.Faults.{noted};
 ghost use Rattle.type_attributes.specs.BaseTypes.{is_integer, is_float, base_of, code_in, is_whole};
@@ -146,7 +145,6 @@ pub fn base_type<'a>(
     entry: &Entry<'_, 'a>,
     least: &mut Option<TypeFault>,
 ) -> SourceType<'a>
-    requires { IsContext ctx.now }
     ensures made { result ≡ (base_row (sections ctx.now) entry.now).made }
     ensures noted { least.new
         ≡ noted least.old (base_row (sections ctx.now) entry.now).refused }
@@ -172,7 +170,6 @@ pub fn unspecified_type<'a>(
     entry: &Entry<'_, 'a>,
     least: &mut Option<TypeFault>,
 ) -> SourceType<'a>
-    requires { IsContext ctx.now }
     ensures made { result ≡ (unspecified_row (sections ctx.now) entry.now).made }
     ensures noted { least.new
         ≡ noted least.old (unspecified_row (sections ctx.now) entry.now).refused }

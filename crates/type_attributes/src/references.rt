@@ -1,6 +1,5 @@
 //! Qualifiers and typedefs.
 ghost use Rattle.std.specs.Prelude.{◌≡◌, IfOk, OnOk};
-ghost use Rattle.dwarf_forms.specs.Values.{IsContext};
 ghost use Rattle.dwarf_forms.specs.Meanings.{sections};
 ghost use Rattle.type_attributes.specs.Faults.{noted};
 ghost use Rattle.type_attributes.specs.References.{reference_row, typedef_row};
@@ -45,7 +44,6 @@ pub fn typedef<'a>(
     entry: &Entry<'_, 'a>,
     least: &mut Option<TypeFault>,
 ) -> Result<SourceType<'a>, AllocError>
-    requires { IsContext ctx.now }
     ensures made { IfOk result (λ t. t ≡ (typedef_row (sections ctx.now) entry.now).made) }
     ensures noted { OnOk result (least.new
         ≡ noted least.old (typedef_row (sections ctx.now) entry.now).refused) }

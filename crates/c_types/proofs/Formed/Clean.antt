@@ -13,7 +13,7 @@ use Rattle.dwarf_forms.specs.declared.layout.FormLayout.{FormLayout}
 use Rattle.dwarf_forms.specs.declared.layout.FormLayout.TheVariants as layouts
 use Rattle.dwarf_forms.specs.Forms.{layout_of}
 use Rattle.dwarf_forms.specs.Values.{◌>>=◌, Plain, Shown, Within, or_cut, or_unknown, fixed_at}
-use Rattle.dwarf_forms.specs.Values.{uleb_at, sleb_at, held_at, text_at, read_at, form_at, value_of}
+use Rattle.dwarf_forms.specs.Values.{uleb_at, sleb_at, bytes_at, text_at, read_at, form_at, value_of}
 use Rattle.dwarf_forms.specs.Values.Plain.{number, signed, bytes, sixteen, text, flag, elsewhere}
 use Rattle.entry_tree.specs.Items.{Standing, Given, Coming, listed, given_at, opened, after_item}
 use Rattle.entry_tree.specs.Items.{item_at, coming}
@@ -65,22 +65,24 @@ read_clean (layouts.Leb kind) form unit at order spec x e = bound (IsCleanPlain 
     (uleb_at unit at spec.attribute) _ x (λ n is h. answer (number kind n.0, n.1) x tt h) e
 read_clean layouts.Signed form unit at order spec x e = bound (IsCleanPlain x.0)
     (sleb_at unit at spec.attribute) _ x (λ n is h. answer (signed n.0, n.1) x tt h) e
-read_clean layouts.Implicit form unit at order spec x e = answer (signed spec.implicit, at) x tt e
+read_clean layouts.Implicit form unit at order spec x e = bound (IsCleanPlain x.0)
+    (bytes_at unit at 0 spec.attribute) _ x (λ b is h. answer (signed spec.implicit, b.1) x tt h) e
 read_clean layouts.Flag form unit at order spec x e = bound (IsCleanPlain x.0) (fixed_at unit at 1
     order spec.attribute) _ x (λ n is h. answer (flag (not (n.0 == 0)), n.1) x tt h) e
-read_clean layouts.Present form unit at order spec x e = answer (flag true, at) x tt e
+read_clean layouts.Present form unit at order spec x e = bound (IsCleanPlain x.0)
+    (bytes_at unit at 0 spec.attribute) _ x (λ b is h. answer (flag true, b.1) x tt h) e
 read_clean layouts.Text form unit at order spec x e =
     bound (IsCleanPlain x.0) (text_at unit at spec.attribute) _ x
     (λ t is h. answer (text t.0, t.1) x (text_at_clean unit at spec.attribute t is) h) e
 read_clean layouts.Sixteen form unit at order spec x e = bound (IsCleanPlain x.0)
-    (held_at unit at 16 spec.attribute) _ x (λ b is h. answer (sixteen b.0, b.1) x tt h) e
+    (bytes_at unit at 16 spec.attribute) _ x (λ b is h. answer (sixteen b.0, b.1) x tt h) e
 read_clean (layouts.Counted w kind) form unit at order spec x e =
     bound (IsCleanPlain x.0) (fixed_at unit at w order spec.attribute) _ x
-    (λ n is h. bound (IsCleanPlain x.0) (held_at unit n.1 n.0 spec.attribute) _ x
+    (λ n is h. bound (IsCleanPlain x.0) (bytes_at unit n.1 n.0 spec.attribute) _ x
     (λ b was k. answer (bytes kind b.0, b.1) x tt k) h) e
 read_clean (layouts.LebCounted kind) form unit at order spec x e =
     bound (IsCleanPlain x.0) (uleb_at unit at spec.attribute) _ x
-    (λ n is h. bound (IsCleanPlain x.0) (held_at unit n.1 n.0 spec.attribute) _ x
+    (λ n is h. bound (IsCleanPlain x.0) (bytes_at unit n.1 n.0 spec.attribute) _ x
     (λ b was k. answer (bytes kind b.0, b.1) x tt k) h) e
 read_clean (layouts.Elsewhere w) form unit at order spec x e = bound (IsCleanPlain x.0)
     (fixed_at unit at w order spec.attribute) _ x (λ n is h. answer (elsewhere form, n.1) x tt h) e

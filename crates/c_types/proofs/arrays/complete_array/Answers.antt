@@ -2,8 +2,8 @@ use Rattle.std.proofs.Common.{◌∙◌, [], sym, refl}
 use Rattle.c_types.proofs.OpenArrays.{made_is, refused_by_length}
 use Rattle.c_types.proofs.arrays.complete_array.Goals as goal
 
-pub returns-clause-made : goal.returns-clause-made
-returns-clause-made c = rw (
+pub returns-clause-source : goal.returns-clause-source
+returns-clause-source c = rw (
   made_is c.args.whole [],
   c.new.ensures,
   c.elements.ensures,
@@ -13,6 +13,6 @@ returns-clause-made c = rw (
   c.in_ok-two_targets.ensures,
 ) refl
 
-pub returns-clause-refused : goal.returns-clause-refused
-returns-clause-refused c =
+pub returns-clause-fault : goal.returns-clause-fault
+returns-clause-fault c =
     c.note_if.ensures ∙ rw c.are_too_long.ensures (sym (refused_by_length c.args.whole []))

@@ -16,7 +16,7 @@ use Rattle.c_types.proofs.pointers.read_tag.Goals as goal
 pub returns-then-not-is_of_type_tags-clause-tag : goal.returns-then-not-is_of_type_tags-clause-tag
 returns-then-not-is_of_type_tags-clause-tag c =
     let untagged : is_type_tag (sections c.args.ctx.now) c.args.entry.now ≡ false =
-    tag_by (sections c.args.ctx.now) c.args.entry.now false c.requires.annotation
+    tag_by (sections c.args.ctx.now) c.args.entry.now false c.requires
     (c.if-not-is_of_type_tags.ensures
     ∙ ap (λ (n : List ℕ). bytes_eq n (codes "btf_type_tag")) c.name-name.ensures.said) in
     rw untagged refl
@@ -25,7 +25,7 @@ pub returns-then-not-is_of_type_tags-clause-noted :
     goal.returns-then-not-is_of_type_tags-clause-noted
 returns-then-not-is_of_type_tags-clause-noted c =
     let untagged : is_type_tag (sections c.args.ctx.now) c.args.entry.now ≡ false =
-    tag_by (sections c.args.ctx.now) c.args.entry.now false c.requires.annotation
+    tag_by (sections c.args.ctx.now) c.args.entry.now false c.requires
     (c.if-not-is_of_type_tags.ensures
     ∙ ap (λ (n : List ℕ). bytes_eq n (codes "btf_type_tag")) c.name-name.ensures.said) in
     rw untagged (c.name-name.ensures.noted ∙ sym (noted_append c.args.least.now
@@ -34,7 +34,7 @@ returns-then-not-is_of_type_tags-clause-noted c =
 pub returns-clause-tag : goal.returns-clause-tag
 returns-clause-tag c =
     let tagged : is_type_tag (sections c.args.ctx.now) c.args.entry.now ≡ true =
-    tag_by (sections c.args.ctx.now) c.args.entry.now true c.requires.annotation
+    tag_by (sections c.args.ctx.now) c.args.entry.now true c.requires
     (c.if-not-is_of_type_tags.ensures
     ∙ ap (λ (n : List ℕ). bytes_eq n (codes "btf_type_tag")) c.name-name.ensures.said) in
     rw tagged (ap (λ (n : List ℕ). Some n) c.text-tag.ensures.said)
@@ -42,7 +42,7 @@ returns-clause-tag c =
 pub returns-clause-noted : goal.returns-clause-noted
 returns-clause-noted c =
     let tagged : is_type_tag (sections c.args.ctx.now) c.args.entry.now ≡ true =
-    tag_by (sections c.args.ctx.now) c.args.entry.now true c.requires.annotation
+    tag_by (sections c.args.ctx.now) c.args.entry.now true c.requires
     (c.if-not-is_of_type_tags.ensures
     ∙ ap (λ (n : List ℕ). bytes_eq n (codes "btf_type_tag")) c.name-name.ensures.said) in
     let s = sections c.args.ctx.now in
