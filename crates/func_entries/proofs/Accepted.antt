@@ -1,6 +1,6 @@
 -- What holds of the functions of a unit that is accepted.
 use Rattle.std.proofs.Common.{◌≡◌, ℕ, Bool, true, false, List, [], map, Option, None, Some, Result}
-use Rattle.std.proofs.Common.{Ok, Err, if◌then◌else◌, refl, sym, ap, ◌∙◌, subst}
+use Rattle.std.proofs.Common.{Ok, Err, if◌then◌else◌, refl, subst}
 use Rattle.elf_sections.specs.declared.fault.Kind.TheVariants.{Abbrev as AbbrevSection}
 use Rattle.elf_sections.specs.Sections.{section_bytes}
 use Rattle.dwarf_abbrev.specs.Declarations.{Declaration}

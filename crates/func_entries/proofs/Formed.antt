@@ -1,15 +1,15 @@
 -- What holds of every function where nothing is refused.
-use Rattle.std.proofs.Common.{◌≡◌, ℕ, ◌<◌, ◌≤◌, ◌==◌, ◌&&◌, ◌||◌, not, Bool, true, false, List, []}
+use Rattle.std.proofs.Common.{◌≡◌, ℕ, ◌<◌, ◌==◌, ◌&&◌, ◌||◌, not, Bool, true, false, List, []}
 use Rattle.std.proofs.Common.{◌∷◌, ◌++◌, length, Ok, if◌then◌else◌, refl, subst, arith}
 use Rattle.std.specs.Prelude.{All}
 use Rattle.std.proofs.lemmas.List.Elements.{All-nil, All-cons, All-head, All-tail, All-map}
 use Rattle.dwarf_abbrev.specs.Declarations.{Declaration}
 use Rattle.dwarf_forms.specs.Meanings.{Sections}
-use Rattle.entry_tree.specs.Items.{Given, Coming}
+use Rattle.entry_tree.specs.Items.{Given}
 use Rattle.entry_tree.specs.Walks.{entries_of}
 use Rattle.type_attributes.specs.declared.fault.TypeFault.{TypeFault}
 use Rattle.type_attributes.specs.declared.source.SourceType.{SourceType}
-use Rattle.type_attributes.specs.Attributes.{Asked, name_asked, name_in_full, flag_asked, is_set}
+use Rattle.type_attributes.specs.Attributes.{name_asked, name_in_full, flag_asked, is_set}
 use Rattle.type_attributes.specs.Children.{children_of}
 use Rattle.c_types.specs.Formed.{IsFormed, AreFormed}
 use Rattle.c_types.specs.Functions.{function_row}
@@ -25,7 +25,7 @@ use Rattle.func_entries.specs.declared.entries.UnitFuncs.{UnitFuncs}
 use Rattle.func_entries.specs.Functions.{some_refused, has_name, is_function, function_at}
 use Rattle.func_entries.specs.Functions.{function_refused, functions_of, refusals_of}
 use Rattle.func_entries.specs.Laws.{protos_of, IsName, FunctionsAreFormed, FunctionsAreNamed}
-use Rattle.func_entries.specs.Units.{functions_in, unit_funcs}
+use Rattle.func_entries.specs.Units.{functions_in}
 use Rattle.func_entries.proofs.Accepted.{in_walk, in_unit}
 use Rattle.dwarf_abbrev.specs.declared.constants.TheConstants.{DW_AT_declaration, DW_AT_external}
 use Rattle.dwarf_abbrev.specs.declared.constants.TheConstants.{DW_TAG_subprogram}

@@ -14,7 +14,7 @@ use Rattle.c_types.specs.Functions.{function_row}
 use Rattle.c_types.specs.Pointers.{pointer_row, is_type_tag, tag_type}
 use Rattle.type_attributes.specs.Scopes.{Scope}
 use Rattle.c_types.specs.Structures.{structure_row}
-use Rattle.c_types.specs.Types.{plain_row_of, row_of, made_in, listed, made_of}
+use Rattle.c_types.specs.Types.{row_of, made_in, listed, made_of}
 use Rattle.c_types.proofs.Standing.{TypeStandsAt, made_stands}
 use Rattle.func_entries.specs.Walking.{has_row, is_type, place_of}
 use Rattle.dwarf_abbrev.specs.declared.constants.TheConstants.{DW_TAG_array_type}

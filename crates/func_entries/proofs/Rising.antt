@@ -1,12 +1,12 @@
 -- The functions of a unit stand where their entries do.
-use Rattle.std.proofs.Common.{◌≡◌, ℕ, ◌<◌, ◌≤◌, Bool, true, false, List, [], ◌∷◌, ◌++◌, Ok}
-use Rattle.std.proofs.Common.{if◌then◌else◌, refl, subst}
+use Rattle.std.proofs.Common.{◌≡◌, ℕ, ◌<◌, ◌≤◌, Bool, true, false, List, [], ◌∷◌, Ok}
+use Rattle.std.proofs.Common.{if◌then◌else◌, subst}
 use Rattle.std.specs.Prelude.{All}
 use Rattle.std.proofs.lemmas.List.Elements.{All-nil, All-cons, All-head, All-tail}
 use Rattle.dwarf_abbrev.specs.Declarations.{Declaration}
 use Rattle.dwarf_forms.specs.Meanings.{Sections}
-use Rattle.entry_tree.specs.Items.{Given, Coming}
-use Rattle.entry_tree.specs.Rising.{Rises, StandIn}
+use Rattle.entry_tree.specs.Items.{Given}
+use Rattle.entry_tree.specs.Rising.{Rises}
 use Rattle.entry_tree.specs.Walks.{entries_of}
 use Rattle.entry_tree.proofs.Rising.{entries_placed}
 use Rattle.type_attributes.specs.declared.source.SourceType.{SourceType}

@@ -1,4 +1,4 @@
-use Rattle.std.proofs.Common.{◌≡◌, ◌≤◌, ◌∷◌, ◌++◌, ℕ, [], List, refl, sym, ap, ◌∙◌, subst, arith}
+use Rattle.std.proofs.Common.{◌≤◌, ℕ, List, refl, sym, ap, ◌∙◌, subst, arith}
 use Rattle.func_entries.specs.Walking.{stands_in, AreDeepening}
 use Rattle.func_entries.proofs.Depths.{last_deep, deepening_pop, stands_pop, popped}
 use Rattle.func_entries.proofs.places.leave.Goals as goal

@@ -1,4 +1,4 @@
-use Rattle.std.proofs.Common.{◌≡◌, ◌-◌, length, take, sym, subst}
+use Rattle.std.proofs.Common.{◌-◌, length, take, sym, subst}
 use Rattle.std.proofs.lemmas.Bool.{leb-true, leb-false}
 use Rattle.func_entries.specs.Walking.{AreDeepening, AllAbove}
 use Rattle.func_entries.proofs.Depths.{split_last, all_above}
