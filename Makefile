@@ -1,13 +1,13 @@
 # pahole, proved. `make pahole` builds the proved program, `make demo` encodes a file with it, `make
-# test` is the gate and the repository's own checks. The pages' other numbers come from scripts that
-# no check runs, for they take long (tools/): `make measure`, `make turns` and `make drawn`
-# (docs/SPEED.md), `make agree` and `make ways` (docs/AGREEMENT.md), `make plants`, `make edits`,
-# `make unseen` and `make memory` (docs/AUDIT.md).
+# test` is the gate and the repository's own checks, `make pages` lists all definitions and edits. What
+# takes long is run by hand: `make measure`, `make turns` and `make drawn` (docs/BENCHMARKS.md), `make
+# agree` and `make ways` (docs/COMPAT.md), `make plants`, `make edits`, `make unseen` and `make memory`
+# (docs/CONTRIBUTING.md).
 PROGRAM = crates/pahole/out/pahole
 
 SHELL = bash
 
-.PHONY: pahole demo test measure turns drawn agree ways plants unseen edits memory
+.PHONY: pahole demo test pages measure turns drawn agree ways plants unseen edits memory
 
 pahole:
 	@. checks/lib/toolchain.sh
@@ -21,15 +21,19 @@ demo: pahole
 test:
 	bash .ci/run
 
+# every definition on the way from `run` to bytes, and every edit, in the folder made
+pages:
+	mkdir -p made
+	python3 -B checks/lib/definitions.py . made/DEFINITIONS.md
+	python3 -B checks/lib/bugs.py . made/EDITS.md
+
 # PAHOLE=path measures another program, RUNS=n times each row so often, VMLINUX=path names a kernel,
-# REAL=folder one of other programs (tools/real-programs.sh builds some), WRITE=1 writes
-# docs/SPEED.md's table. It also runs the check of growth over files five times as large, and with
-# LARGE=1 that of damage (10,000 runs)
+# REAL=folder one of other programs (tools/real-programs.sh builds some). It also runs the check of
+# growth over files five times as large, and with LARGE=1 that of damage (10,000 runs)
 measure:
 	bash tools/measure.sh $(VMLINUX)
 
-# the program and Debian's tool pahole in turn, on VMLINUX, TURNS=n times; WRITE=1 writes
-# docs/SPEED.md's table of turns
+# the program and Debian's tool pahole in turn, on VMLINUX, TURNS=n times
 turns:
 	bash tools/turns.sh $(VMLINUX) $(TURNS)
 
@@ -44,12 +48,11 @@ agree:
 	python3 -B tools/agree.py $(PROGRAM) $(if $(FUNCS),--funcs) $(FILES)
 
 # the same of five real programs, by gcc and clang, with DWARF 4 and 5, and of their objects: builds
-# them in the folder REAL where they aren't there, and with WRITE=1 writes docs/AGREEMENT.md's
-# tables
+# them in the folder REAL where they aren't there
 ways:
 	bash tools/ways.sh $(REAL)
 
-# CRATES='a b' plants in these alone, WRITE=1 writes docs/AUDIT.md's rows
+# CRATES='a b' plants in these alone
 plants:
 	bash tools/plants.sh $(CRATES)
 

@@ -1,8 +1,8 @@
 #!/usr/bin/env bash
 # plants.sh [CRATE..]: plants wrong bodies in each crate with clauses (or in those named) by `rt
-# plant`, and prints its row of docs/AUDIT.md's table; what is still proved, and what was not tried,
-# is told on standard error. MINUTES and PLANTS bound each crate, by default 60 and 2,000. With
-# WRITE=1 the rows go into the page. No check runs this, for a crate takes minutes: `make plants`.
+# plant`, and prints a row of what came of it; what is still proved, and what was not tried, is told on
+# standard error. MINUTES and PLANTS bound each crate, by default 60 and 2,000. No check runs this, for
+# a crate takes minutes: `make plants`.
 set -u
 export LC_ALL=C.UTF-8
 root=$(cd "$(dirname "$0")/.." && pwd) || exit 2
@@ -10,7 +10,6 @@ root=$(cd "$(dirname "$0")/.." && pwd) || exit 2
 need plants rt
 scratch=$(mktemp -d) || exit 2
 trap 'rm -rf "$scratch"' EXIT
-page=$root/docs/AUDIT.md
 
 # the crates with clauses, in the order of crates.txt; programs and crates of tests have none that a
 # body can be planted under
@@ -34,6 +33,8 @@ row() {
 }
 
 failed=0
+echo "| Crate | Planted in | Untested | No ensures | Refused | Elsewhere | Same | Proves | Not judged |"
+echo "|---|---|---|---|---|---|---|---|---|"
 if [ $# = 0 ]; then mapfile -t crates < <(listed); else crates=("$@"); fi
 for crate in "${crates[@]}"; do
   (cd "$root/crates/$crate" && rt plant --minutes "${MINUTES:-60}" --max "${PLANTS:-2000}") \
@@ -44,31 +45,11 @@ for crate in "${crates[@]}"; do
     failed=1
     continue
   fi
-  row "$crate" "$told" | tee -a "$scratch/rows"
+  row "$crate" "$told"
   grep -E '^(proves|no-ensures) ' "$scratch/log" | sed "s/^/$crate: /" >&2
   if ! grep -q ' not-run=0' <<<"$told"; then
     echo "failed plants $crate: some were not tried in ${MINUTES:-60} minutes" >&2
     failed=1
   fi
 done
-
-if [ -n "${WRITE:-}" ] && [ -s "$scratch/rows" ]; then
-  # the rows between the marks, the new ones in place of the old ones, in the order of crates.txt
-  listed >"$scratch/order"
-  awk -v rows="$scratch/rows" -v order="$scratch/order" '
-    BEGIN { while ((getline line <rows) > 0) { split(line, cells, "`"); new[cells[2]] = line } }
-    /^<!-- plants -->/ { inside = 1; print; next }
-    /^<!-- end of plants -->/ {
-      while ((getline crate <order) > 0) {
-        line = crate in new ? new[crate] : old[crate]
-        if (line != "") print line
-      }
-      inside = 0
-      print ""
-    }
-    inside && /^\| `/ { split($0, cells, "`"); old[cells[2]] = $0; next }
-    inside && /^$/ && seen++ { next }
-    { print }' "$page" >"$scratch/page"
-  cp "$scratch/page" "$page"
-fi
 exit $failed

@@ -1,15 +1,12 @@
-"""bugs.py ROOT [write]: the tables of planted bugs on the page docs/AUDIT.md, from the edits
-themselves: each edit's first line says its class. Prints whether the page has these tables, or
-puts them there. An edit in parentheses stands in crates/NAME/more-edits: the gate does not try
-it, and `make edits` does."""
+"""bugs.py ROOT [PAGE]: whether each edit names its class in its first line and each crate with edits
+has a layer here; with PAGE the edits by layer and class are written there. One in parentheses stands
+in crates/NAME/more-edits: the gate does not try it, and `make edits` does."""
 import collections
 import glob
 import os
 import sys
 
 ROOT = os.path.abspath(sys.argv[1])
-PAGE = os.path.join(ROOT, "docs/AUDIT.md")
-BEGIN, END = "<!-- tables -->", "<!-- end of tables -->"
 CLASSES = [
     "swapped field",
     "lost case",
@@ -87,6 +84,7 @@ def tables(found):
         layer: [edit for edit in found if edit.crate in crates] for layer, crates in LAYERS.items()
     }
     lines = [
+        "# Bugs planted by hand",
         "",
         f"| Layer | {' | '.join(CLASSES)} | all | of the gate |",
         "|---" * (len(CLASSES) + 3) + "|",
@@ -100,20 +98,14 @@ def tables(found):
     for layer, mine in by_layer.items():
         if mine:
             lines += layer_lines(layer, mine)
-    return "\n".join(lines) + "\n\n"
+    return "\n".join(lines) + "\n"
 
 
 def main():
     found, faults = edits()
-    with open(PAGE, encoding="utf-8") as file:
-        page = file.read()
-    begin, end = page.index(BEGIN) + len(BEGIN) + 1, page.index(END)
-    made = tables(found)
-    if sys.argv[2:] == ["write"]:
-        with open(PAGE, "w", encoding="utf-8") as file:
-            file.write(page[:begin] + made + page[end:])
-    elif page[begin:end] != made:
-        faults.append("the tables are others: python3 checks/lib/bugs.py . write")
+    if len(sys.argv) > 2:
+        with open(sys.argv[2], "w", encoding="utf-8") as file:
+            file.write(tables(found))
     gate = sum(edit.in_gate for edit in found)
     said = f"{len(found)} edits, {gate} of them in the gate"
     print(f"failed docs edits: {'; '.join(faults)}" if faults else f"passed docs edits: {said}")
