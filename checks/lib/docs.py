@@ -84,7 +84,7 @@ def check_headline():
 def check_map():
     """The map has each crate, and each file of its definitions."""
     rows = {}
-    for line in read("docs/MAP.md").splitlines():
+    for line in read("docs/ARCHITECTURE.md").splitlines():
         cells = [cell.strip() for cell in line.split("|")]
         if len(cells) > 4 and CODE.fullmatch(cells[1]):
             rows[cells[1].strip("`")] = set(CODE.findall(cells[4]))
