@@ -1,5 +1,5 @@
 #!/usr/bin/env bash
-# The examples of the README, of the manual page and of docs/TASKS.md: the built program prints of
+# The examples of the README, of the manual page and of docs/GUIDE.md: the built program prints of
 # the program of demo/ what they show, and files are as long as they say.
 set -u
 export LC_ALL=C.UTF-8
@@ -15,5 +15,5 @@ scratch=$(TMPDIR=/tmp mktemp -d) || exit 2
 trap 'rm -rf "$scratch"' EXIT
 cp -r "$root/demo" "$scratch/demo"
 (cd "$scratch" && cc -g -gdwarf-5 -o registry demo/registry.c demo/main.c) || exit 2
-pages=("$root/README.md" "$root/docs/man/pahole.1" "$root/docs/TASKS.md")
+pages=("$root/README.md" "$root/docs/man/pahole.1" "$root/docs/GUIDE.md")
 python3 -B "$root/checks/lib/examples.py" "$program" "$scratch" "${pages[@]}"
