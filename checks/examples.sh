@@ -1,6 +1,6 @@
 #!/usr/bin/env bash
 # The examples of the README, of the manual page and of docs/GUIDE.md: the built program prints of
-# the program of demo/ what they show, and files are as long as they say.
+# the program of demo/ what they show.
 set -u
 export LC_ALL=C.UTF-8
 . "$(dirname "$0")/lib/program.sh"

@@ -1,7 +1,7 @@
 #!/usr/bin/env bash
 # The built program on a host that fails: output closed, full or given to a pipe that nobody reads;
 # files that are not there, are folders or never end; outputs in no folder or on a full disk; an
-# output that is also an input. Each time the status and the complaint are as README.md says, no
+# output that is also an input. Each time the status and the complaint are as the manual says, no
 # signal ends the program, and nothing is half written but on status 3. What this machine can't do
 # is skipped by name.
 set -u

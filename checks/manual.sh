@@ -1,7 +1,6 @@
 #!/usr/bin/env bash
 # The manual page docs/man/pahole.1: groff and mandoc read it without a warning, each skipped by
-# name where it is not installed. Its options are those of the README's table, and these are those
-# of the table that the words are read by.
+# name where it is not installed. Its options are those of the table that the words are read by.
 set -u
 export LC_ALL=C
 root=$(cd "$(dirname "$0")/.." && pwd) || exit 2
@@ -34,21 +33,14 @@ awk '
   inside && tagged { print; tagged = 0 }
   inside && /^\.TP/ { tagged = 1 }' "$page" |
   sed -E 's/^\.[BI]+ //; s/\\-/-/g' | spellings >"$scratch/page"
-# the first cell of each row of the table under Options; a cell that begins with a word is no option
-awk '
-  /^## / { inside = ($2 == "Options") }
-  inside && /^\| `/ { split($0, cells, "|"); print cells[2] }' "$root/README.md" |
-  grep -o '`-[^`]*`' | tr -d '`' | spellings >"$scratch/readme"
 # `--` is a role of a word and no row of the table
 {
   echo "--"
   sed -n 's/.*(codes "\(-[^"]*\)").*/\1/p' "$root/crates/command_line/specs/Options.antt"
 } | spellings >"$scratch/table"
 
-for other in page table; do
-  if said=$(diff "$scratch/readme" "$scratch/$other"); then
-    echo "passed manual options: the README and the $other have $(wc -l <"$scratch/readme")"
-  else
-    echo "failed manual options: the README and the $other differ: ${said//$'\n'/; }"
-  fi
-done
+if said=$(diff "$scratch/page" "$scratch/table"); then
+  echo "passed manual options: the page and the table have $(wc -l <"$scratch/page")"
+else
+  echo "failed manual options: the page and the table differ: ${said//$'\n'/; }"
+fi

@@ -12,8 +12,11 @@ trap 'rm -rf "$work"' EXIT
 cp -r "$root/demo" "$work/demo"
 cd "$work"
 
-# what FILE: how long a file is
-tell() { echo "$1: $(wc -c <"$1") bytes of $2"; }
+# FILE: how long it is
+tell() {
+  echo "\$ wc -c $1"
+  wc -c "$1"
+}
 
 # a program's words: shows a run of it
 pahole() {
@@ -22,17 +25,18 @@ pahole() {
 }
 
 unhex <"$root/crates/run_cases/data/one-base-type/file.a.hex" >int
-tell int ELF
+tell int
 pahole --btf_encode_detached=int.btf int
-tell int.btf BTF
+tell int.btf
+echo "\$ od -An -tx1 -v int.btf"
 od -An -tx1 -v int.btf
 
 if ! command -v cc >/dev/null; then exit 0; fi
 echo "\$ cc -g -gdwarf-5 -o registry demo/registry.c demo/main.c"
 cc -g -gdwarf-5 -o registry demo/registry.c demo/main.c
-tell registry ELF
+tell registry
 pahole --btf_encode_detached=registry.btf registry
-tell registry.btf BTF
+tell registry.btf
 pahole -C packet registry
 pahole -s -H 1 registry
 

@@ -2,6 +2,8 @@
 import glob
 import os
 import re
+import shutil
+import subprocess
 import sys
 
 ROOT = os.path.abspath(sys.argv[1])
@@ -64,21 +66,26 @@ def check_paths(page):
     return faults, f"{number} paths"
 
 
-def check_headline():
-    """Each definition of the page is in a file that its line names."""
+def check_proof():
+    """Each definition that the page on what is proved names beside files is in one of these, and
+    each crate with definitions has a paragraph there."""
     faults, number = [], 0
-    for line in blocks(read("docs/HEADLINE.md")):
+    page = read("docs/PROOF.md")
+    for line in blocks(page):
         words = CODE.findall(line)
         paths = [
             word for word in words if re.fullmatch(r"\w+/(?:specs|src)/\w+\.(?:antt|rt)", word)
         ]
-        texts = [read(f"crates/{path}") for path in paths]
-        for word in words:
-            if NAME.fullmatch(word) and not word.islower() or "_" in word and NAME.fullmatch(word):
+        texts = [read(f"crates/{path}") for path in paths if exists(f"crates/{path}")]
+        for word in words if texts else []:
+            if NAME.fullmatch(word) and not word.islower():
                 number += 1
                 if not any(re.search(rf"\b{word}\b", text) for text in texts):
                     faults.append(f"{word} is not in {paths}")
-    return faults, f"{number} definitions"
+    told = set(re.findall(r"^\*\*(\w+)\*\*", page, re.M))
+    wanted = [crate for crate in crates() if exists(f"crates/{crate}/specs")]
+    faults += [f"nothing on {crate}" for crate in wanted if crate not in told]
+    return faults, f"{number} definitions, {len(wanted)} crates"
 
 
 def check_map():
@@ -102,52 +109,57 @@ def check_map():
     return faults, f"{len(rows)} crates"
 
 
-def check_promises():
-    """The page on promises has a paragraph on each crate with definitions."""
-    told = set(re.findall(r"^\*\*(\w+)\*\*", read("docs/PROMISES.md"), re.M))
-    wanted = [crate for crate in crates() if exists(f"crates/{crate}/specs")]
-    return [f"nothing on {crate}" for crate in wanted if crate not in told], f"{len(wanted)} crates"
+def misplaced(edit):
+    """The texts that an edit of tools/unseen changes and that don't stand once in their file."""
+    faults, crate, path = [], None, None
+    for line in read(f"tools/unseen/{edit}.edit").splitlines():
+        word, _, text = line.partition(": ")
+        if word == "crate":
+            crate = text.strip()
+        elif word == "file":
+            path = f"crates/{crate}/{text.strip()}"
+        elif word == "old" and read(path).count(text.strip()) != 1:
+            faults.append(f"{edit} changes a text that does not stand once in {path}")
+    return faults
 
 
-def check_refusals():
-    """The page on refusals has the numbers of the program, each with its fault's name."""
-    # a definition that goes on in indented lines is one line here
-    layers = re.sub(r"\n +", " ", read("crates/pahole_run/specs/Layers.antt"))
-    names = {new: old for old, new in re.findall(r"(\w+) as (\w+)", layers)}
-    numbers = dict(
-        re.findall(
-            r"^pub const (\w+): u32 = (\d+);", read("crates/dw_base/src/fault_numbers.rt"), re.M
-        )
-    )
-    faults = [
-        f"{name} has the number of another refusal"
-        for name, number in numbers.items()
-        if list(numbers.values()).count(number) > 1
-    ]
-    known = set()
-    for left, right in re.findall(r"^((?:of_\w+|mixed) .*?) = (.*)$", layers, re.M):
-        number = re.search(r"\bnumbers\.(\w+)", right)
-        if number and not left.startswith("of_whole"):
-            fault = re.findall(r"\b(mixed|[A-Z]\w*)", left)[-1]
-            known.add((numbers[number[1]], names.get(fault, fault)))
-    told = set(re.findall(r"^\| (\d+) \| (\w+) \|", read("docs/REFUSALS.md"), re.M))
-    faults += [
-        f"{name} is told of no fault"
-        for name, number in numbers.items()
-        if number not in {one for one, _ in known}
-    ]
-    faults += [f"{pair} is not told" for pair in sorted(known - told)]
-    for page in ("docs/REFUSALS.md", "docs/DECISIONS.md"):
-        free = re.findall(r"No refusal has the number (\d+)", read(page))
-        faults += [
-            f"{page} says that {one} is free"
-            for one in free
-            if one in {number for number, _ in known}
-        ]
-    return (
-        faults + [f"{pair} is told and not known" for pair in sorted(told - known)],
-        f"{len(told)} refusals",
-    )
+def check_unseen():
+    """The page on what is proved names each edit that no clause refuses, and no other, and each
+    finds what it changes."""
+    page = read("docs/PROOF.md")
+    part = page[page.index("## What no clause can refuse") :]
+    part = part[: part.index("\n## ", 1)] if "\n## " in part[1:] else part
+    words = CODE.findall(part)
+    told = set(words)
+    there = {os.path.basename(path)[:-5] for path in glob.glob(f"{ROOT}/tools/unseen/*.edit")}
+    faults = [f"{name} is not named" for name in sorted(there - told)]
+    faults += [fault for name in sorted(there) for fault in misplaced(name)]
+    return faults, f"{len(there)} edits"
+
+
+def check_cases():
+    """The cases that run_cases counts are those that lie there."""
+    runs = read("crates/run_cases/data/list").split()
+    paths = glob.glob(f"{ROOT}/crates/run_cases/data/*/")
+    folders = [os.path.basename(os.path.dirname(path)) for path in paths]
+    counted = int(re.search(r"^(\d+) cases, 0 differ$", read("crates/run_cases/stdout"), re.M)[1])
+    faults = []
+    if sorted(runs) != sorted(folders):
+        faults.append(f"run_cases has {len(folders)} folders, and its list {len(runs)}")
+    if counted != len(runs):
+        faults.append(f"run_cases prints {counted}, and there are {len(runs)}")
+    return faults, f"{len(runs)} in run_cases"
+
+
+def check_toolchain():
+    """Whether the toolchain that the README names is the one that is installed: every page and
+    proof may be right with another one, too."""
+    told = re.search(r"`rt version` prints `([^`]*)`", read("README.md"))[1]
+    had = subprocess.run(["rt", "version"], capture_output=True, text=True).stdout.strip()
+    if had == told:
+        print(f"passed docs toolchain: {told}")
+    else:
+        print(f"note: this machine has {had}, and the README names {told}")
 
 
 def tell(name, faults, what):
@@ -165,13 +177,17 @@ def main():
         + [os.path.relpath(path, ROOT) for path in sorted(glob.glob(f"{ROOT}/docs/*.md"))]
     ]
     checks += [
-        ("headline", check_headline),
-        ("map", check_map),
-        ("promises", check_promises),
-        ("refusals", check_refusals),
+        ("proof", check_proof),
+        ("architecture", check_map),
+        ("unseen edits", check_unseen),
+        ("cases", check_cases),
     ]
     for name, check in checks:
         tell(name, *check())
+    if shutil.which("rt"):
+        check_toolchain()
+    else:
+        print("skipped docs toolchain: rt is not installed")
 
 
 if __name__ == "__main__":
