@@ -1,15 +1,12 @@
 #!/usr/bin/env bash
-# The pages README.md and docs/: each path and each definition's file that they name exists, the map
-# has each crate and each file of its definitions, the page on refusals has exactly the program's
-# numbers, and the numbers of cases, edits, limits and rows that they tell are those of the
-# repository; and docs/DEFINITIONS.md has every definition that is cited on the way from the clauses
-# of `run` to bytes.
+# The pages README.md and docs/: each path and each definition's file that they name exists, the page
+# on architecture has each crate and each file of its definitions, that on errors is what its table
+# makes, with exactly the program's numbers, that on what is proved has each crate and each edit that no
+# clause refuses, and each edit says what is wrong with it.
 set -u
 export LC_ALL=C.UTF-8
 root=$(cd "$(dirname "$0")/.." && pwd) || exit 2
 . "$root/checks/lib/need.sh"
 need docs python3
 python3 -B "$root/checks/lib/docs.py" "$root"
-python3 -B "$root/checks/lib/counts.py" "$root"
 python3 -B "$root/checks/lib/bugs.py" "$root"
-python3 -B "$root/checks/lib/definitions.py" "$root"

@@ -6,6 +6,7 @@ alone has. What differs on purpose is counted apart, by its cause. With --funcs 
 tells how many names of functions both have with one prototype, and which have another one, or
 are in one alone."""
 import collections
+import math
 import os
 import re
 import subprocess
@@ -21,13 +22,14 @@ INDEX = "the type of indices"
 ATOMIC = "`_Atomic`"
 DECLARED = "declarations beside several definitions"
 ODD = "integers of sizes that BTF has none of"
+DIMENSIONS = "arrays of several dimensions"
 # the type of indices there, also where a file has no `int`
 INDEX_THERE = "INT int 4 0x1000020"
 # integers of 3 or 6 bytes, which clang names so in expressions of places: a structure of that size
 # here, and one integer for all of them there
 ODD_HERE, ODD_THERE = re.compile(r"STRUCT DW_ATE_\w+ \d+ 0 \{\}"), "INT __SANITIZED_FAKE_INT__ "
 # what differs on purpose, and what shows a fault of one of the two
-MEANT, BITS = (INDEX, ATOMIC, DECLARED, ODD), "places of bit fields"
+MEANT, BITS = (INDEX, ATOMIC, DECLARED, ODD, DIMENSIONS), "places of bit fields"
 # how many types that differ are shown, and how many names of functions
 SHOWN, FEW = 20, 8
 
@@ -61,6 +63,15 @@ def without_places(told):
     return re.sub(r"@0x([0-9a-f]{1,2})[0-9a-f]{6}\b", r"@\1 bits", told)
 
 
+def flat(told):
+    """A type's text, where an array of arrays is one of all their elements."""
+    return re.sub(
+        r"(?:\[\d+\]){2,}",
+        lambda lengths: f"[{math.prod(map(int, re.findall('[0-9]+', lengths[0])))}]",
+        told,
+    )
+
+
 def head(told):
     """The kind and the name of a type, by its text."""
     return tuple(told.split(" ", 2)[:2])
@@ -78,11 +89,13 @@ def differing(ours, theirs):
     ]
     often = defined_often(ours)
     of_name = {head(told): why for where, told in alone if (why := cause(where, told, often))}
-    moved = {without_places(told) for told in here - there} & {
-        without_places(told) for told in there - here
+    alike = {
+        why: (form, {form(told) for told in here - there} & {form(told) for told in there - here})
+        for why, form in ((DIMENSIONS, flat), (BITS, without_places))
     }
     whys = [
-        of_name.get(head(told)) or (BITS if without_places(told) in moved else None)
+        of_name.get(head(told))
+        or next((why for why, (form, both) in alike.items() if form(told) in both), None)
         for _, told in alone
     ]
     return len(here & there), [(where, told, why) for (where, told), why in zip(alone, whys)]

@@ -1,7 +1,7 @@
 """beside.py PROGRAM BTF NAME..: whether PROGRAM and Debian's tool pahole place the members of
 structures of a BTF file alike: of each direct member the first bit, and its size where it is no
 bit field; the size of each structure, and the bits of its holes together. What differs in form
-alone is in docs/AGREEMENT.md."""
+alone is in docs/COMPAT.md."""
 import re
 import subprocess
 import sys

@@ -1,7 +1,7 @@
-"""measure.py PROGRAM ROOT FOLDER RUNS [VMLINUX]: the rows of docs/SPEED.md. Each row is a run of
-PROGRAM over an input that is found on this machine or made in FOLDER: its time, its memory, and
-what came of it. Prints the rows as a table, with the machine and the tools, and a line `skipped
-NAME: ..` or `failed NAME: ..` on standard error for a row that there is not."""
+"""measure.py PROGRAM ROOT FOLDER RUNS [VMLINUX]: the rows of docs/BENCHMARKS.md. Each row is a run
+of PROGRAM over an input that is found on this machine or made in FOLDER: its time, its memory,
+and what came of it. Prints the rows as a table, with the machine and the tools, and a line
+`skipped NAME: ..` or `failed NAME: ..` on standard error for a row that there is not."""
 import collections
 import glob
 import json
@@ -33,44 +33,26 @@ Row = collections.namedtuple("Row", "what given words")
 WHATS = {
     "apart": "units whose types all differ",
     "alike": "units with the same types",
-    "nested-20000": "structures in each other",
-    "nested-200000": "ten times as many",
+    "nested-20000": "20,000 structures in each other",
+    "nested-200000": "200,000 structures in each other",
     "flat": "one large unit",
-    "wide": "the widest structure",
+    "wide": "the widest structure, 65,535 members",
 }
-WIDE = "the layout of the widest structure"
-KERNEL, KERNEL_TWO, KERNEL_ONE = "a kernel", "a kernel, two workers", "a kernel, one worker"
-FUNCS, FUNCS_ONE = "a kernel with its functions", "a kernel with its functions, one worker"
+WIDE = "the layout of that structure"
+KERNEL, FUNCS = "a kernel, types alone", "a kernel with functions"
 KERNEL_LAYOUT = "a layout of a kernel"
-TABLE = "the layouts of this machine's kernel, from its BTF"
-OVER = "the program of demo/ over this machine's kernel's types"
-PEER, PEER_ONE = "a kernel, by the tool pahole", "a kernel, by the tool pahole, one thread"
+TABLE = "the layouts of a running kernel's BTF"
+OVER = "a program over that BTF"
+PEER = "dwarves"
+ONE = "one thread"
 # modules of a kernel that stand beside it, in ../lib/modules, and are encoded over its table
 MODULES = ["xfs.ko", "btrfs.ko", "mac80211.ko", "amdgpu.ko"]
 MADE = "a made input of 2,100,224 types"
-MODULE, MODULE_PEER = "a module of a kernel, {}", "{}, by the tool pahole"
+MODULE, MODULE_PEER = "{}, types alone", "{}, dwarves"
 MADE_NUMBER, MADE_LINE = 8388607, b"units 1024, entries 2100224, types 16387, bytes 398366\n"
 # other programs, which tools/real-programs.sh builds: the files of the folder REAL, each by another
 # program too
-REAL, REAL_PEER = "the program {}", "{}, by the tool pahole"
-REAL_NAMES = ["busybox", "git", "postgres", "redis", "sqlite3"]
-ALL = [
-    KERNEL,
-    KERNEL_TWO,
-    KERNEL_ONE,
-    FUNCS,
-    FUNCS_ONE,
-    KERNEL_LAYOUT,
-    PEER,
-    PEER_ONE,
-    TABLE,
-    OVER,
-    *WHATS.values(),
-    WIDE,
-    MADE,
-    *(form.format(name) for name in MODULES for form in (MODULE, MODULE_PEER)),
-    *(form.format(name) for name in REAL_NAMES for form in (REAL, REAL_PEER)),
-]
+REAL, REAL_PEER = "{} with functions", "{}, dwarves"
 
 
 said = []
@@ -147,12 +129,11 @@ def outcome(folder):
         return f"{number(len(table))} bytes of BTF, {number(count(table))} types"
     printed = read(f"{folder}/printed")
     lines = printed.count(b"\n")
-    return f"{number(len(printed))} bytes of text, {number(lines)} line{'s' * (lines != 1)}"
+    return f"{number(lines)} line{'s' * (lines != 1)}"
 
 
-def show(row, folder, runs, more=lambda row: ""):
-    """Prints a row, with more that is found of what was stored; answers the table that was
-    stored."""
+def show(row, folder, runs, look=lambda row: None):
+    """Prints a row, and looks at what was stored; answers the table that was stored."""
     stored = f"{folder}/o"
     if os.path.exists(stored):
         os.remove(stored)
@@ -167,9 +148,10 @@ def show(row, folder, runs, more=lambda row: ""):
         seconds(run.wall),
         seconds(run.used),
         f"{number(round(run.memory / 1e6))} MB",
-        outcome(folder) + more(row),
+        outcome(folder),
     ]
     print(f"| {' | '.join(cells)} |", flush=True)
+    look(row)
     return read(stored) if os.path.exists(stored) else b""
 
 
@@ -201,62 +183,51 @@ def machine(program, runs):
     each = "that of one run" if runs == 1 else f"the median of {runs} runs"
     print(f"The program has {number(os.path.getsize(program))} bytes. Each time is {each}.")
     print()
-    print("| What | Input | Time | Processor time | Memory | Answer |")
+    print("| What | Input | Time | CPU time | Peak memory | Result |")
     print("|---|---|---|---|---|---|", flush=True)
 
 
 def kernel(program, folder, runs, named):
-    """A kernel with its DWARF: its table by as many workers as there are processors and by one,
-    a layout, and the table of another program. Answers the tables, that with functions and that
-    of the other program."""
+    """A kernel with its DWARF: its table with functions and without them, by one thread and by
+    more, each beside that of dwarves, and a layout. Answers the tables: without functions, with
+    them, and that of dwarves."""
     found = [named] if named else sorted(glob.glob(KERNELS))
     if not found:
         say(f"skipped {KERNEL}: there is no {KERNELS}; the package {PACKAGE}")
         return b"", b"", b""
-    path, workers = os.path.abspath(found[-1]), min(os.cpu_count(), 256)
-    given = f"`{os.path.basename(path)}`, {number(os.path.getsize(path))} bytes"
-    encode = [program, "--btf_encode_detached=o"]
-    many = show(
-        Row(KERNEL, f"{given}, `-j{workers}`", [*encode, f"-j{workers}", path]), folder, runs
-    )
-    two = show(Row(KERNEL_TWO, "the same, `-j2`", [*encode, "-j2", path]), folder, runs)
-    one = show(Row(KERNEL_ONE, "the same, `-j1`", [*encode, "-j1", path]), folder, runs)
-    if not many == two == one:
-        say(f"failed {KERNEL_ONE}: another table than by more workers")
-    funcs = show(
-        Row(FUNCS, f"the same, `--funcs -j{workers}`", [*encode, "--funcs", f"-j{workers}", path]),
-        folder,
-        runs,
-    )
-    if funcs != show(
-        Row(FUNCS_ONE, "the same, `--funcs -j1`", [*encode, "--funcs", "-j1", path]), folder, runs
-    ):
-        say(f"failed {FUNCS_ONE}: another table than by {workers} workers")
-    show(
-        Row(KERNEL_LAYOUT, "the same, `-C list_head`", [program, "-C", "list_head", path]),
-        folder,
-        runs,
-    )
-    if tool(["pahole", "--version"], r"v(\S+)"):
-        words = ["pahole", "--btf_encode_detached=o", path]
-        show(Row(PEER_ONE, "the same", words), folder, runs)
-        return (
-            one,
-            funcs,
-            show(Row(PEER, f"the same, `-j{workers}`", [*words, f"-j{workers}"]), folder, runs),
-        )
-    say(f"skipped {PEER}: it is not installed")
-    return one, funcs, b""
+    path, most = os.path.abspath(found[-1]), min(os.cpu_count(), 256)
+    inputs = iter([f"`{os.path.basename(path)}`, {number(os.path.getsize(path))} bytes"])
+
+    def row(what, threads, *words):
+        told = ONE if threads == 1 else f"`-j{threads}`"
+        words = [*words, "--btf_encode_detached=o", path] + [f"-j{threads}"] * (threads > 1)
+        return show(Row(f"{what}, {told}", next(inputs, "the same"), words), folder, runs)
+
+    has_peer = tool(["pahole", "--version"], r"v(\S+)")
+    if not has_peer:
+        say(f"skipped {PEER}: it is not installed")
+    funcs, theirs = [], [b""]
+    for threads in (1, most):
+        funcs.append(row(FUNCS, threads, program, "--funcs"))
+        if has_peer:
+            theirs.append(row(PEER, threads, "pahole"))
+    ours = [row(KERNEL, threads, program) for threads in sorted({1, 2, most})]
+    for what, tables in ((FUNCS, funcs), (KERNEL, ours)):
+        if len(set(tables)) > 1:
+            say(f"failed {what}: another table by another number of threads")
+    words = [program, "-C", "list_head", path]
+    show(Row(KERNEL_LAYOUT, "the same, `-C list_head`", words), folder, runs)
+    return ours[0], funcs[0], theirs[-1]
 
 
 def read_back(folder):
-    """A reader of what is stored over the kernel's table: the words for a row, where bpftool is
-    installed and reads it."""
+    """A reader of what is stored over the kernel's table, where bpftool is installed: it tells
+    where that reads another number of types."""
     if not shutil.which("bpftool"):
         say(f"skipped {MODULE.format('read back')}: bpftool is not installed")
-        return lambda row: ""
+        return lambda row: None
 
-    def more(row):
+    def look(row):
         words = ["bpftool", "btf", "dump", "-B", f"{folder}/base", "file", f"{folder}/o"]
         done = subprocess.run(words, stdin=subprocess.DEVNULL, capture_output=True)
         # its lines of types begin with their numbers, those of the base left out
@@ -265,10 +236,8 @@ def read_back(folder):
             complaint = done.stderr.decode(errors="replace").strip()[:200]
             had = f"{number(lines)} types, status {done.returncode}, {complaint}"
             say(f"failed {row.what}: bpftool reads {had}")
-            return ""
-        return ", read by bpftool"
 
-    return more
+    return look
 
 
 def modules(program, folder, runs, named, base):
@@ -284,7 +253,7 @@ def modules(program, folder, runs, named, base):
         if not base or not paths:
             say(f"skipped {name}: it does not stand beside a kernel that is measured")
             continue
-        given = f"`{name}`, {number(os.path.getsize(paths[0]))} bytes, over the kernel's table"
+        given = f"{number(os.path.getsize(paths[0]))} bytes, over the kernel's table"
         words = [program, "--btf_encode_detached=o", "--btf_base=base", paths[0]]
         show(Row(MODULE.format(name), given, words), folder, runs, reader)
         if has_peer:
@@ -299,7 +268,7 @@ def real_programs(program, folder, runs):
         if not os.path.isfile(path) or read(path)[:4] != b"\x7fELF":
             continue
         name = os.path.basename(path)
-        given = f"`{name}`, {number(os.path.getsize(path))} bytes"
+        given = f"{number(os.path.getsize(path))} bytes"
         show(
             Row(REAL.format(name), given, [program, "--btf_encode_detached=o", "--funcs", path]),
             folder,
@@ -330,7 +299,7 @@ def compare(*tables):
     """How many types of each kind are in the kernel's tables."""
     counts = [kinds(table) for table in tables]
     print()
-    print("| Kind | Here | Here, with functions | By the tool pahole |")
+    print("| Kind | Here | Here, with functions | By dwarves |")
     print("|---|---|---|---|")
     for kind in BTF_KINDS:
         if any(count[kind] for count in counts):
@@ -352,7 +321,7 @@ def table(program, root, folder, runs):
         ["cc", "-g", "-o", f"{folder}/demo", f"{root}/demo/registry.c", f"{root}/demo/main.c"],
         check=True,
     )
-    given = f"{number(os.path.getsize(f'{folder}/demo'))} bytes, over the same table"
+    given = f"the program of `demo/`, {number(os.path.getsize(f'{folder}/demo'))} bytes"
     show(
         Row(
             OVER,
@@ -372,10 +341,7 @@ def made_inputs(program, root, folder, runs):
         told = subprocess.run(words, capture_output=True, text=True, check=True).stdout
         made = Made(*map(int, told.split()))
         units = f"{number(made.units)} unit{'s' * (made.units > 1)}"
-        sizes = (
-            f"{number(made.info)} bytes of `.debug_info`, {units}, {number(made.entries)} entries"
-        )
-        given = f"{sizes}, {number(made.types)} types, {number(made.references)} references"
+        given = f"{number(made.info)} bytes of `.debug_info`, {units}"
         stored = show(Row(what, given, [program, "--btf_encode_detached=o", path]), folder, runs)
         if stored and count(stored) != made.table:
             say(f"failed {what}: {count(stored)} types in place of {made.table}")

@@ -97,7 +97,7 @@ def main():
         )
     )
     total = sum(counts.values())
-    print("| Phase | Processor time | Of the whole |\n|---|---|---|")
+    print("| Phase | CPU time | Of the whole |\n|---|---|---|")
     for phase in [*PHASES, LETTING_GO]:
         print(
             f"| {phase} | {counts[phase] / FREQUENCY:.2f} s | {100 * counts[phase] / total:.0f}% |"

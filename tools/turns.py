@@ -46,8 +46,8 @@ def row(name, one, its_one, four_time, its_four_time, one_time):
 def main():
     program, file, *count = sys.argv[1:]
     print(
-        "| Turn | Processor time, `-j1` | pahole's, one thread | Ratio "
-        "| Time, `-j4` | pahole's, `-j4` | Ratio | `-j4` to `-j1` |"
+        "| Turn | CPU time, `-j1` | dwarves', one thread | Ratio "
+        "| Time, `-j4` | dwarves', `-j4` | Ratio | `-j4` to `-j1` |"
     )
     print("|---|---|---|---|---|---|---|---|")
     turns = []

@@ -427,7 +427,7 @@ class Kind(typing.NamedTuple):
     words: typing.Callable[[int], list] = encoding
     # whether larger ones can be had, and take long enough
     has_larger: bool = True
-    # whether its work is known to grow with the square; docs/SPEED.md says why
+    # whether its work is known to grow with the square; docs/BENCHMARKS.md says why
     is_square: bool = False
 
 
@@ -439,7 +439,7 @@ KINDS = [
     Kind("units of one table of abbreviations", units_of_one_table, 2_500),
     Kind("units of tables by turns", units_of_tables_by_turns, 2_500),
     Kind(
-        "units at different places of one table",
+        "units at different offsets of one table",
         units_at_places_of_one_table,
         1_000,
         has_larger=False,
