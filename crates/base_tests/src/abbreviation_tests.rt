@@ -252,7 +252,10 @@ fn is_behind(
     count: usize,
     before: (u64, usize),
 ) -> Result<bool, AbbrevFault> {
-    let bytes = behind(alloc, form as u8, count)?;
+    let Ok(form) = u8::try_from(form) else {
+        return Ok(false);
+    };
+    let bytes = behind(alloc, form, count)?;
     let table = Abbrevs::read(alloc, bytes.as_slice(), 0)?;
     Ok(match table.get(1) {
         None => false,
