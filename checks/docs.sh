@@ -10,3 +10,4 @@ root=$(cd "$(dirname "$0")/.." && pwd) || exit 2
 need docs python3
 python3 -B "$root/checks/lib/docs.py" "$root"
 python3 -B "$root/checks/lib/bugs.py" "$root"
+python3 -B "$root/checks/lib/errors.py" "$root"

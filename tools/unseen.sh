@@ -1,7 +1,7 @@
 #!/usr/bin/env bash
 # unseen.sh [NAME..]: applies each edit of tools/unseen (or those named) to a copy of the
 # repository, and proves the edited crate. Each is a wrong program, or an equal one, that
-# docs/AUDIT.md says no clause refuses. An edit has the form of a must-fail edit, behind a line
+# docs/PROOF.md says no clause refuses. An edit has the form of a must-fail edit, behind a line
 # `crate: NAME`; it may change several files, each behind a line `file: PATH` of its own, and a line
 # `and: TEXT` adds one behind the new one. What its proof needs besides lies in a folder of the
 # edit's name, each file with `.txt` behind its name, and is put beside the crate's. `passed` is
@@ -62,7 +62,7 @@ for name in "${edits[@]}"; do
     echo "failed $name: $why"
     failed=1
   elif (cd "$folder" && rt check) >"$scratch/log" 2>&1; then
-    echo "passed $name: $crate is proved with it, as docs/AUDIT.md says"
+    echo "passed $name: $crate is proved with it, as docs/PROOF.md says"
   else
     why=$(grep -m 1 -E ': error|error\[' "$scratch/log" || tail -n 1 "$scratch/log")
     echo "failed $name: $crate is not proved with it: $why"

@@ -67,25 +67,34 @@ def check_paths(page):
 
 
 def check_proof():
-    """Each definition that the page on what is proved names beside files is in one of these, and
-    each crate with definitions has a paragraph there."""
-    faults, number = [], 0
-    page = read("docs/PROOF.md")
-    for line in blocks(page):
-        words = CODE.findall(line)
-        paths = [
-            word for word in words if re.fullmatch(r"\w+/(?:specs|src)/\w+\.(?:antt|rt)", word)
-        ]
-        texts = [read(f"crates/{path}") for path in paths if exists(f"crates/{path}")]
-        for word in words if texts else []:
-            if NAME.fullmatch(word) and not word.islower():
+    """What the page on proofs names and quotes is there, up to what no clause can refuse: each
+    definition is in a file that its row, or the text above the table, names, or in the crate that
+    its paragraph is on; what a row quotes stands so in such a file; and each crate with definitions
+    has a paragraph."""
+    faults, number, told, above = [], 0, set(), []
+    for block in blocks(read("docs/PROOF.md").partition("## What no clause can refuse")[0]):
+        words, crate = CODE.findall(block), re.match(r"\*\*(\w+)\*\*", block)
+        paths = [word for word in words if re.fullmatch(r"\w+/(?:specs|src)/\w+\.\w+", word)]
+        is_row = block.startswith("|")
+        if crate and crate[1] in crates():
+            told.add(crate[1])
+            found = glob.glob(f"{ROOT}/crates/{crate[1]}/s*/**/*.*t", recursive=True)
+            paths += [os.path.relpath(path, f"{ROOT}/crates") for path in found]
+        elif is_row:
+            paths = paths or above
+        else:
+            above = paths
+            continue
+        text = " ".join(word for path in paths for word in read(f"crates/{path}").split())
+        for word in words:
+            is_name = NAME.fullmatch(word) and (not word.islower() or "_" in word)
+            if is_name and word not in crates() or is_row and re.search(r" [≡=:→]", word):
                 number += 1
-                if not any(re.search(rf"\b{word}\b", text) for text in texts):
-                    faults.append(f"{word} is not in {paths}")
-    told = set(re.findall(r"^\*\*(\w+)\*\*", page, re.M))
+                if not re.search(rf"(?<!\w){re.escape(word)}(?!\w)", text):
+                    faults.append(f"{word} is not in {crate[1] if crate else paths}")
     wanted = [crate for crate in crates() if exists(f"crates/{crate}/specs")]
     faults += [f"nothing on {crate}" for crate in wanted if crate not in told]
-    return faults, f"{number} definitions, {len(wanted)} crates"
+    return faults, f"{number} definitions, {len(told)} crates"
 
 
 def check_map():
