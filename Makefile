@@ -1,19 +1,25 @@
-# pahole, proved. `make pahole` builds the proved program, `make demo` encodes a file with it, `make
-# test` is the gate and the repository's own checks, `make pages` lists all definitions and edits. What
-# takes long is run by hand: `make measure`, `make turns` and `make drawn` (docs/BENCHMARKS.md), `make
-# agree` and `make ways` (docs/COMPAT.md), `make plants`, `make edits`, `make unseen` and `make memory`
-# (docs/CONTRIBUTING.md).
+# pahole, proved. `make pahole` builds the proved program, `make install` installs it, `make demo`
+# encodes a file with it, `make test` is the gate and the repository's own checks, `make pages` lists
+# all definitions and edits. What takes long is run by hand: `make measure`, `make turns` and `make
+# drawn` (docs/BENCHMARKS.md), `make agree` and `make ways` (docs/COMPAT.md), `make plants`, `make
+# edits`, `make unseen` and `make memory` (docs/CONTRIBUTING.md).
 PROGRAM = crates/pahole/out/pahole
 
 SHELL = bash
 
-.PHONY: pahole demo test pages measure turns drawn agree ways plants unseen edits memory
+.PHONY: pahole install demo test pages measure turns drawn agree ways plants unseen edits memory
 
 pahole:
 	@. checks/lib/toolchain.sh
 	@# rt run also runs the program, which ends with status 2 without words
 	cd crates/pahole && rm -f out/pahole && { rt run || true; } && test -x out/pahole
 	@echo "the proved program is $(PROGRAM)"
+
+# the program and its manual page; DESTDIR=folder puts them below it
+PREFIX = /usr/local
+install: pahole
+	install -D $(PROGRAM) $(DESTDIR)$(PREFIX)/bin/pahole
+	install -D -m 644 docs/man/pahole.1 $(DESTDIR)$(PREFIX)/share/man/man1/pahole.1
 
 demo: pahole
 	bash tools/demo.sh $(PROGRAM)

@@ -14,5 +14,5 @@ apt-get install -y --no-install-recommends \
   gcc-mips-linux-gnu libc6-dev-mips-cross \
   gcc-aarch64-linux-gnu libc6-dev-arm64-cross \
   clang lld dwz \
-  groff mandoc \
+  codespell groff mandoc \
   hyperfine time

@@ -30,7 +30,7 @@ TIMER = "/usr/bin/time"
 Run = collections.namedtuple("Run", "wall used memory")
 Row = collections.namedtuple("Row", "what given words")
 # what each made input shows; its numbers are counted
-WHATS = {
+MADE_ROWS = {
     "apart": "units whose types all differ",
     "alike": "units with the same types",
     "nested-20000": "20,000 structures in each other",
@@ -335,7 +335,7 @@ def table(program, root, folder, runs):
 
 def made_inputs(program, root, folder, runs):
     """Files that are made here, each by a process of its own, so that this one stays small."""
-    for kind, what in WHATS.items():
+    for kind, what in MADE_ROWS.items():
         path = f"{folder}/{kind}"
         words = [sys.executable, "-B", f"{root}/checks/lib/made.py", kind, path]
         told = subprocess.run(words, capture_output=True, text=True, check=True).stdout
