@@ -163,7 +163,7 @@ def check_cases():
 def check_toolchain():
     """Whether the toolchain that the README names is the one that is installed: every page and
     proof may be right with another one, too."""
-    told = re.search(r"`rt version` prints `([^`]*)`", read("README.md"))[1]
+    told = re.search(r"`rt version`\s+prints\s+`([^`]*)`", read("README.md"))[1]
     had = subprocess.run(["rt", "version"], capture_output=True, text=True).stdout.strip()
     if had == told:
         print(f"passed docs toolchain: {told}")
