@@ -175,8 +175,7 @@ struct ToldEntry {
 }
 
 /// The name of an entry.
-fn name_text(alloc: Global, ctx: &FormCtx<'_>, entry: &Entry<'_, '_>) -> Option<String>
-{
+fn name_text(alloc: Global, ctx: &FormCtx<'_>, entry: &Entry<'_, '_>) -> Option<String> {
     let mut text = String::new(alloc);
     if let Some(given) = entry.attr(3).ok()? {
         for byte in name_of(ctx, 3, &given).ok()?.bytes() {
@@ -208,8 +207,7 @@ fn text_of(
     ctx: &FormCtx<'_>,
     entry: &Entry<'_, '_>,
     asked: AskedOf,
-) -> Option<String>
-{
+) -> Option<String> {
     match asked {
         AskedOf::Nothing => Some(String::new(alloc)),
         AskedOf::Name => name_text(alloc, ctx, entry),
@@ -225,8 +223,7 @@ fn push_told(
     ctx: &FormCtx<'_>,
     entry: &Entry<'_, '_>,
     asked: AskedOf,
-) -> Option<()>
-{
+) -> Option<()> {
     let text = text_of(alloc, ctx, entry, asked)?;
     let (at, depth, tag) = (entry.at, entry.depth, entry.tag);
     entries
@@ -254,8 +251,7 @@ fn entries_of(
     walk: &mut Walk<'_, '_>,
     most: u64,
     asked: AskedOf,
-) -> Result<Vec<ToldEntry>, Outcome>
-{
+) -> Result<Vec<ToldEntry>, Outcome> {
     let mut entries = Vec::new(alloc);
     for _ in 0..=most {
         match walk.next() {

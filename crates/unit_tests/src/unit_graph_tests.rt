@@ -73,7 +73,7 @@ fn links(rt: HostRuntime) -> Result<(), Fail> {
     let places = places(rt.alloc())?;
     for &(file, index, targets, wanted) in LINKED {
         let found = link_targets(rt.alloc(), &places, 4, file, index, targets)?;
-        assert!(rt; is_linked(found, wanted), "{wanted:?}");
+        assert!(rt; is_linked(found, wanted), "row {file}, {index}");
     }
     Ok(())
 }
