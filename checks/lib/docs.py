@@ -139,25 +139,32 @@ def check_unseen():
     part = page[page.index("## What no clause can refuse") :]
     part = part[: part.index("\n## ", 1)] if "\n## " in part[1:] else part
     words = CODE.findall(part)
-    told = set(words)
+    told = {word for word in words if re.fullmatch(r"[a-z]+(_[a-z]+)+", word)} - set(crates())
     there = {os.path.basename(path)[:-5] for path in glob.glob(f"{ROOT}/tools/unseen/*.edit")}
     faults = [f"{name} is not named" for name in sorted(there - told)]
+    faults += [f"{name} is named and not there" for name in sorted(told - there)]
     faults += [fault for name in sorted(there) for fault in misplaced(name)]
     return faults, f"{len(there)} edits"
 
 
 def check_cases():
-    """The cases that run_cases counts are those that lie there."""
+    """The cases that the programs of the gate count are those that lie there; btf_cases makes
+    two more."""
     runs = read("crates/run_cases/data/list").split()
     paths = glob.glob(f"{ROOT}/crates/run_cases/data/*/")
     folders = [os.path.basename(os.path.dirname(path)) for path in paths]
-    counted = int(re.search(r"^(\d+) cases, 0 differ$", read("crates/run_cases/stdout"), re.M)[1])
+    made = 2 + sum(
+        len(re.findall("^case ", read(os.path.relpath(path, ROOT)), re.M))
+        for path in glob.glob(f"{ROOT}/crates/btf_cases/data/*")
+    )
     faults = []
     if sorted(runs) != sorted(folders):
         faults.append(f"run_cases has {len(folders)} folders, and its list {len(runs)}")
-    if counted != len(runs):
-        faults.append(f"run_cases prints {counted}, and there are {len(runs)}")
-    return faults, f"{len(runs)} in run_cases"
+    for program, count in (("run_cases", len(runs)), ("btf_cases", made)):
+        told = re.search(r"^(\d+) cases, 0 differ$", read(f"crates/{program}/stdout"), re.M)[1]
+        if int(told) != count:
+            faults.append(f"{program} prints {told}, and there are {count}")
+    return faults, f"{len(runs)} in run_cases, {made} in btf_cases"
 
 
 def check_toolchain():
