@@ -1,5 +1,7 @@
 -- An open array comes to its row, one child after the other.
 use Rattle.std.proofs.Common.{◌≡◌, not, List, ◌∷◌, ◌++◌, None, refl, sym, ◌∙◌}
+use Rattle.std.specs.declared.alloc.Global.{Global}
+use Rattle.std.specs.declared.boxed.Box.{Box}
 use Rattle.dwarf_forms.specs.Meanings.{Sections}
 use Rattle.entry_tree.specs.Items.{Given}
 use Rattle.c_types.specs.declared.open.OpenArray.{OpenArray}
@@ -49,9 +51,10 @@ pub record IsFresh (c : Sections) (e : Given) (o : OpenArray) : Type 0 where
       ≡ noted None
       ((target_asked c e).refused ++ refuse_if (not (has DW_AT_type e)) (MissingType e.at))
 
-pub array_comes : (s : Scope) (e : Given) (o : OpenArray) → IsFresh s.sections e o
-    → ComesTo s (Array o) (array_row s.sections e)
-array_comes s e o h =
+pub array_comes : (s : Scope) (e : Given) (b : Box OpenArray Global) → IsFresh s.sections e b.value
+    → ComesTo s (Array b) (array_row s.sections e)
+array_comes s e b h =
+    let o = b.value in
     record {
       made = λ kids. made_is o kids
           ∙ rw (h.at, h.target, h.lengths, elements_are (lengths_of kids)) refl;

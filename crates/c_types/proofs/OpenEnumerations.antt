@@ -3,6 +3,8 @@ use Rattle.std.proofs.Common.{◌≡◌, ℕ, ◌==◌, ◌&&◌, not, Bool, tru
 use Rattle.std.proofs.Common.{length, map, Option, None, if◌then◌else◌, refl, sym, ap, ◌∙◌}
 use Rattle.std.proofs.lemmas.List.{append-nil, length-map}
 use Rattle.std.proofs.Math.Bool.{or-false}
+use Rattle.std.specs.declared.alloc.Global.{Global}
+use Rattle.std.specs.declared.boxed.Box.{Box}
 use Rattle.dwarf_forms.specs.Meanings.{Sections}
 use Rattle.entry_tree.specs.Items.{Given}
 use Rattle.c_types.specs.declared.open.OpenEnumeration.{OpenEnumeration}
@@ -285,10 +287,10 @@ module _ (c : Sections) (e : Given) (o : OpenEnumeration) (h : IsFresh c e o) wh
   came_refused defined kids =
       fresh_refused kids ∙ ap (λ (r : Row). noted None r.refused) (sym (row_open c e kids defined))
 
-pub enumeration_comes : (s : Scope) (e : Given) (o : OpenEnumeration) → IsFresh s.sections e o
-    → is_set (flag_asked DW_AT_declaration e) ≡ false
-    → ComesTo s (Enumeration o) (enumeration_row s.sections e)
-enumeration_comes s e o h defined = record {
-  made = came_made s.sections e o h defined;
-  refused = came_refused s.sections e o h defined;
+pub enumeration_comes : (s : Scope) (e : Given) (b : Box OpenEnumeration Global)
+    → IsFresh s.sections e b.value → is_set (flag_asked DW_AT_declaration e) ≡ false
+    → ComesTo s (Enumeration b) (enumeration_row s.sections e)
+enumeration_comes s e b h defined = record {
+  made = came_made s.sections e b.value h defined;
+  refused = came_refused s.sections e b.value h defined;
 }

@@ -1,20 +1,24 @@
 -- An open subroutine type comes to its row, one child after the other.
-use Rattle.std.proofs.Common.{◌≡◌, ◌==◌, false, List, [], ◌∷◌, ◌++◌, length}
-use Rattle.std.proofs.Common.{Option, None, refl, sym, ap, ◌∙◌}
+use Rattle.std.proofs.Common.{◌≡◌, ◌==◌, ◌||◌, Bool, false, ℕ, List, [], ◌∷◌, ◌++◌, length, map}
+use Rattle.std.proofs.Common.{Option, None, if◌then◌else◌, refl, sym, ap, ◌∙◌}
+use Rattle.std.specs.declared.alloc.Global.{Global}
+use Rattle.std.specs.declared.boxed.Box.{Box}
 use Rattle.std.proofs.lemmas.List.{append-nil}
 use Rattle.std.proofs.Math.Bool.{or-false}
 use Rattle.dwarf_forms.specs.Meanings.{Sections}
 use Rattle.entry_tree.specs.Items.{Given}
 use Rattle.c_types.specs.declared.open.OpenFunction.{OpenFunction}
-use Rattle.c_types.specs.declared.open.OpenType.TheVariants.{Function}
+use Rattle.c_types.specs.declared.open.OpenType.TheVariants.{Function, EmptyFunction}
+use Rattle.type_attributes.specs.declared.source.Target.TheVariants.{Void}
 use Rattle.type_attributes.specs.declared.fault.TypeFault.{TypeFault}
 use Rattle.type_attributes.specs.Scopes.{Scope}
 use Rattle.type_attributes.specs.Faults.{noted}
 use Rattle.type_attributes.specs.Attributes.{target_asked, target_of_type}
 use Rattle.type_attributes.specs.Children.{tagged}
-use Rattle.type_attributes.specs.Parts.{refused_by}
+use Rattle.type_attributes.specs.Parts.{refused_by, some_tagged}
 use Rattle.c_types.specs.Functions.{parameter_part, parameter_target, parameter_refused, rest_part}
 use Rattle.c_types.specs.Functions.{function_row}
+use Rattle.c_types.specs.Opened.{empty_parts, empty_made, empty_refused, IsNewFunction}
 use Rattle.c_types.specs.Opened.{all_parameters, all_results, all_variadic, function_by}
 use Rattle.c_types.specs.Opened.{function_made, too_many, function_refused, GathersParameter}
 use Rattle.c_types.specs.Opened.{ComesTo}
@@ -91,20 +95,92 @@ module _ (c : Sections) (e : Given) (o p : OpenFunction) (kids : List Given)
       (refused_by (parameter_refused c) (tagged DW_TAG_formal_parameter (e ∷ kids)))
       many) ∙ sym (refused_is c o (e ∷ kids)))
 
--- a subroutine type begins
-pub record IsFresh (c : Sections) (e : Given) (o : OpenFunction) : Type 0 where
-  pub at : o.at ≡ e.at
-  pub parts : o.parts.items ≡ []
-  pub targets : o.targets.items ≡ target_of_type e.at (target_asked c e) ∷ []
-  pub variadic : o.variadic ≡ false
-  pub least : o.least ≡ noted None (target_asked c e).refused
+-- one that has gathered nothing
+empty_made_is : (c : Sections) (at : ℕ) (kids : List Given) → empty_made c at kids
+    ≡ function_by at (some_tagged DW_TAG_unspecified_parameters kids) (empty_parts c kids)
+    (Void ∷ map (parameter_target c) (tagged DW_TAG_formal_parameter kids))
+unfolding empty_made
+empty_made_is c at kids = refl
 
-pub function_comes : (s : Scope) (e : Given) (o : OpenFunction) → IsFresh s.sections e o
+empty_refused_is : (c : Sections) (at : ℕ) (kids : List Given) → empty_refused c at kids
+    ≡ noted None (refused_by (parameter_refused c) (tagged DW_TAG_formal_parameter kids)
+    ++ too_many at (length
+    (empty_parts c kids ++ rest_part (some_tagged DW_TAG_unspecified_parameters kids))))
+unfolding empty_refused
+empty_refused_is c at kids = refl
+
+pub empty_made_closed : (c : Sections) (at : ℕ)
+    → empty_made c at [] ≡ function_by at false [] (Void ∷ [])
+empty_made_closed c at = empty_made_is c at []
+
+pub empty_refused_closed : (c : Sections) (at : ℕ) → empty_refused c at [] ≡ None
+empty_refused_closed c at = empty_refused_is c at []
+
+-- it begins to gather
+pub first_made : (c : Sections) (at : ℕ) (o : OpenFunction) (kids : List Given)
+    → IsNewFunction at Void None o → function_made c o kids ≡ empty_made c at kids
+first_made c at o kids h = made_is c o kids ∙ rw (h.at_is, h.parts, h.targets, h.variadic)
+    (sym (empty_made_is c at kids))
+
+pub first_refused : (c : Sections) (at : ℕ) (o : OpenFunction) (kids : List Given)
+    → IsNewFunction at Void None o → function_refused c o kids ≡ empty_refused c at kids
+first_refused c at o kids h = refused_is c o kids
+    ∙ rw (h.at_is, h.parts, h.variadic, h.least_is) (sym (empty_refused_is c at kids))
+
+-- a child of another tag changes nothing
+untagged : (tag : ℕ) (e : Given) (kids : List Given) → (e.tag == tag) ≡ false
+    → tagged tag (e ∷ kids) ≡ tagged tag kids
+untagged tag e kids n =
+    ap (λ (b : Bool). if b then e ∷ tagged tag kids else tagged tag kids) n
+
+unsome : (tag : ℕ) (e : Given) (kids : List Given) → (e.tag == tag) ≡ false
+    → some_tagged tag (e ∷ kids) ≡ some_tagged tag kids
+unsome tag e kids n = ap (λ (b : Bool). b || some_tagged tag kids) n
+
+pub empty_passes : (c : Sections) (at : ℕ) (e : Given) (kids : List Given)
+    → (e.tag == DW_TAG_formal_parameter) ≡ false → (e.tag == DW_TAG_unspecified_parameters) ≡ false
+    → empty_made c at kids ≡ empty_made c at (e ∷ kids)
+empty_passes c at e kids p u =
+    let t = untagged DW_TAG_formal_parameter e kids p in
+    let s = unsome DW_TAG_unspecified_parameters e kids u in
+    empty_made_is c at kids ∙ rw (← t, ← s) (sym (empty_made_is c at (e ∷ kids)))
+
+pub empty_passes_refused : (c : Sections) (at : ℕ) (e : Given) (kids : List Given)
+    → (e.tag == DW_TAG_formal_parameter) ≡ false → (e.tag == DW_TAG_unspecified_parameters) ≡ false
+    → empty_refused c at kids ≡ empty_refused c at (e ∷ kids)
+empty_passes_refused c at e kids p u =
+    let t = untagged DW_TAG_formal_parameter e kids p in
+    let s = unsome DW_TAG_unspecified_parameters e kids u in
+    empty_refused_is c at kids ∙ rw (← t, ← s) (sym (empty_refused_is c at (e ∷ kids)))
+
+-- a subroutine type begins
+pub function_comes : (s : Scope) (e : Given) (o : Box OpenFunction Global)
+    → IsNewFunction e.at (target_of_type e.at (target_asked s.sections e))
+    (noted None (target_asked s.sections e).refused) o.value
     → ComesTo s (Function o) (function_row s.sections e)
 function_comes s e o h =
     let c = s.sections in
     record {
-      made = λ kids. made_is c o kids ∙ rw (h.at, h.parts, h.targets, h.variadic) refl;
-      refused = λ kids. refused_is c o kids ∙ rw (h.at, h.parts, h.variadic, h.least)
+      made = λ kids. made_is c o.value kids
+          ∙ rw (h.at_is, h.parts, h.targets, h.variadic) refl;
+      refused = λ kids. refused_is c o.value kids
+          ∙ rw (h.at_is, h.parts, h.variadic, h.least_is)
           (sym (noted_append None (target_asked c e).refused _));
+    }
+
+pub empty_comes : (s : Scope) (e : Given)
+    → target_of_type e.at (target_asked s.sections e) ≡ Void
+    → noted None (target_asked s.sections e).refused ≡ None
+    → ComesTo s (EmptyFunction e.at) (function_row s.sections e)
+empty_comes s e is none =
+    let c = s.sections in
+    record {
+      made = λ kids. empty_made_is c e.at kids ∙ rw (← is) refl;
+      refused = λ kids. empty_refused_is c e.at kids
+          ∙ ap (λ (x : Option TypeFault). noted x
+          (refused_by (parameter_refused c) (tagged DW_TAG_formal_parameter kids)
+          ++ too_many e.at (length
+          (empty_parts c kids ++ rest_part (some_tagged DW_TAG_unspecified_parameters kids)))))
+          (sym none)
+          ∙ sym (noted_append None (target_asked c e).refused _);
     }

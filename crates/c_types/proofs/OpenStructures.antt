@@ -6,6 +6,8 @@ use Rattle.std.proofs.lemmas.Bool.{ltb-false, le-ltb}
 use Rattle.std.proofs.lemmas.List.{append-nil, length-map}
 use Rattle.std.proofs.Math.Bool.{or-false}
 use Rattle.entry_tree.specs.Items.{Given}
+use Rattle.std.specs.declared.alloc.Global.{Global}
+use Rattle.std.specs.declared.boxed.Box.{Box}
 use Rattle.c_types.specs.declared.open.OpenStructure.{OpenStructure}
 use Rattle.c_types.specs.declared.open.OpenType.TheVariants.{Structure}
 use Rattle.type_attributes.specs.declared.fault.TypeFault.{TypeFault}
@@ -191,13 +193,14 @@ row_defined : (c : Scope) (union : Bool) (e : Given) (kids : List Given)
 row_defined c union e kids h = (rw h refl, rw h refl)
 
 pub structure_comes : (c : Scope) (union : Bool) (e : Given) (declared found : Option TypeFault)
-    (o : OpenStructure) → is_set (flag_asked DW_AT_declaration e) ≡ false
+    (b : Box OpenStructure Global) → is_set (flag_asked DW_AT_declaration e) ≡ false
     → declared ≡ noted None (flag_asked DW_AT_declaration e).refused
     → found ≡ noted (noted (noted declared (name_asked c.sections e).refused)
     (constant_asked DW_AT_byte_size e).refused)
     (size_refused e.at (constant_asked DW_AT_byte_size e).said)
-    → IsFresh c union e found o → ComesTo c (Structure o) (structure_row c union e)
-structure_comes c union e declared found o defined d f h =
+    → IsFresh c union e found b.value → ComesTo c (Structure b) (structure_row c union e)
+structure_comes c union e declared found b defined d f h =
+    let o = b.value in
     record {
       made =
           λ kids. fresh_made c union e found o kids h ∙ sym (row_defined c union e kids defined).0;

@@ -12,7 +12,7 @@ use Rattle.entry_tree.specs.Items.{Given}
 use Rattle.c_types.specs.declared.open.Open.{Open}
 use Rattle.c_types.specs.declared.open.OpenType.{OpenType}
 use Rattle.c_types.specs.declared.open.OpenType.TheVariants.{Structure, Function, Enumeration}
-use Rattle.c_types.specs.declared.open.OpenType.TheVariants.{Array}
+use Rattle.c_types.specs.declared.open.OpenType.TheVariants.{Array, EmptyFunction}
 use Rattle.c_types.specs.declared.open.OpenType.TheVariants.{Pointer}
 use Rattle.c_types.specs.declared.open.OpenPointer.{OpenPointer}
 use Rattle.c_types.specs.declared.open.LastPointer.{LastPointer}
@@ -128,6 +128,7 @@ stands_out os o k nested lt is = pointed_last os o k nested lt ∙ ap
 pub no_pointer : (k : OpenType) → ((p : OpenPointer) → k ≡ Pointer p → ⊥) → own_of k ≡ None
 no_pointer (Structure o) h = refl
 no_pointer (Function o) h = refl
+no_pointer (EmptyFunction at) h = refl
 no_pointer (Enumeration o) h = refl
 no_pointer (Array o) h = refl
 no_pointer (Pointer p) h = absurd (h p refl)
@@ -135,6 +136,7 @@ no_pointer (Pointer p) h = absurd (h p refl)
 pub is_pointer : (k : OpenType) (p : OpenPointer) → pointer_in k ≡ Some p → k ≡ Pointer p
 is_pointer (Structure o) p is = absurd (none-some p is)
 is_pointer (Function o) p is = absurd (none-some p is)
+is_pointer (EmptyFunction at) p is = absurd (none-some p is)
 is_pointer (Enumeration o) p is = absurd (none-some p is)
 is_pointer (Array o) p is = absurd (none-some p is)
 is_pointer (Pointer q) p is = ap (λ (x : OpenPointer). Pointer x) (same_Some q p is)
@@ -143,6 +145,7 @@ pub unkept : (k : OpenType) (r : Option OpenPointer) → r ≡ pointer_in k
     → ((p : OpenPointer) → r ≡ Some p → ⊥) → own_of k ≡ None
 unkept (Structure o) r is h = refl
 unkept (Function o) r is h = refl
+unkept (EmptyFunction at) r is h = refl
 unkept (Enumeration o) r is h = refl
 unkept (Array o) r is h = refl
 unkept (Pointer q) r is h = absurd (h q is)

@@ -13,11 +13,11 @@ use Rattle.c_types.specs.declared.open.OpenArray.{OpenArray}
 use Rattle.c_types.specs.declared.open.OpenPointer.{OpenPointer}
 use Rattle.c_types.specs.declared.open.OpenType.{OpenType}
 use Rattle.c_types.specs.declared.open.OpenType.TheVariants.{Structure, Function, Enumeration}
-use Rattle.c_types.specs.declared.open.OpenType.TheVariants.{Array}
+use Rattle.c_types.specs.declared.open.OpenType.TheVariants.{Array, EmptyFunction}
 use Rattle.c_types.specs.declared.open.OpenType.TheVariants.{Pointer}
 use Rattle.type_attributes.specs.declared.source.SourceType.{SourceType}
 use Rattle.type_attributes.specs.declared.source.Target.{Target}
-use Rattle.type_attributes.specs.declared.source.Target.TheVariants.{Index}
+use Rattle.type_attributes.specs.declared.source.Target.TheVariants.{Index, Void}
 use Rattle.type_attributes.specs.declared.fault.TypeFault.{TypeFault}
 use Rattle.type_attributes.specs.declared.fault.TypeFault.TheVariants.{TooMany, ArrayLength}
 use Rattle.type_attributes.specs.Scopes.{Scope}
@@ -119,6 +119,30 @@ function_refused c o kids =
     noted o.least (refused_by (parameter_refused c) (tagged DW_TAG_formal_parameter kids)
     ++ too_many o.at (length (all_parameters c o kids ++ rest_part (all_variadic o kids))))
 
+-- of a subroutine type of `void` that has gathered nothing so far
+abbrev pub empty_parts : Sections → List Given → List Part
+empty_parts c kids = map (parameter_part c) (tagged DW_TAG_formal_parameter kids)
+
+unfoldable pub empty_made : Sections → ℕ → List Given → SourceType
+empty_made c at kids =
+    function_by at (some_tagged DW_TAG_unspecified_parameters kids) (empty_parts c kids)
+    (Void ∷ map (parameter_target c) (tagged DW_TAG_formal_parameter kids))
+
+unfoldable pub empty_refused : Sections → ℕ → List Given → Option TypeFault
+empty_refused c at kids =
+    noted None (refused_by (parameter_refused c) (tagged DW_TAG_formal_parameter kids)
+    ++ too_many at (length
+    (empty_parts c kids ++ rest_part (some_tagged DW_TAG_unspecified_parameters kids))))
+
+-- a subroutine type without parameters so far
+pub record IsNewFunction (at : ℕ) (target : Target) (least : Option TypeFault) (o : OpenFunction)
+    : Type 0 where
+  pub at_is : o.at ≡ at
+  pub parts : o.parts.items ≡ []
+  pub targets : o.targets.items ≡ target ∷ []
+  pub variadic : o.variadic ≡ false
+  pub least_is : o.least ≡ least
+
 -- of an open enumeration: whether there is an enumerator, whether one is negative, and all of them
 abbrev pub all_some : OpenEnumeration → List Given → Bool
 all_some o kids = o.has_some || some_tagged DW_TAG_enumerator kids
@@ -188,17 +212,19 @@ pointer_made c o kids = pointer_by o (link_to c o.at o.own kids)
 
 -- of what is kept of any open type
 abbrev pub kept_made : Scope → OpenType → List Given → SourceType
-kept_made s (Structure o) kids = structure_made s o kids
-kept_made s (Function o) kids = function_made s.sections o kids
-kept_made s (Enumeration o) kids = enumeration_made s.sections o kids
-kept_made s (Array o) kids = array_made o kids
+kept_made s (Structure o) kids = structure_made s o.value kids
+kept_made s (Function o) kids = function_made s.sections o.value kids
+kept_made s (EmptyFunction at) kids = empty_made s.sections at kids
+kept_made s (Enumeration o) kids = enumeration_made s.sections o.value kids
+kept_made s (Array o) kids = array_made o.value kids
 kept_made s (Pointer o) kids = pointer_made s.sections o kids
 
 abbrev pub kept_refused : Scope → OpenType → List Given → Option TypeFault
-kept_refused s (Structure o) kids = structure_refused s o kids
-kept_refused s (Function o) kids = function_refused s.sections o kids
-kept_refused s (Enumeration o) kids = enumeration_refused s.sections o kids
-kept_refused s (Array o) kids = array_refused o kids
+kept_refused s (Structure o) kids = structure_refused s o.value kids
+kept_refused s (Function o) kids = function_refused s.sections o.value kids
+kept_refused s (EmptyFunction at) kids = empty_refused s.sections at kids
+kept_refused s (Enumeration o) kids = enumeration_refused s.sections o.value kids
+kept_refused s (Array o) kids = array_refused o.value kids
 kept_refused s (Pointer o) kids = None
 
 -- it comes to a row, whichever children come

@@ -175,37 +175,42 @@ pub(crate) fn meet_array(child: &Entry<'_, '_>, parent: &mut OpenArray)
 /// The type of an array whose children have all come.
 pub(crate) fn complete_array<'a>(
     alloc: Global,
-    whole: OpenArray,
+    whole: Box<OpenArray>,
 ) -> Result<Complete<'a>, AllocError>
-    ensures source { IfOk result (λ d. d.source ≡ array_made whole []) }
-    ensures fault { IfOk result (λ d. d.fault ≡ array_refused whole []) }
+    ensures source { IfOk result (λ d. d.source ≡ array_made whole.value []) }
+    ensures fault { IfOk result (λ d. d.fault ≡ array_refused whole.value []) }
 {
-    let mut fault = whole.least;
+    let array = Box::into_inner(whole);
+    let mut fault = array.least;
     note_if(
         &mut fault,
-        are_too_long(whole.lengths),
-        TypeFault::ArrayLength(whole.at),
+        are_too_long(array.lengths),
+        TypeFault::ArrayLength(array.at),
     );
     let source = SourceType {
-        at: whole.at,
+        at: array.at,
         label: Label {
             kind: BTF_KIND_ARRAY,
             name: Name::new(&[]),
             flag: false,
             size: 0,
-            extra: elements(whole.lengths),
+            extra: elements(array.lengths),
             parts: Parts::new(Vec::new(alloc)),
         },
-        targets: two_targets(alloc, whole.target)?,
+        targets: two_targets(alloc, array.target)?,
     };
     Ok(Complete { source, fault })
 }
 
 /// An array begins.
 #[tactic(auto, using(type_attributes::proofs::Noting::noted_append))]
-pub(crate) fn open_array(ctx: &UnitCtx<'_, '_>, entry: &Entry<'_, '_>) -> OpenArray
-    ensures { ComesTo (scope ctx.now) (Array result)
-        (array_row (sections ctx.now.form) entry.now) }
+pub(crate) fn open_array(
+    alloc: Global,
+    ctx: &UnitCtx<'_, '_>,
+    entry: &Entry<'_, '_>,
+) -> Result<Box<OpenArray>, AllocError>
+    ensures { IfOk result (λ o. ComesTo (scope ctx.now) (Array o)
+        (array_row (sections ctx.now.form) entry.now)) }
 {
     let at = entry.at();
     let mut found = None;
@@ -215,7 +220,7 @@ pub(crate) fn open_array(ctx: &UnitCtx<'_, '_>, entry: &Entry<'_, '_>) -> OpenAr
         !is_given(entry, DW_AT_type),
         TypeFault::MissingType(at),
     );
-    OpenArray {
+    let array = OpenArray {
         at,
         target,
         lengths: Lengths {
@@ -224,5 +229,6 @@ pub(crate) fn open_array(ctx: &UnitCtx<'_, '_>, entry: &Entry<'_, '_>) -> OpenAr
             long: false,
         },
         least: found,
-    }
+    };
+    Ok(Box::new(alloc, array)?)
 }

@@ -298,15 +298,16 @@ fn enumeration_fault(whole: &OpenEnumeration<'_>) -> Option<TypeFault>
 pub(crate) fn complete_enumeration<'a>(
     alloc: Global,
     spare: &mut Spare<'a>,
-    whole: OpenEnumeration<'a>,
+    whole: Box<OpenEnumeration<'a>>,
 ) -> Result<Complete<'a>, AllocError>
-    ensures source { IfOk result (λ d. (c : Sections) → d.source ≡
-        enumeration_made c whole.entry []) }
-    ensures fault { IfOk result (λ d. (c : Sections) → d.fault ≡
-        enumeration_refused c whole.entry []) }
+    ensures source { IfOk result (λ d. (c : Sections) → d.source
+        ≡ enumeration_made c whole.entry.value []) }
+    ensures fault { IfOk result (λ d. (c : Sections) → d.fault
+        ≡ enumeration_refused c whole.entry.value []) }
 {
     let source = enumeration_type(alloc, &whole)?;
     let fault = enumeration_fault(&whole);
+    let whole = Box::into_inner(whole);
     spare.keep_parts(whole.parts);
     Ok(Complete { source, fault })
 }
@@ -319,11 +320,11 @@ pub(crate) fn open_enumeration<'a>(
     ctx: &UnitCtx<'_, 'a>,
     entry: &Entry<'_, 'a>,
     declared: Option<TypeFault>,
-) -> OpenEnumeration<'a>
+) -> Result<Box<OpenEnumeration<'a>>, AllocError>
     requires defined { is_set (flag_asked DW_AT_declaration entry.now) ≡ false }
     requires declared { declared ≡ noted None (flag_asked DW_AT_declaration entry.now).refused }
-    ensures { ComesTo (scope ctx.now) (Enumeration result)
-        (enumeration_row (sections ctx.now.form) entry.now) }
+    ensures { IfOk result (λ o. ComesTo (scope ctx.now) (Enumeration o)
+        (enumeration_row (sections ctx.now.form) entry.now)) }
 {
     let at = entry.at();
     let mut fault_if_bare = declared;
@@ -332,7 +333,7 @@ pub(crate) fn open_enumeration<'a>(
     let size = constant(entry, DW_AT_byte_size, &mut found);
     note_enum_size(&mut found, at, size);
     let size = given_size(size);
-    OpenEnumeration {
+    let enumeration = OpenEnumeration {
         at,
         name,
         size,
@@ -343,7 +344,8 @@ pub(crate) fn open_enumeration<'a>(
         fault_if_bare,
         fault_if_unsigned: found,
         fault_if_signed: found,
-    }
+    };
+    Ok(Box::new(alloc, enumeration)?)
 }
 
 /// The type of an enumeration that is declared alone.

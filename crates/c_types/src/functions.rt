@@ -1,14 +1,16 @@
 //! Subroutine types.
-ghost use Rattle.std.specs.Prelude.{◌≡◌, ◌++◌, [], ◌∷◌, ◌||◌, ◌==◌, OnOk, IfOk};
+ghost use Rattle.std.specs.Prelude.{◌≡◌, ◌++◌, [], ◌∷◌, ◌||◌, ◌==◌, OnOk, IfOk, true, false, None};
 ghost use Rattle.dwarf_forms.specs.Meanings.{Sections, sections};
 ghost use Rattle.type_attributes.specs.Scopes.{scope};
 ghost use Rattle.type_attributes.specs.Faults.{noted};
 ghost use Rattle.c_types.specs.Functions.{parameter_part, parameter_target, parameter_refused};
 ghost use Rattle.c_types.specs.Functions.{rest_part, rest_target, function_label, function_row};
 ghost use Rattle.c_types.specs.Opened.{function_made, function_refused, ComesTo, GathersParameter};
-ghost use Rattle.c_types.specs.declared.open.OpenType.TheVariants.{Function};
+ghost use Rattle.c_types.specs.Opened.{empty_made, empty_refused, IsNewFunction};
+ghost use Rattle.c_types.specs.Walking.{GathersFirst, own_of};
+ghost use Rattle.type_attributes.specs.declared.source.Target.TheVariants.{Void};
 
-use crate::open::{Complete, OpenFunction};
+use crate::open::{Complete, OpenFunction, OpenType};
 use crate::spare::Spare;
 use c_model::kinds::BTF_KIND_FUNC_PROTO;
 use c_model::{Label, Part, copy_of_parts};
@@ -19,7 +21,7 @@ use entry_tree::Entry;
 use std::alloc::{AllocError, Global};
 use type_attributes::attributes::{is_given, name, type_target};
 use type_attributes::fault::{TypeFault, note_if};
-use type_attributes::labels::MOST;
+use type_attributes::labels::{MOST, make_label};
 use type_attributes::scope::UnitCtx;
 use type_attributes::source::{SourceType, Target, Targets};
 
@@ -121,11 +123,11 @@ fn function_type<'a>(
 pub(crate) fn complete_function<'a>(
     alloc: Global,
     spare: &mut Spare<'a>,
-    whole: OpenFunction<'a>,
+    whole: Box<OpenFunction<'a>>,
 ) -> Result<Complete<'a>, AllocError>
-    ensures source { IfOk result (λ d. (c : Sections) → d.source ≡ function_made c whole.entry []) }
-    ensures fault { IfOk result (λ d. (c : Sections) → d.fault ≡
-        function_refused c whole.entry []) }
+    ensures source { IfOk result (λ d. (c : Sections) → d.source ≡ function_made c whole.entry.value []) }
+    ensures fault { IfOk result (λ d. (c : Sections) → d.fault
+        ≡ function_refused c whole.entry.value []) }
 {
     let OpenFunction {
         at,
@@ -133,7 +135,7 @@ pub(crate) fn complete_function<'a>(
         targets,
         variadic,
         least,
-    } = whole;
+    } = Box::into_inner(whole);
     let mut parts = parts;
     let mut targets = targets;
     end_parameters(variadic, &mut parts, &mut targets)?;
@@ -146,25 +148,99 @@ pub(crate) fn complete_function<'a>(
     Ok(Complete { source, fault })
 }
 
+/// What a subroutine type comes to that has gathered nothing, and whose children have all come.
+pub(crate) fn complete_empty<'a>(alloc: Global, at: u64) -> Complete<'a>
+    ensures source { (c : Sections) → result.source ≡ empty_made c at [] }
+    ensures fault { (c : Sections) → result.fault ≡ empty_refused c at [] }
+{
+    let source = SourceType {
+        at,
+        label: make_label(alloc, BTF_KIND_FUNC_PROTO, Name::new(&[]), 0),
+        targets: Targets::one(Target::Void),
+    };
+    Complete {
+        source,
+        fault: None,
+    }
+}
+
+/// A subroutine type without parameters so far.
+fn new_function<'a>(
+    alloc: Global,
+    spare: &mut Spare<'a>,
+    at: u64,
+    target: Target,
+    least: Option<TypeFault>,
+) -> Result<Box<OpenFunction<'a>>, AllocError>
+    ensures { IfOk result (λ o. IsNewFunction at target least o.value) }
+{
+    let mut targets = spare.targets(alloc);
+    targets.push(target)?;
+    let function = OpenFunction {
+        at,
+        parts: spare.parts(alloc),
+        targets,
+        variadic: false,
+        least,
+    };
+    Ok(Box::new(alloc, function)?)
+}
+
+/// Whether entries of a tag are parameters, or say that more may follow.
+fn is_parameter(tag: u64) -> bool
+    ensures parameter { result ≡ false → (tag == DW_TAG_formal_parameter) ≡ false }
+    ensures more { result ≡ false → (tag == DW_TAG_unspecified_parameters) ≡ false }
+{
+    tag == DW_TAG_formal_parameter || tag == DW_TAG_unspecified_parameters
+}
+
+/// A child of a subroutine type that has gathered nothing so far.
+pub(crate) fn meet_empty<'a>(
+    alloc: Global,
+    spare: &mut Spare<'a>,
+    ctx: &UnitCtx<'_, 'a>,
+    child: &Entry<'_, 'a>,
+    at: u64,
+) -> Result<OpenType<'a>, AllocError>
+    ensures { IfOk result (λ o. GathersFirst (scope ctx.now) at child.now o) }
+{
+    if !is_parameter(child.tag()) {
+        return Ok(OpenType::EmptyFunction(at));
+    }
+    let mut function = new_function(alloc, spare, at, Target::Void, None)?;
+    meet_function(&ctx.form, child, &mut function)?;
+    Ok(OpenType::Function(function))
+}
+
+/// Whether a result is `void`, and nothing is refused of it.
+fn is_bare(target: Target, found: Option<TypeFault>) -> bool
+    ensures { result ≡ true → (target ≡ Void) × (found ≡ None) }
+{
+    match found {
+        Some(_) => false,
+        None => match target {
+            Target::Void => true,
+            _ => false,
+        },
+    }
+}
+
 /// A subroutine type begins.
 pub(crate) fn open_function<'a>(
     alloc: Global,
     spare: &mut Spare<'a>,
     ctx: &UnitCtx<'_, 'a>,
     entry: &Entry<'_, 'a>,
-) -> Result<OpenFunction<'a>, AllocError>
-    ensures { IfOk result (λ o. ComesTo (scope ctx.now) (Function o)
+) -> Result<OpenType<'a>, AllocError>
+    ensures comes { IfOk result (λ o. ComesTo (scope ctx.now) o
         (function_row (sections ctx.now.form) entry.now)) }
+    ensures own { IfOk result (λ o. own_of o ≡ None) }
 {
     let mut found = None;
     let target = type_target(&ctx.form, entry, &mut found);
-    let mut targets = spare.targets(alloc);
-    targets.push(target)?;
-    Ok(OpenFunction {
-        at: entry.at(),
-        parts: spare.parts(alloc),
-        targets,
-        variadic: false,
-        least: found,
-    })
+    if is_bare(target, found) {
+        return Ok(OpenType::EmptyFunction(entry.at()));
+    }
+    let function = new_function(alloc, spare, entry.at(), target, found)?;
+    Ok(OpenType::Function(function))
 }

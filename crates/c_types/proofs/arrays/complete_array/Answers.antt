@@ -4,7 +4,8 @@ use Rattle.c_types.proofs.arrays.complete_array.Goals as goal
 
 pub returns-clause-source : goal.returns-clause-source
 returns-clause-source c = rw (
-  made_is c.args.whole [],
+  ← c.into_inner-array.ensures,
+  made_is c.into_inner-array.result [],
   c.new.ensures,
   c.elements.ensures,
   c.new-2.ensures,
@@ -15,4 +16,5 @@ returns-clause-source c = rw (
 
 pub returns-clause-fault : goal.returns-clause-fault
 returns-clause-fault c =
-    c.note_if.ensures ∙ rw c.are_too_long.ensures (sym (refused_by_length c.args.whole []))
+    rw (← c.into_inner-array.ensures) (c.note_if.ensures
+    ∙ rw c.are_too_long.ensures (sym (refused_by_length c.into_inner-array.result [])))

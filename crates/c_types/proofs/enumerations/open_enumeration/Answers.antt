@@ -11,8 +11,8 @@ returns c =
     let size : c.given_size-size.result
     ≡ size_in (constant_asked DW_AT_byte_size c.args.entry.now).said =
     c.given_size-size.ensures ∙ ap (λ (o : Option ℤ). size_in o) c.constant-size.ensures.said in
-    enumeration_comes (scope c.args.ctx.now) c.args.entry.now _
-    (record {
+    enumeration_comes (scope c.args.ctx.now) c.args.entry.now c.in_ok-new.field-0
+    (rw c.in_ok-new.ensures.ok (record {
       at = c.at-at.ensures;
       name = c.name-name.ensures.said;
       size = size;
@@ -25,5 +25,5 @@ returns c =
           ∙ rw (c.at-at.ensures, c.constant-size.ensures.said, c.constant-size.ensures.noted) refl;
       signed = c.note_enum_size.ensures
           ∙ rw (c.at-at.ensures, c.constant-size.ensures.said, c.constant-size.ensures.noted) refl;
-    })
+    }))
     c.requires.defined

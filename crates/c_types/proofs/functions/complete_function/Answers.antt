@@ -5,7 +5,8 @@ use Rattle.c_types.proofs.functions.complete_function.Goals as goal
 pub returns-clause-source : goal.returns-clause-source
 returns-clause-source c =
     λ s. rw (
-      made_closed s c.args.whole,
+      ← c.into_inner-at.ensures,
+      made_closed s c.into_inner-at.result,
       c.in_ok-source.ensures,
       c.deref.ensures.value,
       c.deref-2.ensures.value,
@@ -17,7 +18,8 @@ pub returns-clause-fault : goal.returns-clause-fault
 returns-clause-fault c = λ s.
     let n : c.len-count.result ≡ length c.end_parameters.new.parts.items = search rules in
     rw (
-      refused_closed s c.args.whole,
+      ← c.into_inner-at.ensures,
+      refused_closed s c.into_inner-at.result,
       ← c.in_ok-end_parameters.ensures.parts,
       ← n,
     ) c.note_if.ensures

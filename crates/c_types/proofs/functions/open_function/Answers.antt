@@ -1,18 +1,15 @@
-use Rattle.std.proofs.Common.{◌∷◌, ◌++◌, [], ◌∙◌, List, refl, ap}
+use Rattle.std.proofs.Common.{◌∙◌, refl, sym}
 use Rattle.type_attributes.specs.Scopes.{scope}
-use Rattle.type_attributes.specs.declared.source.Target.{Target}
-use Rattle.c_types.proofs.OpenFunctions.{function_comes}
+use Rattle.c_types.proofs.OpenFunctions.{function_comes, empty_comes}
 use Rattle.c_types.proofs.functions.open_function.Goals as goal
 
-pub returns : goal.returns
-returns c =
+pub returns-then-is_bare-clause-comes : goal.returns-then-is_bare-clause-comes
+returns-then-is_bare-clause-comes c = rw c.at.ensures (empty_comes (scope c.args.ctx.now) c.args.entry.now
+    (sym c.type_target-target.ensures.said ∙ (c.if-is_bare.ensures refl).0)
+    (sym c.type_target-target.ensures.noted ∙ (c.if-is_bare.ensures refl).1))
+
+pub returns-clause-comes : goal.returns-clause-comes
+returns-clause-comes c =
     function_comes (scope c.args.ctx.now) c.args.entry.now _
-    (record {
-      at = c.at.ensures;
-      parts = c.parts.ensures;
-      targets = c.in_ok-push.ensures.items ∙ ap
-          (λ (ts : List Target). ts ++ c.type_target-target.result ∷ []) c.targets-targets.ensures
-          ∙ ap (λ (t : Target). t ∷ []) c.type_target-target.ensures.said;
-      variadic = refl;
-      least = c.type_target-target.ensures.noted;
-    })
+    (rw (← c.type_target-target.ensures.said, ← c.type_target-target.ensures.noted, ← c.at-2.ensures)
+    c.in_ok-function.ensures)

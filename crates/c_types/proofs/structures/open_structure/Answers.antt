@@ -7,14 +7,14 @@ use Rattle.c_types.proofs.structures.open_structure.Goals as goal
 pub returns : goal.returns
 returns c =
     structure_comes (scope c.args.ctx.now) c.args.is_union c.args.entry.now
-    c.args.declared c.note_size.new.least _ c.requires.defined c.requires.declared
+    c.args.declared c.note_size.new.least c.in_ok-new.field-0 c.requires.defined c.requires.declared
     (c.note_size.ensures ∙ rw (
       c.at-at.ensures,
       c.constant-size.ensures.said,
       c.constant-size.ensures.noted,
       c.name-name.ensures.noted,
     ) refl)
-    (record {
+    (rw c.in_ok-new.ensures.ok (record {
       members = c.members.ensures;
       targets = c.targets.ensures;
       fields = refl;
@@ -24,4 +24,4 @@ returns c =
       size = c.given_size.ensures ∙ ap (λ (o : Option ℤ). size_in o) c.constant-size.ensures.said;
       plain = refl;
       packed = refl;
-    })
+    }))

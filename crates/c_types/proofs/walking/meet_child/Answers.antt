@@ -2,7 +2,13 @@ use Rattle.std.proofs.Common.{◌≡◌, ◌∷◌, ◌∙◌, false, ap, sym, s
 use Rattle.dwarf_forms.specs.Meanings.{sections}
 use Rattle.type_attributes.specs.Scopes.{scope}
 use Rattle.c_types.specs.declared.open.OpenType.{OpenType}
-use Rattle.c_types.specs.Opened.{kept_made, kept_refused}
+use Rattle.c_types.specs.declared.open.OpenStructure.{OpenStructure}
+use Rattle.c_types.specs.declared.open.OpenFunction.{OpenFunction}
+use Rattle.c_types.specs.declared.open.OpenEnumeration.{OpenEnumeration}
+use Rattle.c_types.specs.declared.open.OpenArray.{OpenArray}
+use Rattle.c_types.specs.Opened.{kept_made, kept_refused, structure_made, structure_refused}
+use Rattle.c_types.specs.Opened.{function_made, function_refused, enumeration_made}
+use Rattle.c_types.specs.Opened.{enumeration_refused, array_made, array_refused}
 use Rattle.c_types.proofs.OpenStructures.{structure_met, structure_met_refused}
 use Rattle.c_types.proofs.OpenFunctions.{function_met, function_met_refused}
 use Rattle.c_types.proofs.OpenEnumerations.{enumeration_met, enumeration_met_refused}
@@ -17,6 +23,8 @@ pub returns-in_ok-meet_structure-in-Structure-clause-made :
 returns-in_ok-meet_structure-in-Structure-clause-made c = λ kids.
     structure_met (scope c.args.ctx.now)
     c.args.child.now _ _ kids c.in_ok-meet_structure-in-Structure.ensures
+    ∙ ap (λ (o : OpenStructure). structure_made (scope c.args.ctx.now) o (c.args.child.now ∷ kids))
+    c.deref_mut.ensures.value
     ∙ ap (λ (k : OpenType). kept_made (scope c.args.ctx.now) k (c.args.child.now ∷ kids))
     (sym c.in-Structure.is)
 
@@ -25,6 +33,8 @@ pub returns-in_ok-meet_structure-in-Structure-clause-refused :
 returns-in_ok-meet_structure-in-Structure-clause-refused c = λ kids.
     structure_met_refused (scope c.args.ctx.now)
     c.args.child.now _ _ kids c.in_ok-meet_structure-in-Structure.ensures
+    ∙ ap (λ (o : OpenStructure). structure_refused (scope c.args.ctx.now) o (c.args.child.now ∷ kids))
+    c.deref_mut.ensures.value
     ∙ ap (λ (k : OpenType). kept_refused (scope c.args.ctx.now) k
     (c.args.child.now ∷ kids)) (sym c.in-Structure.is)
 
@@ -33,6 +43,8 @@ pub returns-in_ok-meet_function-in-Function-clause-made :
 returns-in_ok-meet_function-in-Function-clause-made c = λ kids.
     function_met (sections c.args.ctx.now.form)
     c.args.child.now _ _ kids c.in_ok-meet_function-in-Function.ensures
+    ∙ ap (λ (o : OpenFunction). function_made (sections c.args.ctx.now.form) o (c.args.child.now ∷ kids))
+    c.deref_mut-in-Function.ensures.value
     ∙ ap (λ (k : OpenType). kept_made (scope c.args.ctx.now) k (c.args.child.now ∷ kids))
     (sym c.in-Function.is)
 
@@ -41,6 +53,8 @@ pub returns-in_ok-meet_function-in-Function-clause-refused :
 returns-in_ok-meet_function-in-Function-clause-refused c = λ kids.
     function_met_refused (sections c.args.ctx.now.form)
     c.args.child.now _ _ kids c.in_ok-meet_function-in-Function.ensures
+    ∙ ap (λ (o : OpenFunction). function_refused (sections c.args.ctx.now.form) o (c.args.child.now ∷ kids))
+    c.deref_mut-in-Function.ensures.value
     ∙ ap (λ (k : OpenType). kept_refused (scope c.args.ctx.now) k
     (c.args.child.now ∷ kids)) (sym c.in-Function.is)
 
@@ -49,6 +63,8 @@ pub returns-in_ok-meet_enumeration-in-Enumeration-clause-made :
 returns-in_ok-meet_enumeration-in-Enumeration-clause-made c = λ kids.
     enumeration_met (sections c.args.ctx.now.form)
     c.args.child.now _ _ kids c.in_ok-meet_enumeration-in-Enumeration.ensures
+    ∙ ap (λ (o : OpenEnumeration). enumeration_made (sections c.args.ctx.now.form) o (c.args.child.now ∷ kids))
+    c.deref_mut-in-Enumeration.ensures.value
     ∙ ap (λ (k : OpenType). kept_made (scope c.args.ctx.now) k (c.args.child.now ∷ kids))
     (sym c.in-Enumeration.is)
 
@@ -57,20 +73,24 @@ pub returns-in_ok-meet_enumeration-in-Enumeration-clause-refused :
 returns-in_ok-meet_enumeration-in-Enumeration-clause-refused c = λ kids.
     enumeration_met_refused (sections c.args.ctx.now.form)
     c.args.child.now _ _ kids c.in_ok-meet_enumeration-in-Enumeration.ensures
+    ∙ ap (λ (o : OpenEnumeration). enumeration_refused (sections c.args.ctx.now.form) o (c.args.child.now ∷ kids))
+    c.deref_mut-in-Enumeration.ensures.value
     ∙ ap (λ (k : OpenType). kept_refused (scope c.args.ctx.now) k
     (c.args.child.now ∷ kids)) (sym c.in-Enumeration.is)
 
 pub returns-in-Array-clause-made : goal.returns-in-Array-clause-made
 returns-in-Array-clause-made c = λ kids.
-    array_met c.args.child.now c.in-Array.parent c.meet_array.new.parent kids
+    array_met c.args.child.now c.deref_mut-in-Array.result.now c.meet_array.new.parent kids
     c.meet_array.ensures.lengths c.meet_array.ensures.at c.meet_array.ensures.target
+    ∙ ap (λ (o : OpenArray). array_made o (c.args.child.now ∷ kids)) c.deref_mut-in-Array.ensures.value
     ∙ ap (λ (k : OpenType). kept_made (scope c.args.ctx.now) k (c.args.child.now ∷ kids))
     (sym c.in-Array.is)
 
 pub returns-in-Array-clause-refused : goal.returns-in-Array-clause-refused
 returns-in-Array-clause-refused c = λ kids.
-    array_met_refused c.args.child.now c.in-Array.parent c.meet_array.new.parent kids
+    array_met_refused c.args.child.now c.deref_mut-in-Array.result.now c.meet_array.new.parent kids
     c.meet_array.ensures.lengths c.meet_array.ensures.at c.meet_array.ensures.least
+    ∙ ap (λ (o : OpenArray). array_refused o (c.args.child.now ∷ kids)) c.deref_mut-in-Array.ensures.value
     ∙ ap (λ (k : OpenType). kept_refused (scope c.args.ctx.now) k
     (c.args.child.now ∷ kids)) (sym c.in-Array.is)
 
