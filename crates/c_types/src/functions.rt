@@ -125,7 +125,8 @@ pub(crate) fn complete_function<'a>(
     spare: &mut Spare<'a>,
     whole: Box<OpenFunction<'a>>,
 ) -> Result<Complete<'a>, AllocError>
-    ensures source { IfOk result (λ d. (c : Sections) → d.source ≡ function_made c whole.entry.value []) }
+    ensures source { IfOk result (λ d. (c : Sections) → d.source
+        ≡ function_made c whole.entry.value []) }
     ensures fault { IfOk result (λ d. (c : Sections) → d.fault
         ≡ function_refused c whole.entry.value []) }
 {
