@@ -13,8 +13,8 @@ from elf import sections, units
 from larger import larger
 
 # compilers, each with the ways in which it builds the program: for this machine, for others with
-# big-endian numbers of 64 bits (two) and of 32 bits, for AArch64, and clang, which places bit
-# fields as DWARF 5 has it with -glldb alone; -r links to a relocatable object
+# big-endian numbers of 64 bits (two) and of 32 bits, for AArch64, and clang, which in versions 14
+# and 15 places bit fields by DW_AT_bit_offset without -glldb; -r links to a relocatable object
 ACCEPTED = {
     "cc": [
         "",
@@ -40,6 +40,8 @@ ACCEPTED = {
     "mips-linux-gnu-gcc": ["", "-static", "-gdwarf64", "-gdwarf-4"],
     "aarch64-linux-gnu-gcc": ["", "-r -nostdlib", "-gdwarf-4 -r -nostdlib"],
     "clang": [
+        "",
+        "-m32",
         "-glldb",
         "-glldb -flto -fuse-ld=lld",
         "-glldb -m32",
@@ -277,22 +279,25 @@ def without_offsets(program, demo):
     return is_refused(program, ("a",), r"pahole: a: \.debug_info \d+: error 43 \d+\n")
 
 
-def old_bit_fields(program, demo):
-    """clang 14 places bit fields by an attribute that DWARF 5 no longer has, unless -glldb is
-    given: they seem to begin at the member's first byte."""
-    if b"version 14." not in run(["clang", "--version"]).stdout or not build(
-        "clang", [], "a", sources_of(demo)
-    ):
-        return "skipped", "clang 14 can't build it"
-    status, complaint, stored = encoded(program, "-j1")
-    if status != 0:
-        return "failed", f"status {status}, {complaint!r}"
-    fields = {
-        name: place for name, place in structures(stored)["registry"][1].items() if place.bits
-    }
-    if not fields or any(place.bit % 8 for place in fields.values()):
-        return "failed", f"the bit fields are {fields}"
-    return "passed", f"{len(fields)} bit fields begin at a member's first byte"
+def packed_bit_fields(program):
+    """A packed bit field that does not fit its storage: clang 14 and 15 give it the bit_offset -1
+    as 8 bytes of ones. It begins at bit 3 all the same."""
+    with open("packed.c", "w") as file:
+        file.write(
+            "struct __attribute__((packed)) packed { unsigned a : 3, b : 30; } one;\n"
+            "struct packet { unsigned char kind : 3, last : 1; } other;\n"
+        )
+    for version in ("-gdwarf-4", "-gdwarf-5"):
+        if run(["clang", version, "-c", "-o", "a", "packed.c"]).returncode:
+            return "skipped", "clang can't build it"
+        status, complaint, stored = encoded(program, "-j1")
+        if status != 0:
+            return "failed", f"{version}: status {status}, {complaint!r}"
+        found = structures(stored)
+        places = [found["packed"][1]["b"], found["packet"][1]["last"]]
+        if [(place.bit, place.bits) for place in places] != [(3, 30), (3, 1)]:
+            return "failed", f"{version}: the bit fields are {places}"
+    return "passed", "at bit 3 by DWARF 4 and 5"
 
 
 def supplementary(program, demo):
@@ -425,9 +430,7 @@ def of_both_versions(program, demo, compiler):
     `_Atomic` ones, which gcc does not tell in version 4."""
     tables = []
     for version in ("-gdwarf-4", "-gdwarf-5"):
-        # clang 14 places bit fields as DWARF 5 has it with -glldb alone
-        flags = [version, "-glldb"] if compiler == "clang" else [version]
-        if run([compiler, "-w", *flags, "-o", "a", *sources_of(demo)]).returncode:
+        if run([compiler, "-w", version, "-o", "a", *sources_of(demo)]).returncode:
             return "skipped", "it builds no file"
         status, complaint, stored = encoded(program, "-j1")
         if status:
@@ -508,7 +511,7 @@ def main():
     say("without strings", without_strings(program, demo))
     say("without places of strings", without_offsets(program, demo))
     say("with a supplementary file", supplementary(program, demo))
-    say("with bit fields of clang 14", old_bit_fields(program, demo))
+    say("with packed bit fields of clang", packed_bit_fields(program))
 
 
 main()

@@ -1,9 +1,13 @@
 -- The places of members in bits (DWARF 5, section 5.7.6; DWARF 4, section 5.5.6).
-use Rattle.std.specs.Prelude.{ℕ, ◌*◌, ℤ, pos, ◌+ℤ◌, ◌-ℤ◌, ◌*ℤ◌, ◌==◌, ◌&&◌, not, Bool, true, false}
+use Rattle.std.specs.Prelude.{ℕ, ◌*◌, ◌-◌, ◌^◌, ℤ, pos, ◌+ℤ◌, ◌-ℤ◌, ◌*ℤ◌, ◌==◌, ◌&&◌, ◌||◌}
+use Rattle.std.specs.Prelude.{nat_le, not, Bool, true, false}
 use Rattle.std.specs.Prelude.{List, [], ◌∷◌, ◌++◌, Option, None, Some, if◌then◌else◌}
+use Rattle.std.specs.Option.{option_map}
 use Rattle.dw_base.specs.declared.numbers.Order.{Order}
 use Rattle.dw_base.specs.declared.numbers.Order.TheVariants.{Little, Big}
+use Rattle.dwarf_forms.specs.Values.{Shown}
 use Rattle.entry_tree.specs.Items.{Given}
+use Rattle.entry_tree.specs.Reads.{value_with}
 use Rattle.type_attributes.specs.declared.number.Number.{Number}
 use Rattle.type_attributes.specs.declared.number.Number.TheVariants.{Natural, Negative}
 use Rattle.type_attributes.specs.declared.fault.TypeFault.{TypeFault}
@@ -17,7 +21,7 @@ use Rattle.dwarf_abbrev.specs.declared.constants.TheConstants.{DW_AT_bit_offset,
 use Rattle.dwarf_abbrev.specs.declared.constants.TheConstants.{DW_AT_byte_size}
 use Rattle.dwarf_abbrev.specs.declared.constants.TheConstants.{DW_AT_data_bit_offset}
 use Rattle.dwarf_abbrev.specs.declared.constants.TheConstants.{DW_AT_data_member_location}
-use Rattle.dwarf_abbrev.specs.declared.constants.TheConstants.{DW_TAG_member}
+use Rattle.dwarf_abbrev.specs.declared.constants.TheConstants.{DW_FORM_data8, DW_TAG_member}
 
 -- a place in bits: a natural number of units of so many bits
 abbrev pub placed : ℕ → ℕ → Number → Asked ℕ
@@ -38,11 +42,28 @@ placed_by_bytes at given (Some (Some z)) = placed at 8 (number_from z)
 abbrev pub after : List TypeFault → Asked ℕ → Asked ℕ
 after refused a = record { said = a.said; refused = refused ++ a.refused }
 
--- in a unit of version 4 a bit field with a bit_offset (0x0c) stands in a storage: its first bit is
--- so many bits behind the storage's most significant bit, which is the first one in a big-endian
--- file and the last one in a little-endian file
+-- in a unit of version 4 or 5 a bit field with a bit_offset (0x0c) stands in a storage: its first
+-- bit is so many bits behind the storage's most significant bit, which is the first one in a
+-- big-endian file and the last one in a little-endian file
 abbrev pub is_stored : Scope → Given → Bool
-is_stored s m = has DW_AT_bit_size m && (has DW_AT_bit_offset m && s.version == 4)
+is_stored s m = has DW_AT_bit_size m
+    && (has DW_AT_bit_offset m && (s.version == 4 || s.version == 5))
+
+-- the 8 bytes of a bit_offset by DW_FORM_data8 are a number in two's complement; other numbers are
+-- what their forms say
+abbrev pub has_8_bytes : Option Shown → Bool
+has_8_bytes None = false
+has_8_bytes (Some g) = g.form == DW_FORM_data8
+
+abbrev pub signed_if : Bool → Number → Number
+signed_if wide (Natural n) =
+    if wide && nat_le (2 ^ 63) n then Negative (2 ^ 64 - 1 - n) else Natural n
+signed_if wide (Negative n) = Negative n
+
+abbrev pub offset_in_storage : Given → Option Number
+offset_in_storage m =
+    option_map (signed_if (has_8_bytes (value_with DW_AT_bit_offset m.values)))
+    (number_said (constant_asked DW_AT_bit_offset m))
 
 -- the bytes before the storage: the data_member_location (0x38), 0 without one; none where it is
 -- computed at run time
@@ -78,9 +99,8 @@ first_bit_little (Some location) (Some storage) (Some offset) (Some size) =
 first_bit_little location storage offset size = None
 
 abbrev pub first_bit : Order → Scope → Given → Option ℤ
-first_bit Big s m = first_bit_big (location_in m) (number_said (constant_asked DW_AT_bit_offset m))
-first_bit Little s m = first_bit_little (location_in m) (storage_in s m)
-    (number_said (constant_asked DW_AT_bit_offset m))
+first_bit Big s m = first_bit_big (location_in m) (offset_in_storage m)
+first_bit Little s m = first_bit_little (location_in m) (storage_in s m) (offset_in_storage m)
     (number_said (constant_asked DW_AT_bit_size m))
 
 -- it is refused where it is not known or lies before the structure; a value of the wrong class is

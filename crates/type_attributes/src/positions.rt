@@ -2,19 +2,21 @@
 ghost use Rattle.std.specs.Prelude.{◌≡◌, ◌≤◌, ◌<ℤ◌, ◌≤ℤ◌, ◌+ℤ◌, neg_ℤ, pos, ◌^◌, ◌++◌, OnOk};
 ghost use Rattle.std.specs.Prelude.{IfSome, false, true};
 ghost use Rattle.dwarf_forms.specs.Meanings.{Fits64};
+ghost use Rattle.entry_tree.specs.Reads.{value_with};
 ghost use Rattle.entry_tree.specs.Rising.{Rises};
 ghost use Rattle.type_attributes.specs.Scopes.{scope};
 ghost use Rattle.type_attributes.specs.Faults.{noted};
 ghost use Rattle.type_attributes.specs.Attributes.{has, constant_asked, offset_asked};
 ghost use Rattle.type_attributes.specs.Positions.{placed, placed_by_bits, placed_by_bytes};
 ghost use Rattle.type_attributes.specs.Positions.{is_stored, location_in, offset_number};
+ghost use Rattle.type_attributes.specs.Positions.{has_8_bytes, signed_if, offset_in_storage};
 ghost use Rattle.type_attributes.specs.Positions.{storage_in, bytes_of_type, eightfold};
 ghost use Rattle.type_attributes.specs.Positions.{first_bit_big, first_bit_little, first_bit};
 ghost use Rattle.type_attributes.specs.Positions.{counted, storage_refused, position_of, is_little};
 ghost use Rattle.type_attributes.specs.Positions.{needs_extents};
 ghost use Rattle.type_attributes.specs.Rows.{SayExtents, AreKnown, IsReady};
 
-use crate::attributes::{constant, is_given, offset, signed_constant, target_said};
+use crate::attributes::{attribute, is_given, offset, signed_constant, target_said};
 use crate::extents::{find_bytes, read_extents};
 use crate::fault::{TypeFault, note};
 use crate::number::{Number, by_sign, to_integer};
@@ -22,7 +24,7 @@ use crate::scope::UnitCtx;
 use dw_base::Order;
 use dwarf_abbrev::constants::{
     DW_AT_bit_offset, DW_AT_bit_size, DW_AT_byte_size, DW_AT_data_bit_offset,
-    DW_AT_data_member_location, DW_TAG_member,
+    DW_AT_data_member_location, DW_FORM_data8, DW_TAG_member,
 };
 use entry_tree::Entry;
 use std::alloc::{AllocError, Global};
@@ -78,7 +80,9 @@ fn place_by_bytes(
 fn stands_in_storage(ctx: &UnitCtx<'_, '_>, member: &Entry<'_, '_>) -> bool
     ensures { result ≡ is_stored (scope ctx.now) member.now }
 {
-    ctx.version == 4 && is_given(member, DW_AT_bit_offset) && is_given(member, DW_AT_bit_size)
+    (ctx.version == 4 || ctx.version == 5)
+        && is_given(member, DW_AT_bit_offset)
+        && is_given(member, DW_AT_bit_size)
 }
 
 /// A number of bytes, where an offset is a constant.
@@ -136,6 +140,44 @@ fn storage(
         return signed_constant(member, DW_AT_byte_size, least);
     }
     type_bytes(ctx, target_said(&ctx.form, member))
+}
+
+/// Whether the bit_offset of a member is given by 8 bytes.
+fn is_wide(member: &Entry<'_, '_>) -> bool
+    ensures { result ≡ has_8_bytes (value_with DW_AT_bit_offset member.now.values) }
+{
+    match attribute(member, DW_AT_bit_offset) {
+        Some(given) => given.form == DW_FORM_data8,
+        None => false,
+    }
+}
+
+/// A number, which is one in two's complement where it was unsigned and of 8 bytes.
+fn with_sign(wide: bool, number: Number) -> Number
+    ensures { result ≡ signed_if wide number }
+{
+    match number {
+        Number::Natural(n) => {
+            if wide && n >= 1 << 63 {
+                Number::Negative(u64::MAX - n)
+            } else {
+                number
+            }
+        }
+        Number::Negative(_) => number,
+    }
+}
+
+/// The bits from the most significant bit of its storage to that of a member.
+fn storage_offset(member: &Entry<'_, '_>, least: &mut Option<TypeFault>) -> Option<Number>
+    ensures said { result ≡ offset_in_storage member.now }
+    ensures noted { least.new ≡ noted least.old
+        (constant_asked DW_AT_bit_offset member.now).refused }
+{
+    match signed_constant(member, DW_AT_bit_offset, least) {
+        Some(number) => Some(with_sign(is_wide(member), number)),
+        None => None,
+    }
 }
 
 /// The first bit of a bit field in a big-endian file: the bits count from the first bit of the
@@ -205,7 +247,7 @@ fn first_in_storage(
         ++ storage_refused ctx.now.form.order member.now)) }
 {
     let location = location(member, least);
-    let offset = signed_constant(member, DW_AT_bit_offset, least);
+    let offset = storage_offset(member, least);
     match ctx.form.order {
         Order::Big => first_in_big(location, offset),
         Order::Little => {

@@ -1,4 +1,4 @@
-//! Bit fields of units of version 4, which stand in a storage.
+//! Bit fields with a bit_offset, which stand in a storage.
 use super::{types_in, under_root};
 use dw_base::Order;
 use dwarf_forms::FormFault;
@@ -31,6 +31,10 @@ const ABBREVIATIONS: &[u8] = &[
     19, 0x0d, 0, 0x49, 0x0b, 0x0d, 0x0b, 0x0c, 0x0b, 0, 0, // with type by data1, bit_size, bit_offset
     20, 0x16, 0, 0x03, 0x08, 0x49, 0x0b, 0, 0, // typedef with name, type by data1
     21, 0x0d, 0, 0x49, 0x11, 0x0d, 0x0b, 0x0c, 0x08, 0x38, 0x0b, 0, 0, // member with bit_offset by string
+    22, 0x0d, 0, 0x49, 0x11, 0x0b, 0x0b, 0x0d, 0x0b, 0x0c, 0x07, 0, 0, // with type, byte_size, bit_size, bit_offset by data8
+    23, 0x0d, 0, 0x49, 0x11, 0x0b, 0x0b, 0x0d, 0x0b, 0x0c, 0x0d, 0, 0, // the same, bit_offset by sdata
+    24, 0x0d, 0, 0x49, 0x11, 0x0b, 0x0b, 0x0d, 0x0b, 0x0c, 0x0f, 0, 0, // the same, bit_offset by udata
+    25, 0x0d, 0, 0x49, 0x11, 0x6b, 0x0b, 0x0d, 0x0b, 0x0c, 0x0b, 0, 0, // with data_bit_offset, bit_size, bit_offset
     0,
 ];
 
@@ -314,8 +318,17 @@ fn numbers(rt: HostRuntime) -> Result<(), Fail> {
     places(&rt, rt.alloc(), NUMBERS)
 }
 
-/// A unit of version 5 has no such bit fields, whatever stands there.
+/// Bit fields of units of version 5 with a bit_offset, as in version 4; a data_bit_offset comes first.
 const VERSION_5: &[Case] = &[
+    (
+        Order::Little,
+        5,
+        &[
+            2, 0x69, 0, 4, 7, 3, 0x73, 0, 4, 4, 13, 4, 3, 29, 0, 4, 13, 4, 5, 24, 0, 4, 13, 4, 17,
+            7, 0, 0,
+        ],
+        Ok(&[50_331_648, 83_886_083, 285_212_680]),
+    ),
     (
         Order::Little,
         5,
@@ -325,14 +338,68 @@ const VERSION_5: &[Case] = &[
     (
         Order::Little,
         5,
+        &[2, 0x69, 0, 4, 7, 3, 0x73, 0, 4, 5, 13, 3, 29, 0],
+        Ok(&[50_331_648]),
+    ),
+    (
+        Order::Little,
+        5,
+        &[2, 0x69, 0, 4, 7, 3, 0x73, 0, 4, 25, 13, 5, 3, 29, 0],
+        Ok(&[50_331_653]),
+    ),
+    (
+        Order::Little,
+        5,
         &[2, 0x69, 0, 4, 7, 3, 0x73, 0, 4, 21, 13, 3, 0, 1, 0],
-        Ok(&[50_331_656]),
+        Err(TypeFault::Form(22, FormFault::WrongClass(0x0c, 0x08))),
     ),
 ];
 
 #[test]
 fn version_5(rt: HostRuntime) -> Result<(), Fail> {
     places(&rt, rt.alloc(), VERSION_5)
+}
+
+/// A bit_offset of -1, by 8 bytes of ones and as a signed number; by another form ones are 2^64 - 1.
+const NEGATIVE: &[Case] = &[
+    (
+        Order::Little,
+        4,
+        &[
+            2, 0x69, 0, 4, 7, 3, 0x73, 0, 5, 22, 12, 4, 30, 255, 255, 255, 255, 255, 255, 255, 255,
+            0,
+        ],
+        Ok(&[503_316_483]),
+    ),
+    (
+        Order::Little,
+        4,
+        &[2, 0x69, 0, 4, 7, 3, 0x73, 0, 5, 23, 12, 4, 30, 0x7f, 0],
+        Ok(&[503_316_483]),
+    ),
+    (
+        Order::Little,
+        5,
+        &[
+            2, 0x69, 0, 4, 7, 3, 0x73, 0, 5, 22, 13, 4, 30, 255, 255, 255, 255, 255, 255, 255, 255,
+            0,
+        ],
+        Ok(&[503_316_483]),
+    ),
+    (
+        Order::Little,
+        4,
+        &[
+            2, 0x69, 0, 4, 7, 3, 0x73, 0, 5, 24, 12, 4, 30, 255, 255, 255, 255, 255, 255, 255, 255,
+            255, 1, 0,
+        ],
+        Err(TypeFault::MemberPlace(21)),
+    ),
+];
+
+#[test]
+fn negative(rt: HostRuntime) -> Result<(), Fail> {
+    places(&rt, rt.alloc(), NEGATIVE)
 }
 
 /// 64 typedefs are followed to the storage, and no more.
