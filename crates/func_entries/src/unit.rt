@@ -42,7 +42,7 @@ fn read_unit<'a>(
     let form = context(image, unit, root.str_base);
     let ctx = UnitCtx {
         form,
-        version: 5,
+        version: 0,
         start: Walk::new(unit, abbrevs, &form),
         extents: None,
     };
