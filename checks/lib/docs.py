@@ -102,8 +102,8 @@ def check_map():
     rows = {}
     for line in read("docs/ARCHITECTURE.md").splitlines():
         cells = [cell.strip() for cell in line.split("|")]
-        if len(cells) > 4 and CODE.fullmatch(cells[1]):
-            rows[cells[1].strip("`")] = set(CODE.findall(cells[4]))
+        if len(cells) == 5:
+            rows |= {crate: set(CODE.findall(cells[3])) for crate in CODE.findall(cells[1])}
     faults = [f"{crate} is not in the map" for crate in crates() if crate not in rows]
     for crate, told in rows.items():
         files = {
