@@ -153,9 +153,11 @@ def check_cases():
 
 
 def check_toolchain():
-    """Whether the toolchain that the README names is the one that is installed: every page and
-    proof may be right with another one, too."""
+    """The README and `pahole --version` name one toolchain, and whether it is the one that is
+    installed: every page and proof may be right with another one, too."""
     told = re.search(r"`rt version`\s+prints\s+`([^`]*)`", read("README.md"))[1]
+    page = re.search(r"^proved by (.*)$", read("crates/pahole_help/src/shipped.rt"), re.M)[1]
+    print(f"passed docs version: {told}" if page == told else f"failed docs version: {page}")
     had = subprocess.run(["rt", "version"], capture_output=True, text=True).stdout.strip()
     print(f"passed docs toolchain: {told}" if had == told else f"note: {had} is here, not {told}")
 
