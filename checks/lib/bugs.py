@@ -35,7 +35,7 @@ LAYERS = {
     "Layout": ["layout_printer", "shown_types"],
     "Words": ["command_line"],
     "World": ["world_io"],
-    "Run": ["pahole_run"],
+    "Run": ["pahole_run", "pahole_help"],
     "Tests": ["small_files", "small_graphs"],
 }
 

@@ -19,6 +19,16 @@ def read(path):
         return file.read()
 
 
+def found(pattern):
+    """The paths below ROOT of a pattern, in order."""
+    return [os.path.relpath(path, ROOT) for path in sorted(glob.glob(f"{ROOT}/{pattern}"))]
+
+
+def stems(pattern):
+    """The names of the files of a pattern, without their endings."""
+    return {os.path.splitext(os.path.basename(path))[0] for path in found(pattern)}
+
+
 def blocks(text):
     """The lines of tables, and the paragraphs; examples, which are indented, are left out."""
     for block in re.split(r"\n\s*\n", text):
@@ -26,16 +36,8 @@ def blocks(text):
             yield from block.split("\n") if block.startswith("|") else [block]
 
 
-def exists(path):
-    return bool(glob.glob(os.path.join(ROOT, path)))
-
-
 def crates():
-    return [
-        line.split(":")[0].split()[0]
-        for line in read("crates.txt").splitlines()
-        if line and not line.startswith("#")
-    ]
+    return re.findall(r"^([^#\s:]+)", read("crates.txt"), re.M)
 
 
 def check_paths(page):
@@ -43,10 +45,8 @@ def check_paths(page):
     heading or the last block on one crate names, or a folder that each crate has."""
     faults, heading, number = [], "", 0
     for block in blocks(read(page)):
-        if block.startswith("#"):
-            heading = block
-        if re.match(r"\*\*\w+\*\*", block):
-            heading = block.split(" ")[0]
+        if re.match(r"#|\*\*\w+\*\*", block):
+            heading = block if block.startswith("#") else block.split(" ")[0]
         named = [crate for crate in crates() if crate in NAME.findall(heading + " " + block)]
         folders = [""] + ["crates/"] + [f"crates/{crate}/" for crate in named]
         folder = None
@@ -54,15 +54,15 @@ def check_paths(page):
             if FILE.fullmatch(word):
                 number += 1
                 places = [folder] if folder else [f"crates/{crate}/specs" for crate in named]
-                if not any(exists(f"{place}/{word}") for place in places):
+                if not any(found(f"{place}/{word}") for place in places):
                     faults.append(f"{word} in {block[:60]!r}")
             elif PATH.fullmatch(word):
                 number += 1
-                found = [start + word for start in folders if exists(start + word)]
-                if not found and not (word.endswith("/") and exists(f"crates/*/{word}")):
+                there = [start + word for start in folders if found(start + word)]
+                if not there and not (word.endswith("/") and found(f"crates/*/{word}")):
                     faults.append(word)
-                elif found and word.endswith(".antt"):
-                    folder = os.path.dirname(found[0])
+                elif there and word.endswith(".antt"):
+                    folder = os.path.dirname(there[0])
     return faults, f"{number} paths"
 
 
@@ -78,8 +78,8 @@ def check_proof():
         is_row = block.startswith("|")
         if crate and crate[1] in crates():
             told.add(crate[1])
-            found = glob.glob(f"{ROOT}/crates/{crate[1]}/s*/**/*.*t", recursive=True)
-            paths += [os.path.relpath(path, f"{ROOT}/crates") for path in found]
+            of_crate = glob.glob(f"{ROOT}/crates/{crate[1]}/s*/**/*.*t", recursive=True)
+            paths += [os.path.relpath(path, f"{ROOT}/crates") for path in of_crate]
         elif is_row:
             paths = paths or above
         else:
@@ -92,8 +92,7 @@ def check_proof():
                 number += 1
                 if not re.search(rf"(?<!\w){re.escape(word)}(?!\w)", text):
                     faults.append(f"{word} is not in {crate[1] if crate else paths}")
-    wanted = [crate for crate in crates() if exists(f"crates/{crate}/specs")]
-    faults += [f"nothing on {crate}" for crate in wanted if crate not in told]
+    faults += [f"nothing on {one}" for one in set(crates()) - told if found(f"crates/{one}/specs")]
     return faults, f"{number} definitions, {len(told)} crates"
 
 
@@ -101,26 +100,20 @@ def check_map():
     """The map has each crate, and each file of its definitions."""
     rows = {}
     for line in read("docs/ARCHITECTURE.md").splitlines():
-        cells = [cell.strip() for cell in line.split("|")]
-        if len(cells) > 4 and CODE.fullmatch(cells[1]):
-            rows[cells[1].strip("`")] = set(CODE.findall(cells[4]))
+        cells = line.split("|")
+        if len(cells) == 5:
+            rows |= {crate: set(CODE.findall(cells[3])) for crate in CODE.findall(cells[1])}
     faults = [f"{crate} is not in the map" for crate in crates() if crate not in rows]
     for crate, told in rows.items():
-        files = {
-            os.path.basename(path)[:-5] for path in glob.glob(f"{ROOT}/crates/{crate}/specs/*.antt")
-        } - {"Lib"}
-        told = {
-            name
-            for name in told
-            if name[0].isupper() and exists(f"crates/{crate}/specs/{name}.antt")
-        }
-        faults += [f"{crate} has {name}" for name in sorted(files - told)]
+        files = stems(f"crates/{crate}/specs/*.antt") - {"Lib"}
+        faults += [f"{crate} has {name}, and not in the map" for name in sorted(files - told)]
+        faults += [f"{crate} has no {name}" for name in sorted(told - files)]
     return faults, f"{len(rows)} crates"
 
 
 def misplaced(edit):
     """The texts that an edit of tools/unseen changes and that don't stand once in their file."""
-    faults, crate, path = [], None, None
+    crate, path = None, None
     for line in read(f"tools/unseen/{edit}.edit").splitlines():
         word, _, text = line.partition(": ")
         if word == "crate":
@@ -128,19 +121,16 @@ def misplaced(edit):
         elif word == "file":
             path = f"crates/{crate}/{text.strip()}"
         elif word == "old" and read(path).count(text.strip()) != 1:
-            faults.append(f"{edit} changes a text that does not stand once in {path}")
-    return faults
+            yield f"{edit} changes a text that does not stand once in {path}"
 
 
 def check_unseen():
     """The page on what is proved names each edit that no clause refuses, and no other, and each
     finds what it changes."""
-    page = read("docs/PROOF.md")
-    part = page[page.index("## What no clause can refuse") :]
-    part = part[: part.index("\n## ", 1)] if "\n## " in part[1:] else part
+    part = read("docs/PROOF.md").partition("## What no clause can refuse")[2].partition("\n## ")[0]
     words = CODE.findall(part)
     told = {word for word in words if re.fullmatch(r"[a-z]+(_[a-z]+)+", word)} - set(crates())
-    there = {os.path.basename(path)[:-5] for path in glob.glob(f"{ROOT}/tools/unseen/*.edit")}
+    there = stems("tools/unseen/*.edit")
     faults = [f"{name} is not named" for name in sorted(there - told)]
     faults += [f"{name} is named and not there" for name in sorted(told - there)]
     faults += [fault for name in sorted(there) for fault in misplaced(name)]
@@ -151,15 +141,10 @@ def check_cases():
     """The cases that the programs of the gate count are those that lie there; btf_cases makes
     two more."""
     runs = read("crates/run_cases/data/list").split()
-    paths = glob.glob(f"{ROOT}/crates/run_cases/data/*/")
-    folders = [os.path.basename(os.path.dirname(path)) for path in paths]
-    made = 2 + sum(
-        len(re.findall("^case ", read(os.path.relpath(path, ROOT)), re.M))
-        for path in glob.glob(f"{ROOT}/crates/btf_cases/data/*")
-    )
-    faults = []
-    if sorted(runs) != sorted(folders):
-        faults.append(f"run_cases has {len(folders)} folders, and its list {len(runs)}")
+    folders = [path.split("/")[-1] for path in found("crates/run_cases/data/*/")]
+    cases = [read(path) for path in found("crates/btf_cases/data/*")]
+    made = 2 + sum(len(re.findall("^case ", text, re.M)) for text in cases)
+    faults = ["run_cases has other folders than its list"] * (sorted(runs) != sorted(folders))
     for program, count in (("run_cases", len(runs)), ("btf_cases", made)):
         told = re.search(r"^(\d+) cases, 0 differ$", read(f"crates/{program}/stdout"), re.M)[1]
         if int(told) != count:
@@ -168,43 +153,22 @@ def check_cases():
 
 
 def check_toolchain():
-    """Whether the toolchain that the README names is the one that is installed: every page and
-    proof may be right with another one, too."""
+    """The README and `pahole --version` name one toolchain, and whether it is the one that is
+    installed: every page and proof may be right with another one, too."""
     told = re.search(r"`rt version`\s+prints\s+`([^`]*)`", read("README.md"))[1]
+    page = re.search(r"^proved by (.*)$", read("crates/pahole_help/src/shipped.rt"), re.M)[1]
+    print(f"passed docs version: {told}" if page == told else f"failed docs version: {page}")
     had = subprocess.run(["rt", "version"], capture_output=True, text=True).stdout.strip()
-    if had == told:
-        print(f"passed docs toolchain: {told}")
-    else:
-        print(f"note: this machine has {had}, and the README names {told}")
+    print(f"passed docs toolchain: {told}" if had == told else f"note: {had} is here, not {told}")
 
 
-def tell(name, faults, what):
-    """Says whether a check of the pages found a fault, and if not what it looked at."""
-    if faults:
-        print(f"failed docs {name}: {'; '.join(faults)}")
-    else:
-        print(f"passed docs {name}: {what}")
-
-
-def main():
-    checks = [
-        (f"paths of {page}", lambda page=page: check_paths(page))
-        for page in ["README.md"]
-        + [os.path.relpath(path, ROOT) for path in sorted(glob.glob(f"{ROOT}/docs/*.md"))]
-    ]
-    checks += [
-        ("proof", check_proof),
-        ("architecture", check_map),
-        ("unseen edits", check_unseen),
-        ("cases", check_cases),
-    ]
-    for name, check in checks:
-        tell(name, *check())
-    if shutil.which("rt"):
-        check_toolchain()
-    else:
-        print("skipped docs toolchain: rt is not installed")
-
-
-if __name__ == "__main__":
-    main()
+CHECKS = {"proof": check_proof, "architecture": check_map, "unseen edits": check_unseen}
+for name in ["README.md", *found("docs/*.md")]:
+    CHECKS[f"paths of {name}"] = lambda page=name: check_paths(page)
+for name, check in (CHECKS | {"cases": check_cases}).items():
+    wrong, seen = check()
+    print(f"failed docs {name}: {'; '.join(wrong)}" if wrong else f"passed docs {name}: {seen}")
+if shutil.which("rt"):
+    check_toolchain()
+else:
+    print("skipped docs toolchain: rt is not installed")

@@ -1,17 +1,38 @@
-"""errors.py ROOT [write]: docs/ERRORS.md has the tables that docs/errors.toml makes, and these have
-the program's errors, sections and counts of values; no page tells of another number. With `write`
-the tables are put into the page first."""
+"""errors.py ROOT [write]: docs/ERRORS.md has the tables that docs/errors.toml makes, the program
+the explanations, and they have its errors, sections and counts of values; no page tells of another
+number. With `write` the tables and explanations are written first."""
 import re
 import sys
+import textwrap
 import tomllib
 from pathlib import Path
 
 ROOT = Path(sys.argv[1])
 PAGE = ROOT / "docs/ERRORS.md"
+SOURCE = ROOT / "crates/pahole_help/src/explanations.rt"
 SECTIONS = {"Image": "image", "Info": ".debug_info", "Abbrev": ".debug_abbrev", "Btf": "btf"}
 KEPT = {"bare": 0, "keeping": 1, "keeping_two": 2, "of_whole": 1}
 ERROR = ["Error", "What is wrong", "Place", "Values", "Cause", "What to do"]
 USAGE = ["Code", "What is wrong", "W", "Cause", "What to do"]
+HEAD = """//! What each error and each usage code means. `checks/lib/errors.py` makes this file from
+//! `docs/errors.toml`.
+use crate::pages::Explanation;
+"""
+TABLE = """
+static {}: [Explanation<'static>; {}] = [
+{}];
+
+fn {}_table() -> &'static [Explanation<'static>] {{
+    &{}
+}}
+"""
+ALL = """
+/// The tables of all errors and of the usage codes.
+pub fn explanation_tables() -> [&'static [Explanation<'static>]; {}] {{
+    [
+{}    ]
+}}
+"""
 
 
 def read(path):
@@ -38,6 +59,35 @@ def made(page, rows):
         page = "".join(lines).join(parts)
         lost += [mark] * (len(parts) != 2)
     return page, lost
+
+
+def explanation(row):
+    """The item of the program's explanations for an error or a usage code."""
+    name, fault, place, *values, cause, cure = cells(row)
+    key = f"usage{name}" if "code" in row else str(row["number"])
+    head = f"usage {name}" if "code" in row else f"error {name.replace('`', '')}"
+    parts = [f"{head}: {fault}", f"{'Word' if 'code' in row else 'Place'}: {place}"]
+    parts += [f"Values: {value}" for value in values if value != "none"]
+    parts += [f"Cause: {cause}", f"What to do: {cure}"]
+    lines = "\n".join(textwrap.fill(part, 84, subsequent_indent="  ") for part in parts)
+    text = lines.replace("\\", "\\\\").replace('"', '\\"')
+    return f'    Explanation {{\n        key: "{key}",\n        text: "\\\n{text}\n",\n    }},\n'
+
+
+def explained(rows):
+    """The source of the program's explanations: a table for each layer, and all of them."""
+    tables = {}
+    for row in rows:
+        tables.setdefault(row.get("layer", "usage"), []).append(explanation(row))
+    calls = "".join(f"        {layer}_table(),\n" for layer in tables)
+    return (
+        HEAD
+        + ALL.format(len(tables), calls)
+        + "".join(
+            TABLE.format(layer.upper(), len(items), "".join(items), layer, layer.upper())
+            for layer, items in tables.items()
+        )
+    )
 
 
 def faults_of(errors, usages):
@@ -70,9 +120,12 @@ def faults_of(errors, usages):
 
 data = tomllib.loads(read("docs/errors.toml"))
 text, found = made(read(PAGE), data["error"] + data["usage"])
+source = explained(data["error"] + data["usage"])
 if sys.argv[2:] == ["write"] and not found:
     PAGE.write_text(text, encoding="utf-8")
+    SOURCE.write_text(source, encoding="utf-8")
 found += ["the data makes other tables"] * (text != read(PAGE))
+found += ["the data makes other explanations"] * (source != read(SOURCE))
 found += faults_of(data["error"], data["usage"])
 what = "; ".join(found) or f"{len(data['error'])} errors, {len(data['usage'])} usage codes"
 print(f"{'failed' if found else 'passed'} docs errors: {what}")

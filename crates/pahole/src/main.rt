@@ -1,9 +1,14 @@
 //! The program: it does what its words ask for, and ends with the status of that run.
+//!
+//! `--help`, `--version` and `--explain=N` are the program's own where one of them is the only
+//! word: `answer` of `pahole_help` prints what it asks for, and `run`, which knows none of them, is
+//! not called. All other words are those of `run`.
 #![tactic(auto)]
 
 ghost use Rattle.std.specs.Prelude.{◌≡◌, ◌≢◌};
 
 use dw_base::SHIPPED;
+use pahole_help::{Pages, answer, explanation_tables, help, version};
 use pahole_run::run;
 use std::env;
 use std::io::ErrorKind;
@@ -29,6 +34,15 @@ fn main(rt: HostRuntime) -> ExitCode {
         }
     }
     let mut world = HostWorld::new(&rt);
+    let tables = explanation_tables();
+    let pages = Pages {
+        help: help(),
+        version: version(),
+        explanations: &tables,
+    };
+    if let Some(status) = answer(&mut world, &pages, words.as_slice()) {
+        return ExitCode::from(status);
+    }
     ExitCode::from(run(&rt, alloc, &mut world, &OpenGate, SHIPPED, words.as_slice()))
 }
 

@@ -1,0 +1,3 @@
+-- The modules of definitions that this crate's contracts cite.
+pub mod Asked
+pub mod Answers
