@@ -19,7 +19,7 @@ mod summary;
 pub mod texts;
 
 pub use laws::bits_add_up;
-pub use placing::layout;
+pub use placing::{layout, layout_by_sizes};
 pub use sizes::{Sizes, pointer_of, sizes_of};
 pub use slots::{LayoutFault, Slot, Slots, TypeLayout};
 pub use texts::{sizes_line, text};

@@ -18,7 +18,7 @@ use c_model::CType;
 use command_line::Text;
 use dw_base::Bytes;
 use indexmap::IndexMap;
-use layout_printer::{LayoutFault, Sizes, TypeLayout, layout, sizes_of, text};
+use layout_printer::{LayoutFault, Sizes, TypeLayout, layout_by_sizes, sizes_of, text};
 use std::alloc::{AllocError, Global};
 
 /// How types are shown.
@@ -131,7 +131,7 @@ fn layout_at(
     ensures { LaysOut table.now.types sizes.now.pointer x result }
 {
     let structure = structure_at(table.types.items(), x).unwrap();
-    match layout(alloc, table, sizes, structure + 1) {
+    match layout_by_sizes(alloc, table, structure + 1, sizes) {
         Ok(shown) => Ok(shown),
         Err(LayoutFault::NoSize(id)) => Err(ShowFault::NoSize(id)),
         Err(LayoutFault::Memory) => Err(ShowFault::Memory),
