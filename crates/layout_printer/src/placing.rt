@@ -17,9 +17,9 @@ use btf_codec::Table;
 use c_model::{CType, Ref};
 use std::alloc::Global;
 
-/// The layout of the structure or union of an id, where pointers have `pointer` bytes. It refuses as
-/// `layout_by_sizes`. For one layout of a table: it finds the sizes of all its types, and takes as
-/// many steps as there are types and members.
+/// The layout of the structure or union of an id, where pointers have `pointer` bytes. It refuses
+/// as `layout_by_sizes`. For one layout of a table: it finds the sizes of all its types, and takes
+/// as many steps as there are types and members.
 pub fn layout(
     alloc: Global,
     table: &Table<'_>,

@@ -38,6 +38,11 @@ pub struct Style {
 /// It is refused by `NoName` at the first name that no type has which can be shown; else by
 /// `NoSize` at the first member, in the order of what would be shown, whose type has no size, also
 /// where it has too few holes to be shown.
+///
+/// It takes as many steps as there are types, and bytes of names of those that can be shown and of
+/// the names; lays each structure out once, and counts its holes; and for each type that is shown,
+/// as often as it is named, makes one look-up, and where it has holes enough its text, or with
+/// `sizes` its name and a few bytes.
 pub fn show(
     alloc: Global,
     table: &Table<'_>,
