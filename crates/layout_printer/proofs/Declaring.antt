@@ -1,6 +1,6 @@
 -- Declarations, a type at a time.
-use Rattle.std.proofs.Common.{◌≡◌, ℕ, suc, ◌+◌, ◌-◌, ◌<◌, ◌≤◌, true, false, cond, List, [], ◌∷◌}
-use Rattle.std.proofs.Common.{◌++◌, Option, codes, refl, sym, ap, ◌∙◌, arith}
+use Rattle.std.proofs.Common.{◌≡◌, ℕ, suc, ◌+◌, ◌-◌, ◌<◌, ◌≤◌, true, false, cond, Bool, List, []}
+use Rattle.std.proofs.Common.{◌∷◌, ◌++◌, Option, codes, refl, sym, ap, ◌∙◌, arith}
 use Rattle.std.proofs.lemmas.Bool.{cond-true, cond-false}
 use Rattle.std.proofs.lemmas.List.{append-nil, append_assoc}
 use Rattle.std.proofs.lemmas.List.Concat.{flat_map-append}
@@ -8,9 +8,9 @@ use Rattle.std.specs.List.{flat_map, range_with_len}
 use Rattle.c_model.specs.declared.graph.CType.{CType}
 use Rattle.c_model.specs.declared.graph.Ref.{Ref}
 use Rattle.layout_printer.specs.Sizes.{type_of}
-use Rattle.layout_printer.specs.Declarations.{Written, after, around, attribute, decl_at, decl_in}
+use Rattle.layout_printer.specs.Declarations.{Written, after, around, before, decl_at, decl_in}
 use Rattle.layout_printer.specs.Declarations.{is_passed, kind_of, leads, leads_to_pointer}
-use Rattle.layout_printer.specs.Declarations.{member_type, past, spaced, tagged}
+use Rattle.layout_printer.specs.Declarations.{member_type, past, qualified, spaced}
 use Rattle.layout_printer.proofs.Holes.{range_push}
 
 past_suc : (n : ℕ) (types : List CType) (r : Ref) → past (suc n) types r
@@ -86,19 +86,22 @@ module _ (lists : Ref → List ℕ) (types : List CType) where
       (ap (λ i. decl_in lists i types r d) none ∙ decl_zero r d))
       ∙ inv
 
--- a tag more stands behind the type part, before those that stand there
-pub tag_more : (rest : Ref → List ℕ → Written) (types : List CType) (tag : List ℕ) (r : Ref) (front
-    d back back' : List ℕ) → leads_to_pointer types r ≡ false → back' ≡ (32 ∷ attribute tag) ++ back
-    → around front (rest r d) back' ≡ around front (tagged rest types tag r d) back
-tag_more rest types tag r front d back back' other e =
+-- an attribute more stands behind the type part, before those that stand there
+pub tag_more : (is_tag : Bool) (rest : Ref → List ℕ → Written) (types : List CType) (word : List ℕ)
+    (r : Ref) (front d back back' : List ℕ) → leads_to_pointer types r ≡ false → is_tag ≡ true
+    → back' ≡ (32 ∷ word) ++ back → around front (rest r d) back'
+    ≡ around front (qualified is_tag rest types word r d) back
+tag_more is_tag rest types word r front d back back' other tag e =
     let w : Written = rest r d in
-    let behind : w.type_part ++ back' ≡ (w.type_part ++ 32 ∷ attribute tag) ++ back =
+    let behind : w.type_part ++ back' ≡ (w.type_part ++ 32 ∷ word) ++ back =
     ap (λ (b : List ℕ). w.type_part ++ b) e
-    ∙ sym (append_assoc w.type_part (32 ∷ attribute tag) back) in
+    ∙ sym (append_assoc w.type_part (32 ∷ word) back) in
     ap (λ (t : List ℕ).
     let v : Written = record { type_part = front ++ t; name_part = w.name_part } in v) behind
-    ∙ ap (λ (v : Written). around front v back) (sym (cond-false (leads_to_pointer types r)
-    (rest r (attribute tag ++ spaced d)) (after w (32 ∷ attribute tag)) other))
+    ∙ ap (λ (v : Written). around front v back)
+    (sym (cond-false (leads_to_pointer types r) (rest r (word ++ spaced d))
+    (cond is_tag (after w (32 ∷ word)) (before (word ++ codes " ") w)) other
+    ∙ cond-true is_tag (after w (32 ∷ word)) (before (word ++ codes " ") w) tag))
 
 -- one more place
 pub places_more : (f : ℕ → List ℕ) (n : ℕ) (front out more : List ℕ) → out ≡ front ++ flat_map f

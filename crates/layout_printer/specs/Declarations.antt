@@ -128,19 +128,14 @@ after w back = record { type_part = w.type_part ++ back; name_part = w.name_part
 abbrev pub attribute : List ℕ → List ℕ
 attribute name = codes "__attribute__((btf_type_tag(\"" ++ (name ++ codes "\")))")
 
--- the declaration of a type with a qualifier: before the name where the type is a pointer, else
--- before the type part
-abbrev pub qualified : (Ref → List ℕ → Written) → List CType → List ℕ → Ref → List ℕ → Written
-qualified rest types word r d =
+-- the declaration of a type with a word more, a qualifier or a tag's attribute: before the name
+-- where the type is a pointer; else an attribute behind the type part, and a qualifier before it
+abbrev pub qualified : Bool → (Ref → List ℕ → Written) → List CType → List ℕ → Ref → List ℕ
+    → Written
+qualified is_tag rest types word r d =
     if leads_to_pointer types r then rest r (word ++ spaced d)
+    else if is_tag then after (rest r d) (32 ∷ word)
     else before (word ++ codes " ") (rest r d)
-
--- the declaration of a type with a type tag: before the name where the type is a pointer, else
--- behind the type part
-abbrev pub tagged : (Ref → List ℕ → Written) → List CType → List ℕ → Ref → List ℕ → Written
-tagged rest types tag r d =
-    if leads_to_pointer types r then rest r (attribute tag ++ spaced d)
-    else after (rest r d) (32 ∷ attribute tag)
 
 -- the declaration of a type by its shape, given those of the types behind it and the text of its
 -- parameters
@@ -153,12 +148,13 @@ decl_by rest types list Pointer t d =
     rest (target_at t.targets 0) (if leads_to_list types (target_at t.targets 0)
     then codes "(*" ++ (d ++ codes ")") else codes "*" ++ d)
 decl_by rest types list Qualifier t d =
-    qualified rest types (qualifier_word t.label.kind) (target_at t.targets 0) d
+    qualified false rest types (qualifier_word t.label.kind) (target_at t.targets 0) d
 decl_by rest types list Array t d =
     rest (target_at t.targets 0) (d ++ (codes "[" ++ (bound t.label.extra ++ codes "]")))
 decl_by rest types list Function t d =
     rest (target_at t.targets 0) (d ++ (codes "(" ++ (list ++ codes ")")))
-decl_by rest types list Annotation t d = tagged rest types t.label.name (target_at t.targets 0) d
+decl_by rest types list Annotation t d =
+    qualified true rest types (attribute t.label.name) (target_at t.targets 0) d
 decl_by rest types list Other t d = record { type_part = codes "?"; name_part = d }
 
 abbrev pub decl_at : (Ref → List ℕ → Written) → List CType → List ℕ → Option CType

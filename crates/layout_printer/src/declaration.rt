@@ -8,7 +8,7 @@ ghost use Rattle.layout_printer.specs.Declarations.{decl_at, decl_by, decl_in, e
 ghost use Rattle.layout_printer.specs.Declarations.{leads, list_at, parameter_at, parameter_decl};
 ghost use Rattle.layout_printer.specs.Declarations.{parameter_text, parameters, part_count};
 ghost use Rattle.layout_printer.specs.Declarations.{qualified, shape_of, spaced, tag_name};
-ghost use Rattle.layout_printer.specs.Declarations.{tag_word, tagged};
+ghost use Rattle.layout_printer.specs.Declarations.{tag_word};
 
 use crate::lookups::{target_at, type_of};
 use crate::pieces::{LinePiece, put, put_if};
@@ -52,7 +52,7 @@ pub fn declare(
       name_part = w.name_part.items;
     } ≡ decl types.now r name.now) }
 {
-    let mut draft = named(alloc, name)?;
+    let mut draft = draft_of(alloc, name)?;
     let mut at = r;
     for _ in 0..FOLLOWED {
         let list = list_at(alloc, types, at)?;
@@ -76,7 +76,7 @@ fn parameter(
         record { type_part = w.type_part.items; name_part = w.name_part.items }
         ≡ parameter_decl types.now r name.now) }
 {
-    let mut draft = named(alloc, name)?;
+    let mut draft = draft_of(alloc, name)?;
     let mut at = r;
     for _ in 0..FOLLOWED {
         match follow(alloc, types, b"...", at, &mut draft)? {
@@ -89,7 +89,7 @@ fn parameter(
 }
 
 /// A declaration of a name before any type is written.
-fn named(alloc: Global, name: &[u8]) -> Result<Draft, AllocError>
+fn draft_of(alloc: Global, name: &[u8]) -> Result<Draft, AllocError>
     ensures front { IfOk result (λ w. w.front.items ≡ []) }
     ensures back { IfOk result (λ w. w.back.items ≡ []) }
     ensures name { IfOk result (λ w. w.name.items ≡ name.now) }
@@ -170,7 +170,8 @@ fn write_type(
             Ok(None)
         }
         Shape::Annotation => {
-            annotate(alloc, types, t.label.name.bytes(), target, draft)?;
+            let word = attribute(alloc, t.label.name.bytes())?;
+            qualify(alloc, types, &word, true, target, draft)?;
             Ok(Some(target))
         }
         Shape::Pointer => {
@@ -178,7 +179,14 @@ fn write_type(
             Ok(Some(target))
         }
         Shape::Qualifier => {
-            qualify(alloc, types, qualifier_word(t.label.kind), target, draft)?;
+            qualify(
+                alloc,
+                types,
+                qualifier_word(t.label.kind),
+                false,
+                target,
+                draft,
+            )?;
             Ok(Some(target))
         }
         Shape::Array => {
@@ -224,22 +232,25 @@ fn put_list(out: &mut Vec<u8>, list: &[u8]) -> Result<(), AllocError>
     )
 }
 
-/// Writes a qualifier of a type: before the name where that is a pointer, else before the type
-/// part.
+/// Writes a word that says more of a type, a qualifier or a tag's attribute: before the name where
+/// the type is a pointer; else a qualifier before the type part, and an attribute behind it.
 fn qualify(
     alloc: Global,
     types: &[CType<'_>],
     word: &[u8],
+    is_tag: bool,
     target: Ref,
     draft: &mut Draft,
 ) -> Result<(), AllocError>
     ensures { OnOk result ((rest : Ref → List ℕ → Written) →
         around draft.new.front.items (rest target draft.new.name.items) draft.new.back.items
-        ≡ around draft.old.front.items
-        (qualified rest types.now word.now target draft.old.name.items) draft.old.back.items) }
+        ≡ around draft.old.front.items (qualified is_tag rest types.now word.now target
+        draft.old.name.items) draft.old.back.items) }
 {
     if leads_to_pointer(types, target) {
         draft.name = qualified_name(alloc, word, &draft.name)?;
+    } else if is_tag {
+        draft.back = with_attribute(alloc, word, &draft.back)?;
     } else {
         put(
             &mut draft.front,
@@ -249,59 +260,39 @@ fn qualify(
     Ok(())
 }
 
-/// Writes a type tag of a type: before the name where that is a pointer, else behind the type part.
-fn annotate(
-    alloc: Global,
-    types: &[CType<'_>],
-    tag: &[u8],
-    target: Ref,
-    draft: &mut Draft,
-) -> Result<(), AllocError>
-    ensures { OnOk result ((rest : Ref → List ℕ → Written) →
-        around draft.new.front.items (rest target draft.new.name.items) draft.new.back.items
-        ≡ around draft.old.front.items
-        (tagged rest types.now tag.now target draft.old.name.items) draft.old.back.items) }
+/// What stands for the name of a pointer with a word that says more of it.
+fn qualified_name(alloc: Global, word: &[u8], name: &[u8]) -> Result<Vec<u8>, AllocError>
+    ensures { IfOk result (λ v. v.items ≡ word.now ++ spaced name.now) }
 {
-    if leads_to_pointer(types, target) {
-        draft.name = annotated_name(alloc, tag, &draft.name)?;
-    } else {
-        draft.back = annotated_type(alloc, tag, &draft.back)?;
-    }
-    Ok(())
-}
-
-/// What stands for the name of a pointer whose type has a tag.
-fn annotated_name(alloc: Global, tag: &[u8], name: &[u8]) -> Result<Vec<u8>, AllocError>
-    ensures { IfOk result (λ v. v.items ≡ attribute tag.now ++ spaced name.now) }
-{
-    let mut out = Vec::new(alloc);
-    put_attribute(&mut out, tag)?;
+    let mut out = Vec::from_slice(alloc, word)?;
     put_spaced(&mut out, name)?;
     Ok(out)
 }
 
-/// What stands behind a type part that has a tag more.
-fn annotated_type(alloc: Global, tag: &[u8], back: &[u8]) -> Result<Vec<u8>, AllocError>
-    ensures { IfOk result (λ v. v.items ≡ (32 ∷ attribute tag.now) ++ back.now) }
+/// What stands behind a type part with one attribute more.
+fn with_attribute(alloc: Global, word: &[u8], back: &[u8]) -> Result<Vec<u8>, AllocError>
+    ensures { IfOk result (λ v. v.items ≡ (32 ∷ word.now) ++ back.now) }
 {
     let mut out = Vec::from_slice(alloc, b" ")?;
-    put_attribute(&mut out, tag)?;
+    out.extend_from_slice(word)?;
     out.extend_from_slice(back)?;
     Ok(out)
 }
 
-/// Appends the attribute that a type tag is written as.
-fn put_attribute(out: &mut Vec<u8>, tag: &[u8]) -> Result<(), AllocError>
-    ensures { OnOk result (out.new.items ≡ out.old.items ++ attribute tag.now) }
+/// The attribute that a type tag is written as.
+fn attribute(alloc: Global, tag: &[u8]) -> Result<Vec<u8>, AllocError>
+    ensures { IfOk result (λ v. v.items ≡ attribute tag.now) }
 {
+    let mut out = Vec::new(alloc);
     put(
-        out,
+        &mut out,
         &[
             LinePiece::Text(b"__attribute__((btf_type_tag(\""),
             LinePiece::Text(tag),
             LinePiece::Text(b"\")))"),
         ],
-    )
+    )?;
+    Ok(out)
 }
 
 /// What stands for the name of a pointer; in parentheses before an array or a function.
@@ -322,15 +313,6 @@ fn pointer_name(alloc: Global, nested: bool, name: &[u8]) -> Result<Vec<u8>, All
     } else {
         put(&mut out, &[LinePiece::Text(b"*"), LinePiece::Text(name)])?;
     }
-    Ok(out)
-}
-
-/// What stands for the name of a qualified pointer.
-fn qualified_name(alloc: Global, word: &[u8], name: &[u8]) -> Result<Vec<u8>, AllocError>
-    ensures { IfOk result (λ v. v.items ≡ word.now ++ spaced name.now) }
-{
-    let mut out = Vec::from_slice(alloc, word)?;
-    put_spaced(&mut out, name)?;
     Ok(out)
 }
 
@@ -408,7 +390,7 @@ fn put_parameter(
     if last && name.is_empty() && is_void(target) {
         return put(out, &[LinePiece::Text(b"...")]);
     }
-    let written = parameter(alloc, types, target, name)?;
-    out.extend_from_slice(&written.type_part)?;
-    put_spaced(out, &written.name_part)
+    let declaration = parameter(alloc, types, target, name)?;
+    out.extend_from_slice(&declaration.type_part)?;
+    put_spaced(out, &declaration.name_part)
 }

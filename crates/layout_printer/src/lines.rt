@@ -28,8 +28,8 @@ pub fn put_members(
 {
     let mut greatest = 0;
     for (place, slot) in slots.iter().enumerate() {
-        let written = declare_member(alloc, types, r, place)?;
-        put_member(alloc, out, line, greatest, &written, slot)?;
+        let declaration = declare_member(alloc, types, r, place)?;
+        put_member(alloc, out, line, greatest, &declaration, slot)?;
         greatest = later_line(greatest, line_of(line, slot));
     }
     Ok(())
@@ -58,20 +58,20 @@ fn put_member(
     out: &mut Vec<u8>,
     line: u32,
     greatest: u64,
-    written: &Declaration,
+    declaration: &Declaration,
     slot: &Slot,
 ) -> Result<(), AllocError>
     requires { 0 < line }
     ensures { OnOk result ((earlier : List Slot) → greatest ≡ greatest_line line earlier →
         out.new.items ≡ out.old.items ++ slot_text line earlier (record {
-          type_part = written.now.type_part.items;
-          name_part = written.now.name_part.items;
+          type_part = declaration.now.type_part.items;
+          name_part = declaration.now.name_part.items;
         }) slot.now) }
 {
     put_hole(out, slot.hole)?;
     put_boundary(out, line, greatest, slot)?;
-    let text = name_text(alloc, &written.name_part, slot)?;
-    put_declared(out, &written.type_part, &text, slot)
+    let name = name_text(alloc, &declaration.name_part, slot)?;
+    put_declaration(out, &declaration.type_part, &name, slot)
 }
 
 fn put_hole(out: &mut Vec<u8>, hole: u64) -> Result<(), AllocError>
@@ -97,11 +97,16 @@ fn put_boundary(out: &mut Vec<u8>, line: u32, greatest: u64, slot: &Slot) -> Res
     if number <= greatest {
         return Ok(());
     }
-    put_crossed(out, number, number * u64::from(line), byte)
+    put_boundary_line(out, number, number * u64::from(line), byte)
 }
 
 /// Appends the line of a boundary at byte `boundary`, before a member at byte `byte`.
-fn put_crossed(out: &mut Vec<u8>, number: u64, boundary: u64, byte: u64) -> Result<(), AllocError>
+fn put_boundary_line(
+    out: &mut Vec<u8>,
+    number: u64,
+    boundary: u64,
+    byte: u64,
+) -> Result<(), AllocError>
     requires { boundary ≤ byte }
     ensures { OnOk result (out.new.items ≡ out.old.items ++ crossed_text number boundary byte) }
 {
@@ -134,7 +139,7 @@ fn name_text(alloc: Global, name: &[u8], slot: &Slot) -> Result<Vec<u8>, AllocEr
 }
 
 /// Appends the line of a declaration.
-fn put_declared<'p>(
+fn put_declaration<'p>(
     out: &mut Vec<u8>,
     type_part: &'p [u8],
     name: &'p [u8],

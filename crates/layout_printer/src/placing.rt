@@ -11,20 +11,42 @@ ghost use Rattle.layout_printer.specs.Measuring.{farthest};
 ghost use Rattle.layout_printer.specs.declared.slots.Slot.{Slot};
 
 use crate::lookups::{id_of, target_at};
-use crate::sizes::Sizes;
+use crate::sizes::{Sizes, sizes_of};
 use crate::slots::{LayoutFault, Slot, Slots, TypeLayout};
 use btf_codec::Table;
 use c_model::{CType, Ref};
 use std::alloc::Global;
 
-/// The layout of the structure or union of an id, by the sizes of the table. `NoSize` exactly where
-/// a member that is no bit field has a type without a size, with the id of the first such type. It
-/// takes as many steps as there are members.
+/// The layout of the structure or union of an id, where pointers have `pointer` bytes. It refuses
+/// as `layout_by_sizes`. For one layout of a table: it finds the sizes of all its types, and takes
+/// as many steps as there are types and members.
 pub fn layout(
     alloc: Global,
     table: &Table<'_>,
-    sizes: &Sizes,
     id: u32,
+    pointer: u32,
+) -> Result<TypeLayout, LayoutFault>
+    requires structure { IsStructure table.now.types id }
+    requires few { length table.now.types < 2 ^ 32 }
+    requires within { RefersWithin (length table.now.types) table.now.types }
+    ensures ok { IfOk result (IsLayout table.now.types pointer id) }
+    ensures no_size { (n : ℕ) (t : CType) → result ≡ Err (LayoutFault.NoSize n) →
+        type_of table.now.types (ref_of id) ≡ Some t
+        → IsFirstLacking table.now.types pointer t n }
+{
+    let sizes = sizes_of(alloc, table, pointer)?;
+    layout_by_sizes(alloc, table, id, &sizes)
+}
+
+/// The layout of the structure or union of an id, by the sizes of the table's types, which
+/// `sizes_of` finds once for many layouts. `NoSize` exactly where a member that is no bit field has
+/// a type without a size, with the id of the first such type. It takes as many steps as there are
+/// members.
+pub fn layout_by_sizes(
+    alloc: Global,
+    table: &Table<'_>,
+    id: u32,
+    sizes: &Sizes,
 ) -> Result<TypeLayout, LayoutFault>
     requires structure { IsStructure table.now.types id }
     requires sizes { AreSizes table.now.types sizes.now }

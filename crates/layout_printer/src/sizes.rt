@@ -69,7 +69,8 @@ fn kept_at(sizes: &[Option<u64>], r: Ref) -> Option<u64>
 }
 
 /// How many bytes the pointers of a table have: the size of its first INT of 4 or 8 bytes that is
-/// named `long`, `long int`, `unsigned long` or `long unsigned int`, and 8 where it has none.
+/// named `long`, `long int`, `unsigned long` or `long unsigned int`, and 8 where it has none. It
+/// takes at most as many steps as there are types.
 pub fn pointer_of(table: &Table<'_>) -> u32
     ensures { result ≡ pointer_of table.now.types }
 {
@@ -117,8 +118,8 @@ pub fn size_rule(kind: u8) -> SizeRule
     }
 }
 
-/// The sizes of all types of a table, where pointers have `pointer` bytes. It takes as many steps
-/// as there are types.
+/// The sizes in bytes of all types of a table, where pointers have `pointer` bytes. It takes as
+/// many steps as there are types, each of which is passed once.
 pub fn sizes_of(alloc: Global, table: &Table<'_>, pointer: u32) -> Result<Sizes, AllocError>
     requires { length table.now.types < 2 ^ 32 }
     ensures pointer { IfOk result (λ s. s.pointer ≡ pointer) }

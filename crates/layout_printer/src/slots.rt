@@ -37,7 +37,7 @@ pub struct TypeLayout {
 }
 
 impl TypeLayout {
-    /// How many holes have whole bytes.
+    /// How many holes have whole bytes. It takes as many steps as there are members.
     pub fn byte_holes(&self) -> usize
         ensures { result ≡ byte_holes self.now.slots }
     {

@@ -18,7 +18,8 @@ use dw_base::Bytes;
 use std::alloc::{AllocError, Global};
 
 /// The line of an id: its name, a tab, its size in bytes, a tab, the number of its holes with whole
-/// bytes. `shown` is the layout of the id, or of the structure that it is a typedef of.
+/// bytes. `shown` is the layout of the id, or of the structure that it is a typedef of. It takes as
+/// many steps as there are members and bytes of the name.
 pub fn sizes_line(
     alloc: Global,
     table: &Table<'_>,
@@ -54,7 +55,8 @@ pub fn name_of<'t, 'a>(types: &'t [CType<'a>], r: Ref) -> &'a [u8]
 
 /// The text of an id, where cache lines have `line` bytes. `shown` is the layout of the id, or of
 /// the structure that it is a typedef of. A declaration follows at most 64 types, and so does each
-/// parameter in it.
+/// parameter in it; at each it looks past as many, and copies what it has of the name. So it takes
+/// as many steps as there are members, and 64 times the bytes of the text.
 pub fn text(
     alloc: Global,
     table: &Table<'_>,

@@ -6,7 +6,8 @@ use btf_codec::Table;
 use c_model::{CType, Ref};
 use dw_base::Bytes;
 use layout_printer::{
-    LayoutFault, Sizes, Slot, TypeLayout, layout, pointer_of, sizes_line, sizes_of, text,
+    LayoutFault, Sizes, Slot, TypeLayout, layout, layout_by_sizes, pointer_of, sizes_line,
+    sizes_of, text,
 };
 use small_graphs::fitting::refer_to_one_another;
 use small_graphs::rows::PartRow;
@@ -415,8 +416,7 @@ fn placed(
     if !refer_to_one_another(types) || !is_structure(types, id) {
         return Err(Fail::from("no structure"));
     }
-    let sizes = sizes_of(alloc, table, pointer_of(table))?;
-    Ok(layout(alloc, table, &sizes, id))
+    Ok(layout(alloc, table, id, pointer_of(table)))
 }
 
 /// The text of a type, where a cache line has `line` bytes, or its line of sizes.
@@ -728,7 +728,7 @@ fn are_whole(alloc: Global, table: &Table<'_>) -> Result<bool, Fail> {
         if !is_structure(types, id) {
             return Err(Fail::from("no structure"));
         }
-        whole = whole && is_whole(layout(alloc, table, &sizes, id))?;
+        whole = whole && is_whole(layout_by_sizes(alloc, table, id, &sizes))?;
     }
     Ok(whole)
 }

@@ -18,7 +18,7 @@ use c_model::CType;
 use command_line::Text;
 use dw_base::Bytes;
 use indexmap::IndexMap;
-use layout_printer::{LayoutFault, Sizes, TypeLayout, layout, sizes_of, text};
+use layout_printer::{LayoutFault, Sizes, TypeLayout, layout_by_sizes, sizes_of, text};
 use std::alloc::{AllocError, Global};
 
 /// How types are shown.
@@ -38,6 +38,11 @@ pub struct Style {
 /// It is refused by `NoName` at the first name that no type has which can be shown; else by
 /// `NoSize` at the first member, in the order of what would be shown, whose type has no size, also
 /// where it has too few holes to be shown.
+///
+/// It takes as many steps as there are types, and bytes of names of those that can be shown and of
+/// the names; lays each structure out once, and counts its holes; and for each type that is shown,
+/// as often as it is named, makes one look-up, and where it has holes enough its text, or with
+/// `sizes` its name and a few bytes.
 pub fn show(
     alloc: Global,
     table: &Table<'_>,
@@ -131,7 +136,7 @@ fn layout_at(
     ensures { LaysOut table.now.types sizes.now.pointer x result }
 {
     let structure = structure_at(table.types.items(), x).unwrap();
-    match layout(alloc, table, sizes, structure + 1) {
+    match layout_by_sizes(alloc, table, structure + 1, sizes) {
         Ok(shown) => Ok(shown),
         Err(LayoutFault::NoSize(id)) => Err(ShowFault::NoSize(id)),
         Err(LayoutFault::Memory) => Err(ShowFault::Memory),

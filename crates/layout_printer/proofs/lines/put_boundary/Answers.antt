@@ -17,17 +17,17 @@ overflow_mul-number c = let e : c.line_of-number.result * c.from.result ≡ c.li
     * c.args.line = ap (λ n. c.line_of-number.result * n) c.from.ensures in
     omega (arith, e, c.line_of-number.ensures.within)
 
-pub put_crossed-requires : goal.put_crossed-requires
-put_crossed-requires c = let e : c.line_of-number.result * c.from.result ≡ c.line_of-number.result
+pub put_boundary_line-requires : goal.put_boundary_line-requires
+put_boundary_line-requires c = let e : c.line_of-number.result * c.from.result ≡ c.line_of-number.result
     * c.args.line = ap (λ n. c.line_of-number.result * n) c.from.ensures in
     omega (arith, e, c.line_of-number.ensures.within)
 
 pub returns : goal.returns
-returns c = on_ok_weaker c.put_crossed.result
-    (λ (e : c.put_crossed.new.out.items ≡ c.args.out.now.items ++ crossed_text
+returns c = on_ok_weaker c.put_boundary_line.result
+    (λ (e : c.put_boundary_line.new.out.items ≡ c.args.out.now.items ++ crossed_text
     c.line_of-number.result (c.line_of-number.result * c.from.result) (c.args.slot.now.start
     / 8)) (earlier : List Slot) (g : c.args.greatest ≡ greatest_line c.args.line earlier).
     e ∙ ap (λ t. c.args.out.now.items ++ t)
     (boundary_some c.args.line c.from.result earlier c.args.slot.now c.line_of-number.result
     c.args.greatest c.line_of-number.ensures.value c.from.ensures g c.if-number-greatest.false))
-    c.put_crossed.ensures
+    c.put_boundary_line.ensures

@@ -19,7 +19,7 @@ loop-place-preserved c =
           (c.in_ok-put_member.ensures earlier c.loop-place.invariant.greatest
           ∙ ap (λ (w : Written). c.loop-place.out.items
           ++ slot_text c.args.line earlier w (get_or slots c.loop-place.place none))
-          c.in_ok-written.ensures);
+          c.in_ok-declaration.ensures);
       greatest =
           let e = greatest_more c.args.line slots c.loop-place.place none c.loop-place-test.true in
           omega (

@@ -7,8 +7,8 @@ use Rattle.shown_types.specs.Listed.{structure_at}
 use Rattle.shown_types.proofs.Lacking.{structure_there, laid_out, lacking}
 use Rattle.shown_types.proofs.showing.layout_at.Goals as goal
 
-pub layout-requires-clause-structure : goal.layout-requires-clause-structure
-layout-requires-clause-structure c =
+pub layout_by_sizes-requires-clause-structure : goal.layout_by_sizes-requires-clause-structure
+layout_by_sizes-requires-clause-structure c =
     let types : List CType = c.args.table.now.types in
     let is : structure_at types c.args.x ≡ Some c.unwrap-structure.result =
     sym (c.structure_at.ensures ∙ ap (λ (ts : List CType). structure_at ts c.args.x)

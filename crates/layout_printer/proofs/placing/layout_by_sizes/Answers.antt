@@ -4,7 +4,7 @@ use Rattle.layout_printer.specs.Layout.{AreSlots}
 use Rattle.layout_printer.specs.Measuring.{farthest}
 use Rattle.layout_printer.proofs.Placed.{type_read}
 use Rattle.layout_printer.proofs.Holes.{hole_is}
-use Rattle.layout_printer.proofs.placing.layout.Goals as goal
+use Rattle.layout_printer.proofs.placing.layout_by_sizes.Goals as goal
 
 pub returns-clause-ok : goal.returns-clause-ok
 returns-clause-ok c = record {

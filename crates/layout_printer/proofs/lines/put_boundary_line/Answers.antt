@@ -1,6 +1,6 @@
 use Rattle.std.proofs.lemmas.Result.{on_ok_weaker}
 use Rattle.layout_printer.proofs.Appending.{three}
-use Rattle.layout_printer.proofs.lines.put_crossed.Goals as goal
+use Rattle.layout_printer.proofs.lines.put_boundary_line.Goals as goal
 
 pub returns : goal.returns
 returns c = on_ok_weaker c.put-2.result
