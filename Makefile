@@ -11,8 +11,7 @@ SHELL = bash
 
 pahole:
 	@. checks/lib/toolchain.sh
-	@# rt run also runs the program, which ends with status 2 without words
-	cd crates/pahole && rm -f out/pahole && { rt run || true; } && test -x out/pahole
+	@python3 -B tools/prove.py
 	@echo "the proved program is $(PROGRAM)"
 
 # the program and its manual page; DESTDIR=folder puts them below it
