@@ -1,8 +1,8 @@
 -- The whole text of what is shown, and why nothing is. A place is a type's number from 0; its id is
 -- one more.
 use Rattle.std.specs.Prelude.{ℕ, suc, ◌≡◌, ◌<◌, ◌^◌, ◌==◌, ◌++◌, codes, decimal, nat_eq, nat_le}
-use Rattle.std.specs.Prelude.{is_none, not, Bool, List, [], ◌∷◌, length, map, All, ⊤, slice_get, find}
-use Rattle.std.specs.Prelude.{Option, None, Some, Result, Ok, Err, if◌then◌else◌}
+use Rattle.std.specs.Prelude.{is_none, not, Bool, List, [], ◌∷◌, length, map, All, ⊤, slice_get}
+use Rattle.std.specs.Prelude.{find, Option, None, Some, Result, Ok, Err, if◌then◌else◌}
 use Rattle.std.specs.Global.{Vec}
 use Rattle.std.specs.List.{filter, flat_map, range_with_len}
 use Rattle.std.specs.Map.{lookup}

@@ -28,7 +28,8 @@ pub fn choose(
     }
 }
 
-/// Those of the names. It takes as many steps as there are types, names and places of them.
+/// Those of the names, which are the same from each place on. It takes as many steps as there are
+/// types, names and places of them.
 fn choose_named(alloc: Global, types: &[CType<'_>], names: &[Text]) -> Result<Vec<u32>, ShowFault>
     requires types { length types.now < 2 ^ 32 }
     requires names { length names.now < 2 ^ 32 }

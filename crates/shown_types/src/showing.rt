@@ -32,7 +32,7 @@ pub struct Style {
     pub line: u32,
 }
 
-/// What types are shown by: their table, the sizes of its types, and how.
+/// The table whose types are shown, with their sizes, and how they are shown.
 #[derive(Clone, Copy)]
 struct Source<'e, 'a> {
     table: &'e Table<'a>,
@@ -119,7 +119,8 @@ fn show_place(
     Ok(())
 }
 
-/// The layout of the structure in a place, with its counts.
+/// The layout of the structure in a place, with its counts. Its contract is by each place `x` of a
+/// type that shows the structure.
 fn counted_layout(
     alloc: Global,
     source: Source<'_, '_>,

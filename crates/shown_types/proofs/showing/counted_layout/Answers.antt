@@ -17,8 +17,8 @@ returns-in_ok-with_counts-in-Ok c x is =
     laid_out types pointer x c.args.structure c.in-Ok.layout is
     (subst (λ (k : ℕ). IsLayout types pointer k c.in-Ok.layout) step c.in-Ok.ensures.ok) in (
       laid.0,
-      subst (λ (t : TypeLayout). IsShown types pointer x t) (sym c.in_ok-with_counts-in-Ok.ensures.layout)
-          laid.1,
+      subst (λ (t : TypeLayout). IsShown types pointer x t)
+          (sym c.in_ok-with_counts-in-Ok.ensures.layout) laid.1,
       c.in_ok-with_counts-in-Ok.ensures.counted,
     )
 
