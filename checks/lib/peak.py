@@ -16,7 +16,7 @@ KINDS = [
     ("structures in each other", hostile.structures_in_each_other, 500_000, 150),
     ("arrays in each other", hostile.arrays_in_each_other, 500_000, 70),
     ("pointers of one byte", hostile.pointers_of_one_byte, 1_000_000, 175),
-    ("units of one table of abbreviations", hostile.units_of_one_table, 125_000, 60),
+    ("units of one table of abbreviations", hostile.units_of_one_table, 125_000, 160),
     ("blocks in each other", hostile.blocks, 500_000, 40),
 ]
 
