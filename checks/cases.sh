@@ -49,10 +49,14 @@ for folder in "$root"/crates/run_cases/data/*/; do
   if [ -z "$wrong" ]; then echo "passed $name"; else echo "failed $name: ${wrong//$'\n'/; }"; fi
 done
 
-# The largest made input, which takes too long for the program run_cases.
-said=$("$program" --selfmade=8388607 2>&1)
-if [ "$said" = "units 1024, entries 2100224, types 16387, bytes 398366" ]; then
+# The largest made input, which takes too long for the program run_cases. It has many rounds: a
+# program that goes over all nodes in each of them does not end in a minute.
+said=$(timeout 60 "$program" --selfmade=8388607 2>&1)
+had=$?
+if [ "$had" = 124 ]; then
+  echo "failed selfmade-8388607: it runs for more than 60 seconds"
+elif [ "$said" = "units 1024, entries 2100224, types 16387, bytes 398366" ]; then
   echo "passed selfmade-8388607"
 else
-  echo "failed selfmade-8388607: $said"
+  echo "failed selfmade-8388607: status $had, $said"
 fi

@@ -131,6 +131,32 @@ def types_in_each_other(n):
     return file(table, unit(b"\2\4\3" * n + b"\0" * 2 * n))
 
 
+SUBROUTINE_TYPES = ROOT + abbreviation(2, Tag.SUBROUTINE_TYPE, 1)
+
+
+def subroutine_types_in_each_other(n):
+    return file(SUBROUTINE_TYPES, unit(b"\2" * n + b"\0" * n))
+
+
+def open_subroutine_types(n):
+    """The list of children of each of them has no end: the walk refuses the unit at its end."""
+    return file(SUBROUTINE_TYPES, unit(b"\2" * n))
+
+
+def structures_in_each_other(n):
+    table = ROOT + abbreviation(2, Tag.STRUCTURE_TYPE, 1, SIZE)
+    return file(table, unit(b"\2\4" * n + b"\0" * n))
+
+
+def arrays_in_each_other(n):
+    table = ROOT + abbreviation(2, Tag.ARRAY_TYPE, 1, TYPE)
+    return file(table, unit(struct.pack("<BI", 2, FIRST) * n + b"\0" * n))
+
+
+def pointers_of_one_byte(n):
+    return file(ROOT + abbreviation(2, Tag.POINTER_TYPE, 0), unit(b"\2" * n))
+
+
 FUNCTIONS = (
     ROOT
     + INT

@@ -79,8 +79,8 @@ fn four_nodes_have_three_classes(rt: HostRuntime) -> Result<(), Fail> {
     Ok(())
 }
 
-/// The classes of a graph without nodes take no steps.
-fn of_nothing<L: Ledger>(
+/// To split a graph without nodes takes no steps.
+fn split_of_nothing<L: Ledger>(
     alloc: Global,
     graph: &Graph<'_>,
     steps: &mut Steps<L>,
@@ -92,22 +92,49 @@ fn of_nothing<L: Ledger>(
     split_by_halves(alloc, graph, &fwd, steps)
 }
 
-/// The number of classes of the graph without nodes.
-fn classes_of_nothing<L: Ledger>(alloc: Global, blank: Blank) -> Result<usize, AllocError>
+/// The classes of a graph without nodes take no steps.
+fn of_nothing<R: Threads + Sync, L: Ledger>(
+    rt: &R,
+    alloc: Global,
+    graph: &Graph<'_>,
+    steps: &mut Steps<L>,
+) -> Result<Classes, AllocError>
+    requires { length graph.now.nodes ≡ 0 }
+    ensures { OnOk result (steps.new ≤ steps.old) }
+{
+    let fwd = FwdIndex::plain(graph);
+    classes_by_halves(rt, alloc, 2, graph, &fwd, steps)
+}
+
+/// The numbers of classes of the graph without nodes, split from labels on and behind a guess.
+fn classes_of_nothing<R: Threads + Sync, L: Ledger>(
+    rt: &R,
+    alloc: Global,
+    blank: Blank,
+) -> Result<(usize, usize), AllocError>
     requires name { blank.name ≡ L.name }
     requires parts { blank.parts ≡ L.parts }
     requires some { 0 < L.parts }
 {
     let mut steps = Steps::<L>::new(blank);
     let graph = Graph::new(0, Nodes::new(Vec::new(alloc)));
-    let classes = of_nothing(alloc, &graph, &mut steps)?;
-    Ok(classes.numbers().len())
+    let split = split_of_nothing(alloc, &graph, &mut steps)?;
+    let guessed = of_nothing(rt, alloc, &graph, &mut steps)?;
+    Ok((split.numbers().len(), guessed.numbers().len()))
+}
+
+/// The same with a counter of their own.
+fn counts_of_nothing<R: Threads + Sync>(
+    rt: &R,
+    alloc: Global,
+) -> Result<(usize, usize), AllocError> {
+    classes_of_nothing::<R, Brand>(rt, alloc, Blank::new(1))
 }
 
 #[test]
 fn nothing_has_no_classes(rt: HostRuntime) -> Result<(), Fail> {
-    let count = classes_of_nothing::<Brand>(rt.alloc(), Blank::new(1))?;
-    assert_eq!(rt; count, 0);
+    let counts = counts_of_nothing(&rt, rt.alloc())?;
+    assert_eq!(rt; counts, (0, 0));
     Ok(())
 }
 

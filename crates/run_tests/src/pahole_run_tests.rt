@@ -1,10 +1,10 @@
 //! Runs over a world in memory.
 ghost use Rattle.std.specs.Prelude.{◌<◌, ◌^◌};
 
+use crate::gates::MeetingGate;
 use dw_base::{Bytes, Limits, Order, SHIPPED};
 use pahole_run::run;
 use small_files::bytes::{INFO_AT, Sections, file_of, put_unit};
-use small_files::gates;
 use std::alloc::{AllocError, Global};
 use std::test::Fail;
 use world_io::{Files, HeldFile, MemoryWorld, OpenGate, Stop, Stops};
@@ -305,6 +305,46 @@ fn encodes_one_file(rt: HostRuntime) -> Result<(), Fail> {
     Ok(())
 }
 
+/// The words, the file `a`, a call that fails and how many bytes it takes, and then the status, the
+/// whole complaint, and how many of its bytes may be put out.
+type CutComplaint = (&'static str, Content, (u64, u64), u8, &'static str, usize);
+
+const CUT_COMPLAINTS: &[CutComplaint] = &[
+    (
+        "-x a",
+        Content::Absent,
+        (0, 0),
+        2,
+        "pahole: word 0: usage 1\n",
+        0,
+    ),
+    (
+        WORDS,
+        Content::Bytes(b""),
+        (1, 9),
+        1,
+        "pahole: a: image 0: error 10\n",
+        9,
+    ),
+];
+
+/// Where a complaint fails, its beginning is put out, and the status is that of the refusal.
+#[test]
+fn complains_as_far_as_it_can(rt: HostRuntime) -> Result<(), Fail> {
+    let alloc = rt.alloc();
+    for &(text, held, stop, status, complaint, most) in CUT_COMPLAINTS {
+        let mut world = world(alloc, files_of(alloc, held)?, Some(stop))?;
+        let words = words(alloc, text)?;
+        let answer = run(&rt, alloc, &mut world, &OpenGate, SHIPPED, words.as_slice());
+        assert_eq!(rt; answer, status, "{text}");
+        assert!(rt; complaint.as_bytes().starts_with(world.complained()));
+        assert!(rt; world.complained().len() <= most, "{text}");
+        assert_eq!(rt; world.stored("o"), None);
+        assert_eq!(rt; world.printed(), b"".as_slice());
+    }
+    Ok(())
+}
+
 /// The words, a stop of the world, and then the status, the complaint and what is printed.
 type Line = (
     &'static str,
@@ -354,20 +394,19 @@ fn tells_of_a_made_input(rt: HostRuntime) -> Result<(), Fail> {
     Ok(())
 }
 
-/// With two workers the second unit is begun while the first is held.
+/// Two workers read two units at the same time: each unit is held until the other has begun.
 #[test]
 fn reads_units_at_once(rt: HostRuntime) -> Result<(), Fail> {
     let alloc = rt.alloc();
-    let gate = gates::HoldingGate::new();
-    let lists = file_with(alloc, Order::Little, &[LIST_HEAD, LIST_HEAD])?;
-    let mut files = Vec::new(alloc);
-    add_file(alloc, &mut files, b"a", lists.as_slice(), &[])?;
-    let mut world = world(alloc, files, None)?;
+    let gate = MeetingGate::new();
+    let held = Content::Units(Order::Little, &[INT, INT]);
+    let mut world = world(alloc, files_of(alloc, held)?, None)?;
     let words = words(alloc, "-j2 --btf_encode_detached=o a")?;
     let answer = run(&rt, alloc, &mut world, &gate, SHIPPED, words.as_slice());
-    assert!(rt; gate.has_seen());
+    assert!(rt; gate.have_met());
     assert_eq!(rt; answer, 0);
-    assert_eq!(rt; world.stored("o"), Some(LIST_HEAD_BTF));
+    assert_eq!(rt; world.complained(), b"".as_slice());
+    assert_eq!(rt; world.stored("o"), Some(ONE_INT_BTF));
     Ok(())
 }
 

@@ -1,21 +1,22 @@
 -- Texts one after another.
-use Rattle.std.proofs.Common.{◌≡◌, ◌+◌, ◌<◌, ◌≤◌, ◌++◌, ◌||◌, ℕ, suc, Bool, true, false, cond, List}
-use Rattle.std.proofs.Common.{[], ◌∷◌, Option, None, Ok, Err, All, refl, sym, ap, ◌∙◌, subst, arith}
-use Rattle.std.proofs.Common.{length, map, drop, get_or, drop-cons, if◌then◌else◌, append_assoc}
+use Rattle.std.proofs.Common.{◌≡◌, ◌+◌, ◌<◌, ◌≤◌, ◌++◌, ◌==◌, ℕ, suc, not, Bool, true, false, cond}
+use Rattle.std.proofs.Common.{List, [], ◌∷◌, Option, None, Ok, Err, All, refl, sym, ap, ◌∙◌, subst}
+use Rattle.std.proofs.Common.{arith, eqb-true, length, map, drop, get_or, drop-cons}
+use Rattle.std.proofs.Common.{if◌then◌else◌, append_assoc}
 use Rattle.std.proofs.lemmas.List.{append-nil, drop_all, map-append}
 use Rattle.std.proofs.lemmas.List.Elements.{All-append, filter-append}
 use Rattle.std.proofs.lemmas.Grind.{flat_map-append}
 use Rattle.std.specs.List.{filter, flat_map}
 use Rattle.std.specs.Option.{option_or}
-use Rattle.std.proofs.Math.Bool.{or-false}
 use Rattle.c_model.specs.declared.graph.CType.{CType}
+use Rattle.layout_printer.specs.Sizes.{ref_of}
+use Rattle.layout_printer.specs.Text.{head_text, members_text, name_of, sizes_line, text_of}
 use Rattle.layout_printer.specs.declared.slots.TypeLayout.{TypeLayout}
-use Rattle.dw_base.proofs.Bools.{or_true}
 use Rattle.shown_types.specs.declared.fault.ShowFault.{ShowFault}
 use Rattle.shown_types.specs.declared.fault.ShowFault.TheVariants.{NoName, NoSize, Memory}
 use Rattle.shown_types.specs.declared.showing.Style.{Style}
 use Rattle.shown_types.specs.Shown.{no_size, first_no_size, IsShown, has_holes, piece, separator}
-use Rattle.shown_types.specs.Shown.{joined_by, whole, PutsPiece, put_for, LaysOut, ShowsPlaces}
+use Rattle.shown_types.specs.Shown.{joined_by, whole, put_for, ShowsPlace, ShowsPlaces}
 
 abbrev Pair : Type 0
 Pair = ℕ × TypeLayout
@@ -39,25 +40,67 @@ joined-push between (x ∷ xs) text =
     ∙ ap (λ (l : List ℕ). flat_map f xs ++ l) (append-nil (between ++ text)))
     ∙ sym (append_assoc x (flat_map f xs) (between ++ text))
 
+abbrev is_text : List ℕ → Bool
+is_text [] = false
+is_text (x ∷ xs) = true
+
+not-empty : (n : ℕ) (b : Bool) → (suc n == 0) ≡ b → not b ≡ true
+not-empty n true h = absurd (omega (arith, eqb-true (suc n) 0 h))
+not-empty n false h = refl
+
+text-is : (text : List ℕ) → not (length text == 0) ≡ is_text text
+text-is [] = refl
+text-is (x ∷ xs) = not-empty (length xs) (suc (length xs) == 0) refl
+
+text-right : (xs ys : List ℕ) → is_text ys ≡ true → is_text (xs ++ ys) ≡ true
+text-right [] ys h = h
+text-right (x ∷ xs) ys h = refl
+
+text-left : (xs ys : List ℕ) → is_text xs ≡ true → is_text (xs ++ ys) ≡ true
+text-left [] ys h = absurd (cc)
+text-left (x ∷ xs) ys h = refl
+
+-- no text of a type is empty
+piece-is : (types : List CType) (style : Style) (p : Pair) (b : Bool) → style.sizes ≡ b
+    → is_text (piece types style p) ≡ true
+unfolding piece text_of
+piece-is types style p true e =
+    ap (λ (c : Bool). is_text (if c then sizes_line types (suc p.0) p.1
+    else text_of types (suc p.0) p.1 style.line)) e
+    ∙ text-right (name_of types (ref_of (suc p.0))) _ refl
+piece-is types style p false e =
+    ap (λ (c : Bool). is_text (if c then sizes_line types (suc p.0) p.1
+    else text_of types (suc p.0) p.1 style.line)) e
+    ∙ text-right (head_text types (suc p.0) p.1.id) _
+    (text-right (members_text types (ref_of p.1.id) style.line p.1.slots) _ refl)
+
+-- a text has begun where one of a type is there
+begun-is : (types : List CType) (style : Style) (ps : List Pair)
+    → is_text (joined_by (separator style) (map (piece types style) ps))
+    ≡ is_begun (map (piece types style) ps)
+begun-is types style [] = refl
+begun-is types style (p ∷ ps) =
+    text-left (piece types style p)
+    (flat_map (λ (y : List ℕ). separator style ++ y) (map (piece types style) ps))
+    (piece-is types style p style.sizes refl)
+
 -- so many places are shown
 pub record ShownSoFar (types : List CType) (pointer : ℕ) (style : Style) (places : List ℕ) (i : ℕ)
-    (out : List ℕ) (started : Bool) : Type 0 where
+    (out : List ℕ) : Type 0 where
   pub pairs : List Pair
   pub places_are : map (λ (p : Pair). p.0) pairs ++ drop i places ≡ places
   pub each : All (λ (p : Pair). IsShown types pointer p.0 p.1) pairs
   pub text_is : out ≡ whole types style pairs
-  pub started_is : started ≡ is_begun (map (piece types style) (kept style pairs))
   pub passed : first_no_size types pointer (drop i places) ≡ first_no_size types pointer places
 
 pub shown_none : (types : List CType) (pointer : ℕ) (style : Style) (places : List ℕ)
-    → ShownSoFar types pointer style places 0 [] false
+    → ShownSoFar types pointer style places 0 []
 shown_none types pointer style places =
     record {
       pairs = [];
       places_are = refl;
       each = λ k d lt. absurd (omega arith);
       text_is = refl;
-      started_is = refl;
       passed = refl;
     }
 
@@ -74,47 +117,31 @@ kept-push style pairs p true e = filter-append (has_holes style) pairs (p ∷ []
 kept-push style pairs p false e = filter-append (has_holes style) pairs (p ∷ [])
     ∙ ap (λ (c : Bool). kept style pairs ++ cond c (p ∷ []) []) e
 
-begun-push : (xs : List (List ℕ)) (x : List ℕ) → is_begun (xs ++ x ∷ []) ≡ true
-begun-push [] x = refl
-begun-push (y ∷ ys) x = refl
-
 -- the text of one pair more
 more_text :
-    (types : List CType) (style : Style) (pairs : List Pair) (p : Pair) (started : Bool) (b : Bool)
+    (types : List CType) (style : Style) (pairs : List Pair) (p : Pair) (b : Bool)
     → has_holes style p ≡ b
-    → started ≡ is_begun (map (piece types style) (kept style pairs))
-    → whole types style pairs ++ put_for types style p started ≡ whole types style (pairs ++ p ∷ [])
-more_text types style pairs p started true e is =
+    → whole types style pairs ++ put_for types style p (whole types style pairs)
+    ≡ whole types style (pairs ++ p ∷ [])
+more_text types style pairs p true e =
+    let old : List ℕ = whole types style pairs in
     let texts : List (List ℕ) = map (piece types style) (kept style pairs) in
-    ap (λ (c : Bool). whole types style pairs
-    ++ (if c then (if started then separator style else []) ++ piece types style p else [])) e
-    ∙ ap (λ (c : Bool).
-    whole types style pairs ++ ((if c then separator style else []) ++ piece types style p)) is
+    ap (λ (c : Bool). old
+    ++ (if c then (if not (length old == 0) then separator style else []) ++ piece types style p
+    else [])) e
+    ∙ ap (λ (c : Bool). old ++ ((if c then separator style else []) ++ piece types style p))
+    (text-is old ∙ begun-is types style (kept style pairs))
     ∙ sym (joined-push (separator style) texts (piece types style p))
     ∙ sym (ap (joined_by (separator style))
     (ap (map (piece types style)) (kept-push style pairs p true e)
     ∙ map-append (piece types style) (kept style pairs) (p ∷ [])))
-more_text types style pairs p started false e is =
-    ap (λ (c : Bool). whole types style pairs
-    ++ (if c then (if started then separator style else []) ++ piece types style p else [])) e
-    ∙ append-nil (whole types style pairs)
+more_text types style pairs p false e =
+    let old : List ℕ = whole types style pairs in
+    ap (λ (c : Bool). old
+    ++ (if c then (if not (length old == 0) then separator style else []) ++ piece types style p
+    else [])) e
+    ∙ append-nil old
     ∙ sym (ap (λ (ps : List Pair). joined_by (separator style) (map (piece types style) ps))
-    (kept-push style pairs p false e ∙ append-nil (kept style pairs)))
-
-more_started :
-    (types : List CType) (style : Style) (pairs : List Pair) (p : Pair) (started : Bool) (b : Bool)
-    → has_holes style p ≡ b
-    → started ≡ is_begun (map (piece types style) (kept style pairs))
-    → (started || has_holes style p)
-    ≡ is_begun (map (piece types style) (kept style (pairs ++ p ∷ [])))
-more_started types style pairs p started true e is =
-    ap (λ (c : Bool). started || c) e ∙ or_true started
-    ∙ sym (ap is_begun (ap (map (piece types style)) (kept-push style pairs p true e)
-    ∙ map-append (piece types style) (kept style pairs) (p ∷ []))
-    ∙ begun-push (map (piece types style) (kept style pairs)) (piece types style p))
-more_started types style pairs p started false e is =
-    ap (λ (c : Bool). started || c) e ∙ or-false started ∙ is
-    ∙ sym (ap (λ (ps : List Pair). is_begun (map (piece types style) ps))
     (kept-push style pairs p false e ∙ append-nil (kept style pairs)))
 
 or_none : (o p : Option ℕ) → o ≡ None → option_or o p ≡ p
@@ -123,13 +150,14 @@ or_none o p e = ap (λ (q : Option ℕ). option_or q p) e
 -- one place more
 pub shown_more :
     (types : List CType) (pointer : ℕ) (style : Style) (places : List ℕ) (i d : ℕ)
-    (out new : List ℕ) (started now : Bool) (shown : TypeLayout)
+    (out new : List ℕ) (shown : TypeLayout)
     → i < length places
-    → ShownSoFar types pointer style places i out started
-    → LaysOut types pointer (get_or places i d) (Ok shown)
-    → PutsPiece types style (get_or places i d, shown) started out new now
-    → ShownSoFar types pointer style places (i + 1) new now
-shown_more types pointer style places i d out new started now shown lt s l p =
+    → ShownSoFar types pointer style places i out
+    → no_size types pointer (get_or places i d) ≡ None
+    → IsShown types pointer (get_or places i d) shown
+    → new ≡ out ++ put_for types style (get_or places i d, shown) out
+    → ShownSoFar types pointer style places (i + 1) new
+shown_more types pointer style places i d out new shown lt s sizes is text =
     let pair : Pair = (get_or places i d, shown) in
     let rest : List ℕ = drop (i + 1) places in
     let next : drop i places ≡ get_or places i d ∷ rest = next_place places i d lt in
@@ -142,15 +170,13 @@ shown_more types pointer style places i d out new started now shown lt s l p =
           ∙ s.places_are;
       each =
           All-append (λ (q : Pair). IsShown types pointer q.0 q.1) s.pairs (pair ∷ []) s.each
-          (one (λ (q : Pair). IsShown types pointer q.0 q.1) pair l.1);
+          (one (λ (q : Pair). IsShown types pointer q.0 q.1) pair is);
       text_is =
-          p.text_is ∙ ap (λ (t : List ℕ). t ++ put_for types style pair started) s.text_is
-          ∙ more_text types style s.pairs pair started (has_holes style pair) refl s.started_is;
-      started_is = p.started_is
-          ∙ more_started types style s.pairs pair started (has_holes style pair) refl s.started_is;
+          text ∙ ap (λ (t : List ℕ). t ++ put_for types style pair t) s.text_is
+          ∙ more_text types style s.pairs pair (has_holes style pair) refl;
       passed =
           sym (or_none (no_size types pointer (get_or places i d))
-          (first_no_size types pointer rest) l.0)
+          (first_no_size types pointer rest) sizes)
           ∙ sym (ap (first_no_size types pointer) next) ∙ s.passed;
     }
   where
@@ -160,26 +186,25 @@ shown_more types pointer style places i d out new started now shown lt s l p =
 
 -- a place whose structure has a member without a size
 pub shown_part :
-    (types : List CType) (pointer : ℕ) (style : Style) (places : List ℕ) (i d : ℕ) (out : List ℕ)
-    (started : Bool) (e : ShowFault)
+    (types : List CType) (pointer : ℕ) (style : Style) (places : List ℕ) (i d : ℕ)
+    (out new : List ℕ) (e : ShowFault)
     → i < length places
-    → ShownSoFar types pointer style places i out started
-    → LaysOut types pointer (get_or places i d) (Err e)
+    → ShownSoFar types pointer style places i out
+    → ShowsPlace types pointer style (get_or places i d) out new (Err e)
     → ShowsPlaces types pointer style places (Err e)
-shown_part types pointer style places i d out started (NoName k) lt s l = absurd l
-shown_part types pointer style places i d out started (NoSize n) lt s l =
+shown_part types pointer style places i d out new (NoName k) lt s l = absurd l
+shown_part types pointer style places i d out new (NoSize n) lt s l =
     sym s.passed ∙ ap (first_no_size types pointer) (next_place places i d lt)
     ∙ ap (λ (q : Option ℕ). option_or q (first_no_size types pointer (drop (i + 1) places))) l
-shown_part types pointer style places i d out started Memory lt s l = tt
+shown_part types pointer style places i d out new Memory lt s l = tt
 
 -- all places are shown
 pub shown_all :
     (types : List CType) (pointer : ℕ) (style : Style) (places : List ℕ) (i : ℕ) (out : List ℕ)
-    (started : Bool)
     → length places ≤ i
-    → ShownSoFar types pointer style places i out started
+    → ShownSoFar types pointer style places i out
     → ShowsPlaces types pointer style places (Ok out)
-shown_all types pointer style places i out started le s =
+shown_all types pointer style places i out le s =
     let none : drop i places ≡ [] = drop_all i places le in (
       sym s.passed ∙ ap (first_no_size types pointer) none,
       record {

@@ -1,22 +1,25 @@
 -- The whole text of what is shown, and why nothing is. A place is a type's number from 0; its id is
 -- one more.
-use Rattle.std.specs.Prelude.{ℕ, suc, ◌≡◌, ◌++◌, ◌||◌, codes, decimal, nat_eq, nat_le, is_none}
-use Rattle.std.specs.Prelude.{Bool, List, [], ◌∷◌, length, map, All, ⊤, slice_get, find, Option}
-use Rattle.std.specs.Prelude.{None, Some, Result, Ok, Err, if◌then◌else◌}
+use Rattle.std.specs.Prelude.{ℕ, suc, ◌≡◌, ◌<◌, ◌^◌, ◌==◌, ◌++◌, codes, decimal, nat_eq, nat_le}
+use Rattle.std.specs.Prelude.{is_none, not, Bool, List, [], ◌∷◌, length, map, All, ⊤, slice_get}
+use Rattle.std.specs.Prelude.{find, Option, None, Some, Result, Ok, Err, if◌then◌else◌}
 use Rattle.std.specs.Global.{Vec}
 use Rattle.std.specs.List.{filter, flat_map, range_with_len}
 use Rattle.std.specs.Map.{lookup}
 use Rattle.std.specs.Option.{option_and_then, option_map, option_map_or, option_or}
 use Rattle.btf_codec.specs.Fields.{id_of, target_at}
 use Rattle.c_model.specs.declared.label.Part.{Part}
+use Rattle.c_model.specs.Graph.{RefersWithin}
 use Rattle.c_model.specs.declared.graph.CType.{CType}
 use Rattle.layout_printer.specs.Layout.{bits_of, IsLayout}
+use Rattle.layout_printer.specs.Sizes.{AreSizes}
 use Rattle.layout_printer.specs.Text as layout
 use Rattle.layout_printer.specs.declared.slots.TypeLayout.{TypeLayout}
 use Rattle.shown_types.specs.Listed.{structure_at, chosen, missing}
 use Rattle.shown_types.specs.declared.counting.Counted.{Counted}
 use Rattle.shown_types.specs.declared.fault.ShowFault.{ShowFault}
 use Rattle.shown_types.specs.declared.fault.ShowFault.TheVariants.{NoName, NoSize, Memory}
+use Rattle.shown_types.specs.declared.showing.Source.{Source}
 use Rattle.shown_types.specs.declared.showing.Style.{Style}
 
 -- the offset word of a member
@@ -81,16 +84,12 @@ pub record IsText (types : List CType) (pointer : ℕ) (style : Style)
   pub each : All (λ (p : ℕ × TypeLayout). IsShown types pointer p.0 p.1) pairs
   pub text_is : text ≡ whole types style pairs
 
--- what is put before and for a type, where it has holes enough; and whether a text has started then
-abbrev pub put_for : List CType → Style → ℕ × TypeLayout → Bool → List ℕ
-put_for types style p started =
+-- what is added to a text for a type, where it has holes enough: its own text, and before it what
+-- parts it from the text before
+abbrev pub put_for : List CType → Style → ℕ × TypeLayout → List ℕ → List ℕ
+put_for types style p old =
     if has_holes style p
-    then (if started then separator style else []) ++ piece types style p else []
-
-pub record PutsPiece (types : List CType) (style : Style) (p : ℕ × TypeLayout) (started : Bool)
-    (old new : List ℕ) (now : Bool) : Type 0 where
-  pub text_is : new ≡ old ++ put_for types style p started
-  pub started_is : now ≡ (started || has_holes style p)
+    then (if not (length old == 0) then separator style else []) ++ piece types style p else []
 
 -- what choosing answers
 abbrev pub Chooses : List CType → ℕ → Option (List (List ℕ)) → Result (Vec ℕ) ShowFault → Type 0
@@ -98,24 +97,6 @@ Chooses types from names (Ok v) = (missing types names ≡ None) × (v.items ≡
 Chooses types from names (Err (NoName k)) = missing types names ≡ Some k
 Chooses types from names (Err (NoSize n)) = ⊥
 Chooses types from names (Err Memory) = ⊤
-
--- what a layout of a place answers
-abbrev pub LaysOut : List CType → ℕ → ℕ → Result TypeLayout ShowFault → Type 0
-LaysOut types pointer x (Ok shown) =
-    (no_size types pointer x ≡ None) × IsShown types pointer x shown
-LaysOut types pointer x (Err (NoName k)) = ⊥
-LaysOut types pointer x (Err (NoSize n)) = no_size types pointer x ≡ Some n
-LaysOut types pointer x (Err Memory) = ⊤
-
--- what showing a place answers, given what is put before
-abbrev pub ShowsPlace : List CType → ℕ → Style → ℕ → Bool → List ℕ → List ℕ
-    → Result Bool ShowFault → Type 0
-ShowsPlace types pointer style x started old new (Ok now) =
-    (shown : TypeLayout) × (LaysOut types pointer x (Ok shown))
-    × (PutsPiece types style (x, shown) started old new now)
-ShowsPlace types pointer style x started old new (Err (NoName k)) = ⊥
-ShowsPlace types pointer style x started old new (Err (NoSize n)) = no_size types pointer x ≡ Some n
-ShowsPlace types pointer style x started old new (Err Memory) = ⊤
 
 -- the line of a layout from behind the name on, where lines are shown
 abbrev pub line_end : Style → TypeLayout → List ℕ
@@ -130,6 +111,24 @@ pub record IsCounted (style : Style) (shown : Counted) : Type 0 where
   pub holes : shown.holes ≡ layout.byte_holes shown.layout.slots
   pub line_end : shown.line_end ≡ line_end style shown.layout
 
+-- what laying out the structure that the type in a place shows answers
+abbrev pub LaysOut : List CType → ℕ → Style → ℕ → Result Counted ShowFault → Type 0
+LaysOut types pointer style x (Ok counted) =
+    (no_size types pointer x ≡ None) × (IsShown types pointer x counted.layout)
+    × IsCounted style counted
+LaysOut types pointer style x (Err (NoName k)) = ⊥
+LaysOut types pointer style x (Err (NoSize n)) = no_size types pointer x ≡ Some n
+LaysOut types pointer style x (Err Memory) = ⊤
+
+-- what showing a place answers, which adds to a text
+abbrev pub ShowsPlace : List CType → ℕ → Style → ℕ → List ℕ → List ℕ → Result ⊤ ShowFault → Type 0
+ShowsPlace types pointer style x old new (Ok done) =
+    (shown : TypeLayout) × (no_size types pointer x ≡ None) × (IsShown types pointer x shown)
+    × (new ≡ old ++ put_for types style (x, shown) old)
+ShowsPlace types pointer style x old new (Err (NoName k)) = ⊥
+ShowsPlace types pointer style x old new (Err (NoSize n)) = no_size types pointer x ≡ Some n
+ShowsPlace types pointer style x old new (Err Memory) = ⊤
+
 -- what is kept for the structure in a place: its layout, counted
 pub record IsKept (types : List CType) (pointer : ℕ) (style : Style) (s : ℕ)
     (shown : Counted) : Type 0 where
@@ -140,6 +139,13 @@ pub record IsKept (types : List CType) (pointer : ℕ) (style : Style) (s : ℕ)
 abbrev pub AreKept : List CType → ℕ → Style → List (ℕ × Counted) → Type 0
 AreKept types pointer style entries = (s : ℕ) (shown : Counted)
     → lookup (nat_eq s) entries ≡ Some shown → IsKept types pointer style s shown
+
+-- a table whose types can be shown, and their sizes
+pub record IsSource (s : Source) : Type 0 where
+  pub few : length s.table.now.types < 2 ^ 32
+  pub within : RefersWithin (length s.table.now.types) s.table.now.types
+  pub sizes : AreSizes s.table.now.types s.sizes.now
+  pub line : 0 < s.style.line
 
 -- what showing some places answers
 abbrev pub ShowsPlaces : List CType → ℕ → Style → List ℕ → Result (List ℕ) ShowFault → Type 0

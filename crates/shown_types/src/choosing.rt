@@ -1,5 +1,5 @@
 //! The choice of types by name.
-ghost use Rattle.std.specs.Prelude.{◌≡◌, ◌<◌, ◌≤◌, ◌^◌, length, IfSome, Some};
+ghost use Rattle.std.specs.Prelude.{◌≡◌, ◌<◌, ◌≤◌, ◌^◌, ℕ, length, IfSome, Some};
 ghost use Rattle.std.specs.Option.{option_copied};
 ghost use Rattle.shown_types.specs.Shown.{Chooses};
 
@@ -24,22 +24,17 @@ pub fn choose(
 {
     match names {
         None => Ok(listed(alloc, types, from)?),
-        Some(names) => choose_named(alloc, types, from, names),
+        Some(names) => choose_named(alloc, types, names),
     }
 }
 
-/// Those of the names. It takes as many steps as there are types, names and places of them.
-fn choose_named(
-    alloc: Global,
-    types: &[CType<'_>],
-    from: u32,
-    names: &[Text],
-) -> Result<Vec<u32>, ShowFault>
+/// Those of the names, which are the same from each place on. It takes as many steps as there are
+/// types, names and places of them.
+fn choose_named(alloc: Global, types: &[CType<'_>], names: &[Text]) -> Result<Vec<u32>, ShowFault>
     requires types { length types.now < 2 ^ 32 }
     requires names { length names.now < 2 ^ 32 }
-    ensures { Chooses types.now from (Some names.now) result }
+    ensures { (from : ℕ) → Chooses types.now from (Some names.now) result }
 {
-    let _ = from;
     let by_name = by_name(alloc, types)?;
     let mut all = Vec::new(alloc);
     for i in 0..names.len() {

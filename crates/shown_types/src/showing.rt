@@ -1,12 +1,12 @@
 //! The text of the types that are shown.
-ghost use Rattle.std.specs.Prelude.{◌≡◌, ◌++◌, ◌-◌, ◌⊎◌, ◌<◌, ◌^◌, IsTrue, All, length, IfOk};
-ghost use Rattle.std.specs.Prelude.{IfSome, OnOk};
+ghost use Rattle.std.specs.Prelude.{◌≡◌, ◌++◌, ◌+◌, ◌-◌, ◌⊎◌, ◌<◌, ◌^◌, ℕ, IsTrue, All, length};
+ghost use Rattle.std.specs.Prelude.{IfSome, OnOk, Some};
 ghost use Rattle.std.specs.Option.{option_copied};
 ghost use Rattle.c_model.specs.Graph.{RefersWithin};
-ghost use Rattle.layout_printer.specs.Sizes.{AreSizes};
-ghost use Rattle.shown_types.specs.Listed.{is_listed, name_at};
-ghost use Rattle.shown_types.specs.Shown.{separator, piece, PutsPiece, IsCounted, AreKept, LaysOut};
-ghost use Rattle.shown_types.specs.Shown.{ShowsPlace, ShowsPlaces, Shows};
+ghost use Rattle.layout_printer.specs.Layout.{IsStructure};
+ghost use Rattle.shown_types.specs.Listed.{is_listed, name_at, structure_at};
+ghost use Rattle.shown_types.specs.Shown.{separator, piece, put_for, IsCounted, IsSource, AreKept};
+ghost use Rattle.shown_types.specs.Shown.{LaysOut, ShowsPlace, ShowsPlaces, Shows};
 
 use crate::by_name::name_at;
 use crate::choosing::choose;
@@ -18,7 +18,7 @@ use c_model::CType;
 use command_line::Text;
 use dw_base::Bytes;
 use indexmap::IndexMap;
-use layout_printer::{LayoutFault, Sizes, TypeLayout, layout_by_sizes, sizes_of, text};
+use layout_printer::{LayoutFault, Sizes, layout_by_sizes, sizes_of, text};
 use std::alloc::{AllocError, Global};
 
 /// How types are shown.
@@ -30,6 +30,14 @@ pub struct Style {
     pub holes: u32,
     /// The size of a cache line in bytes.
     pub line: u32,
+}
+
+/// The table whose types are shown, with their sizes, and how they are shown.
+#[derive(Clone, Copy)]
+struct Source<'e, 'a> {
+    table: &'e Table<'a>,
+    sizes: &'e Sizes,
+    style: Style,
 }
 
 /// The whole text of the types that are shown: those of each name in order, or all of the table's
@@ -60,31 +68,25 @@ pub fn show(
 {
     let places = choose(alloc, table.types.items(), table.base, names)?;
     let sizes = sizes_of(alloc, table, pointer)?;
-    show_places(alloc, table, &sizes, style, places.as_slice())
+    let source = Source {
+        table,
+        sizes: &sizes,
+        style,
+    };
+    show_places(alloc, source, places.as_slice())
 }
 
 /// The text of the types in some places, each of which can be shown.
-fn show_places(
-    alloc: Global,
-    table: &Table<'_>,
-    sizes: &Sizes,
-    style: Style,
-    places: &[u32],
-) -> Result<Bytes, ShowFault>
-    requires few { length table.now.types < 2 ^ 32 }
-    requires within { RefersWithin (length table.now.types) table.now.types }
-    requires sizes { AreSizes table.now.types sizes.now }
-    requires line { 0 < style.line }
-    requires listed { All (λ x. IsTrue (is_listed table.now.types x)) places.now }
-    ensures { ShowsPlaces table.now.types sizes.now.pointer style places.now result }
+fn show_places(alloc: Global, source: Source<'_, '_>, places: &[u32]) -> Result<Bytes, ShowFault>
+    requires source { IsSource source }
+    requires listed { All (λ x. IsTrue (is_listed source.table.now.types x)) places.now }
+    ensures { ShowsPlaces source.entry.table.now.types source.entry.sizes.now.pointer
+        source.entry.style places.now result }
 {
     let mut out = Vec::new(alloc);
-    let mut kept = IndexMap::new(alloc);
-    let mut started = false;
+    let mut layouts = IndexMap::new(alloc);
     for i in 0..places.len() {
-        started = show_place(
-            alloc, &mut out, table, sizes, style, &mut kept, places[i], started,
-        )?;
+        show_place(alloc, &mut out, &mut layouts, source, places[i])?;
     }
     Ok(Bytes::new(out))
 }
@@ -94,50 +96,44 @@ fn show_places(
 fn show_place(
     alloc: Global,
     out: &mut Vec<u8>,
-    table: &Table<'_>,
-    sizes: &Sizes,
-    style: Style,
-    kept: &mut IndexMap<u32, Counted>,
+    layouts: &mut IndexMap<u32, Counted>,
+    source: Source<'_, '_>,
     x: u32,
-    started: bool,
-) -> Result<bool, ShowFault>
-    requires few { length table.now.types < 2 ^ 32 }
-    requires within { RefersWithin (length table.now.types) table.now.types }
-    requires sizes { AreSizes table.now.types sizes.now }
-    requires line { 0 < style.line }
-    requires listed { IsTrue (is_listed table.now.types x) }
-    requires kept { AreKept table.now.types sizes.now.pointer style kept.old.entries }
-    ensures shows { ShowsPlace table.now.types sizes.now.pointer style x started out.old.items
-        out.new.items result }
-    ensures kept { OnOk result (AreKept table.now.types sizes.now.pointer style kept.new.entries) }
+) -> Result<(), ShowFault>
+    requires source { IsSource source }
+    requires listed { IsTrue (is_listed source.table.now.types x) }
+    requires kept { AreKept source.table.now.types source.sizes.now.pointer source.style
+        layouts.old.entries }
+    ensures shows { ShowsPlace source.entry.table.now.types source.entry.sizes.now.pointer
+        source.entry.style x out.old.items out.new.items result }
+    ensures kept { OnOk result (AreKept source.entry.table.now.types
+        source.entry.sizes.now.pointer source.entry.style layouts.new.entries) }
 {
-    let structure = structure_at(table.types.items(), x).unwrap();
-    if let Some(shown) = kept.get(&structure) {
-        return Ok(put_shown(alloc, out, table, style, x, shown, started)?);
+    let structure = structure_at(source.table.types.items(), x).unwrap();
+    if let Some(counted) = layouts.get(&structure) {
+        return Ok(put_shown(alloc, out, source, x, counted)?);
     }
-    let layout = layout_at(alloc, table, sizes, x)?;
-    let shown = with_counts(alloc, table, style, layout)?;
-    let now = put_shown(alloc, out, table, style, x, &shown, started)?;
-    kept.insert(structure, shown)?;
-    Ok(now)
+    let counted = counted_layout(alloc, source, structure)?;
+    put_shown(alloc, out, source, x, &counted)?;
+    layouts.insert(structure, counted)?;
+    Ok(())
 }
 
-/// The layout of the structure that the type in a place shows.
-fn layout_at(
+/// The layout of the structure in a place, with its counts. Its contract is by each place `x` of a
+/// type that shows the structure.
+fn counted_layout(
     alloc: Global,
-    table: &Table<'_>,
-    sizes: &Sizes,
-    x: u32,
-) -> Result<TypeLayout, ShowFault>
-    requires few { length table.now.types < 2 ^ 32 }
-    requires within { RefersWithin (length table.now.types) table.now.types }
-    requires sizes { AreSizes table.now.types sizes.now }
-    requires listed { IsTrue (is_listed table.now.types x) }
-    ensures { LaysOut table.now.types sizes.now.pointer x result }
+    source: Source<'_, '_>,
+    structure: u32,
+) -> Result<Counted, ShowFault>
+    requires source { IsSource source }
+    requires structure { IsStructure source.table.now.types (structure + 1) }
+    ensures { (x : ℕ) → structure_at source.entry.table.now.types x ≡ Some structure
+        → LaysOut source.entry.table.now.types source.entry.sizes.now.pointer source.entry.style
+        x result }
 {
-    let structure = structure_at(table.types.items(), x).unwrap();
-    match layout_by_sizes(alloc, table, structure + 1, sizes) {
-        Ok(shown) => Ok(shown),
+    match layout_by_sizes(alloc, source.table, structure + 1, source.sizes) {
+        Ok(layout) => Ok(with_counts(alloc, source.table, source.style, layout)?),
         Err(LayoutFault::NoSize(id)) => Err(ShowFault::NoSize(id)),
         Err(LayoutFault::Memory) => Err(ShowFault::Memory),
     }
@@ -150,32 +146,27 @@ fn separator(style: Style) -> &'static [u8]
 }
 
 /// Adds the text of a type, where it has holes enough, and before it what parts it from the text
-/// before, where one has started. Answers whether one has started then.
+/// before, where there is one. No text of a type is empty.
 fn put_shown(
     alloc: Global,
     out: &mut Vec<u8>,
-    table: &Table<'_>,
-    style: Style,
+    source: Source<'_, '_>,
     x: u32,
-    shown: &Counted,
-    started: bool,
-) -> Result<bool, AllocError>
-    requires line { 0 < style.line }
+    counted: &Counted,
+) -> Result<(), AllocError>
+    requires line { 0 < source.style.line }
     requires few { x < 2 ^ 32 - 1 }
-    requires counted { IsCounted style shown.now }
-    ensures { IfOk result (λ now. PutsPiece table.now.types style (
-      x,
-      shown.now.layout,
-    ) started out.old.items out.new.items now) }
+    requires counted { IsCounted source.style counted.now }
+    ensures { OnOk result (out.new.items ≡ out.old.items ++ put_for source.entry.table.now.types
+        source.entry.style (x, counted.now.layout) out.old.items) }
 {
-    if shown.holes < style.holes as usize {
-        return Ok(started);
+    if counted.holes < source.style.holes as usize {
+        return Ok(());
     }
-    if started {
-        out.extend_from_slice(separator(style))?;
+    if !out.is_empty() {
+        out.extend_from_slice(separator(source.style))?;
     }
-    put_piece(alloc, out, table, style, x, shown)?;
-    Ok(true)
+    put_piece(alloc, out, source, x, counted)
 }
 
 /// Adds the text of a type.
@@ -183,21 +174,26 @@ fn put_shown(
 fn put_piece(
     alloc: Global,
     out: &mut Vec<u8>,
-    table: &Table<'_>,
-    style: Style,
+    source: Source<'_, '_>,
     x: u32,
-    shown: &Counted,
+    counted: &Counted,
 ) -> Result<(), AllocError>
-    requires line { 0 < style.line }
+    requires line { 0 < source.style.line }
     requires few { x < 2 ^ 32 - 1 }
-    requires counted { IsCounted style shown.now }
-    ensures { OnOk result
-        (out.new.items ≡ out.old.items ++ piece table.now.types style (x, shown.now.layout)) }
+    requires counted { IsCounted source.style counted.now }
+    ensures { OnOk result (out.new.items ≡ out.old.items ++ piece source.entry.table.now.types
+        source.entry.style (x, counted.now.layout)) }
 {
-    if style.sizes {
-        return put_line(out, table.types.items(), x, shown);
+    if source.style.sizes {
+        return put_line(out, source.table.types.items(), x, counted);
     }
-    let text = text(alloc, table, x + 1, &shown.layout, style.line)?;
+    let text = text(
+        alloc,
+        source.table,
+        x + 1,
+        &counted.layout,
+        source.style.line,
+    )?;
     out.extend_from_slice(text.items())
 }
 
@@ -206,11 +202,11 @@ fn put_line(
     out: &mut Vec<u8>,
     types: &[CType<'_>],
     x: u32,
-    shown: &Counted,
+    counted: &Counted,
 ) -> Result<(), AllocError>
     ensures { OnOk result
-        (out.new.items ≡ out.old.items ++ (name_at types.now x ++ shown.now.line_end)) }
+        (out.new.items ≡ out.old.items ++ (name_at types.now x ++ counted.now.line_end)) }
 {
     out.extend_from_slice(name_at(types, x))?;
-    out.extend_from_slice(shown.line_end.items())
+    out.extend_from_slice(counted.line_end.items())
 }
