@@ -99,36 +99,43 @@ fn of_nothing<R: Threads + Sync, L: Ledger>(
     graph: &Graph<'_>,
     steps: &mut Steps<L>,
 ) -> Result<Classes, AllocError>
-    requires { length graph.now.nodes ≡ 0 }
+    requires nothing { length graph.now.nodes ≡ 0 }
+    requires fitting { HasFittingForwards graph.now }
     ensures { OnOk result (steps.new ≤ steps.old) }
 {
     let fwd = FwdIndex::plain(graph);
     classes_by_halves(rt, alloc, 2, graph, &fwd, steps)
 }
 
-/// The numbers of classes of the graph without nodes, split from labels on and behind a guess.
+/// The numbers of classes of a graph without nodes, split from labels on and behind a guess.
 fn classes_of_nothing<R: Threads + Sync, L: Ledger>(
     rt: &R,
     alloc: Global,
+    graph: &Graph<'_>,
     blank: Blank,
 ) -> Result<(usize, usize), AllocError>
     requires name { blank.name ≡ L.name }
     requires parts { blank.parts ≡ L.parts }
     requires some { 0 < L.parts }
+    requires nothing { length graph.now.nodes ≡ 0 }
+    requires fitting { HasFittingForwards graph.now }
 {
     let mut steps = Steps::<L>::new(blank);
-    let graph = Graph::new(0, Nodes::new(Vec::new(alloc)));
-    let split = split_of_nothing(alloc, &graph, &mut steps)?;
-    let guessed = of_nothing(rt, alloc, &graph, &mut steps)?;
+    let split = split_of_nothing(alloc, graph, &mut steps)?;
+    let guessed = of_nothing(rt, alloc, graph, &mut steps)?;
     Ok((split.numbers().len(), guessed.numbers().len()))
 }
 
-/// The same with a counter of their own.
+/// The same of the graph without nodes, with a counter of its own.
 fn counts_of_nothing<R: Threads + Sync>(
     rt: &R,
     alloc: Global,
 ) -> Result<(usize, usize), AllocError> {
-    classes_of_nothing::<R, Brand>(rt, alloc, Blank::new(1))
+    let graph = Graph::new(0, Nodes::new(Vec::new(alloc)));
+    if !is_fitting(&graph) {
+        return Ok((1, 1));
+    }
+    classes_of_nothing::<R, Brand>(rt, alloc, &graph, Blank::new(1))
 }
 
 #[test]
