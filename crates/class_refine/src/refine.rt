@@ -92,6 +92,7 @@ fn rounds_from<R: Threads + Sync, L: Ledger>(
     ensures bound { OnErr result (steps.new ≤ steps.old
         + (length graph.now.nodes + references graph.now.nodes) * (length graph.now.nodes + 1)) }
 {
+    // For the proof: there are fewer than 2^32 nodes, and each reference is to one of them.
     let _nodes = graph.len();
     let mut count = first;
     let mut now = classes;
@@ -120,6 +121,8 @@ const HASHING: u32 = 1;
 /// made by as many workers as there are processors, and numbered in node order; the counter rises
 /// by the numbers of all keys that are numbered. After want of memory it has risen by no more than
 /// as many rounds as there are nodes would make it.
+///
+/// Behind the guess the work grows with (nodes + references) * (rounds + 1).
 pub fn classes<'a, R: Threads + Sync, G: TypeGraph<'a>, L: Ledger>(
     rt: &R,
     alloc: Global,

@@ -43,6 +43,8 @@ pub struct Chosen<'a> {
 ///
 /// It is refused by `NodesTooMany` exactly where there is a base, and the base and the graph of
 /// prototypes have more than `most` nodes together.
+///
+/// The work over a base includes a copy of base and graph.
 pub fn choose_over<'a, R: Threads + Sync>(
     rt: &R,
     alloc: Global,

@@ -4,6 +4,8 @@
 //! A base is a table of types that the files' types may be of one class with: a module's types and
 //! those of the kernel that it is loaded into. Its types come first in the graph, as base nodes, so
 //! that a class with base nodes has a base node as its first node, and keeps its id.
+//!
+//! Besides what they call, its calls take work that is linear in the nodes and what they hold.
 #![tactic(auto)]
 
 pub mod fault;
