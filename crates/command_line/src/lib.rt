@@ -20,9 +20,8 @@
 //! stand once. At least one file is needed, and with `-F btf` exactly one.
 //!
 //! At one word errors come in the order unknown, repeated, value missing, value bad; the first word
-//! with one counts. What concerns all words together comes last. The key of `--explain=` is a text:
-//! `061` explains nothing. The first `--` ends the options, and a second one is a file. An option
-//! takes the next word whole, `--` too.
+//! with one counts. What concerns all words together comes last. The first `--` ends the options,
+//! and a second one is a file. An option takes the next word whole, `--` too.
 //!
 //! The work of each call is linear in the bytes of the words.
 #![tactic(auto)]

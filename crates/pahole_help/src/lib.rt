@@ -3,7 +3,7 @@
 //!
 //! `answer` prints a page whole, or answers `None` where the words are for a run. The pages are
 //! those of `help`, `version` and `explanation_tables`; the explanations are made from
-//! `docs/errors.toml`.
+//! `docs/errors.toml`. The key of `--explain=` is a text: `061` explains nothing.
 #![tactic(auto)]
 
 pub mod answers;

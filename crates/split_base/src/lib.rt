@@ -5,6 +5,9 @@
 //! those of the kernel that it is loaded into. Its types come first in the graph, as base nodes, so
 //! that a class with base nodes has a base node as its first node, and keeps its id.
 //!
+//! A split table without own strings has an empty string section; a table without a base has the
+//! empty string.
+//!
 //! Besides what they call, its calls take work that is linear in the nodes and what they hold.
 #![tactic(auto)]
 

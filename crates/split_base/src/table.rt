@@ -96,6 +96,7 @@ fn table_types<'a, G: TypeGraph<'a>>(
     // Each reference is to a node of the graph.
     ensures within { RefersWithin (length (G.shape graph.now).nodes) (G.shape graph.now).nodes }
 {
+    // For the proof: there are fewer than 2^32 nodes, and each reference is to one of them.
     let _ = graph.len();
     let places = places_of(alloc, graph, classes)?;
     check_count(u64::from(graph.base()) + places.firsts.len() as u64)?;

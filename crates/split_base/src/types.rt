@@ -38,6 +38,7 @@ fn base_types<'a, G: TypeGraph<'a>>(
 ) -> Result<Vec<CType<'a>>, AllocError>
     ensures { IfOk result (λ v. v.items ≡ take (G.shape graph.now).base (G.shape graph.now).nodes) }
 {
+    // For the proof: there are fewer than 2^32 nodes, and each reference is to one of them.
     let _ = graph.len();
     let base = graph.base();
     let mut types = Vec::with_capacity(alloc, (base as usize).saturating_add(more))?;
@@ -58,6 +59,7 @@ fn renamed_node<'a, G: TypeGraph<'a>>(
     requires node { x < length (G.shape graph.now).nodes }
     ensures { IfOk result (λ t. type_by (G.shape graph.now) places.now x ≡ Some t) }
 {
+    // For the proof: there are fewer than 2^32 nodes, and each reference is to one of them.
     let _ = graph.len();
     let count = graph.target_count(x);
     let mut targets = Vec::with_capacity(alloc, count)?;
