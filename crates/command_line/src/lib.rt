@@ -19,9 +19,9 @@
 //! with `-` is a file, and so is the word `-`; options and files may be mixed. Each option may
 //! stand once. At least one file is needed, and with `-F btf` exactly one.
 //!
-//! At one word errors come in the order unknown, repeated, value missing, value bad; the first word
-//! with one counts. What concerns all words together comes last. The first `--` ends the options,
-//! and a second one is a file. An option takes the next word whole, `--` too.
+//! At one word errors come in the order unknown, repeated, value missing, value bad; the first
+//! word with one counts. What concerns all words together comes last. The first `--` ends the
+//! options, and a second one is a file. An option takes the next word whole, `--` too.
 //!
 //! The work of each call is linear in the bytes of the words.
 #![tactic(auto)]

@@ -55,8 +55,8 @@ impl FwdIndex {
     /// The index of a graph that opens exactly its open forwards. `base` is the coarsest plain
     /// agreement of the graph's base nodes.
     ///
-    /// The work grows with the nodes, and with the bytes of names once for each label that declares
-    /// or defines a tag; for each such node if the graph does not number its labels.
+    /// The work grows with the nodes, and with the bytes of names once for each label that
+    /// declares or defines a tag; for each such node if the graph does not number its labels.
     pub fn build<'a, G: TypeGraph<'a>>(
         alloc: Global,
         graph: &G,

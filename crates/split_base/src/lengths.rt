@@ -17,8 +17,7 @@ use c_model::kinds::{
     BTF_KIND_TYPE_TAG, BTF_KIND_UNION, BTF_KIND_VAR,
 };
 
-/// Counts the bytes of own types and own strings. `TableTooLong` comes where a header can't say so
-/// many.
+/// Counts the bytes of own types and own strings. `TableTooLong`: a header can't say so many.
 pub fn check_length(types: &[CType<'_>], strings: &Strings<'_>) -> Result<(), TableFault>
     requires few { length types.now < 2 ^ 20 }
     requires formed { All IsWellFormed types.now }

@@ -10,8 +10,7 @@ use c_model::TypeGraph;
 use forward_rule::FwdIndex;
 use std::alloc::{AllocError, Global};
 
-/// The node that gives each own class its type: its first that is no forward, or its first if all
-/// are.
+/// The node that gives each own class its type: its first that is no forward, else its first.
 pub fn sources_of<'a, G: TypeGraph<'a>>(
     alloc: Global,
     graph: &G,

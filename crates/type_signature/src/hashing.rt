@@ -72,8 +72,7 @@ impl<'v> NumberAt for Hashed<'v> {
     }
 }
 
-/// Puts the hash of the signature of each node under `now` in its place, by so many workers at
-/// most.
+/// Puts the hash of each node's signature under `now` in its place, by so many workers at most.
 pub(crate) fn hash_all<R: Threads + Sync>(
     rt: &R,
     workers: usize,
