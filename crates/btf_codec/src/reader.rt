@@ -112,25 +112,14 @@ fn file_of<'a>(
     ensures each { IfOk result (λ f. All (λ p. IsPiece f.order p.now) f.pieces.items) }
     ensures few { IfOk result (λ f. length f.pieces.items < 2 ^ 30) }
 {
-    let order = match order_in(want, bytes) {
-        Ok(order) => order,
-        Err(fault) => return Err(fault),
-    };
-    let (body, names) = match sections_of(order, bytes) {
-        Ok(sections) => sections,
-        Err(fault) => return Err(fault),
-    };
+    let order = order_in(want, bytes)?;
+    let (body, names) = sections_of(order, bytes)?;
     if !are_strings(based, names) {
         return Err(BtfFault::BtfStrings(24 + body.len() as u64));
     }
-    let pieces = match pieces_of(alloc, order, body, types + 1) {
-        Ok(pieces) => pieces,
-        Err(fault) => return Err(fault),
-    };
+    let pieces = pieces_of(alloc, order, body, types + 1)?;
     let count = types + pieces.len() as u32;
-    if let Err(fault) = check_words(order, &pieces, types + 1, limit + names.len() as u64, count) {
-        return Err(fault);
-    }
+    check_words(order, &pieces, types + 1, limit + names.len() as u64, count)?;
     Ok(File {
         order,
         pieces,
