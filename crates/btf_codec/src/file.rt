@@ -137,10 +137,7 @@ pub fn pieces_of<'a>(
         if rest.is_empty() {
             return Ok(pieces);
         }
-        let size = match head_of(order, place, id, rest) {
-            Ok(size) => size,
-            Err(fault) => return Err(fault),
-        };
+        let size = head_of(order, place, id, rest)?;
         let (piece, behind) = rest.split_at(4 * size);
         pieces.push(piece)?;
         rest = behind;
