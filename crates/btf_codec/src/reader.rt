@@ -172,17 +172,14 @@ pub fn read<'a>(
     let mut all = types_of(alloc, base)?;
     let before = all.len() as u32;
     let strings = strings_of(base);
-    let file = match file_of(
+    let file = file_of(
         alloc,
         base.is_some(),
         before,
         strings.len() as u64,
         want,
         bytes,
-    ) {
-        Ok(file) => file,
-        Err(fault) => return Err(fault),
-    };
+    )?;
     let base_ends = TextEnds::of(alloc, strings)?;
     let own_ends = TextEnds::of(alloc, file.names)?;
     let texts = TableStrings {
