@@ -5,15 +5,11 @@ use Rattle.btf_codec.specs.declared.fault.BtfFault.{BtfFault}
 use Rattle.std.proofs.lemmas.Bool.{eqb-true, eqb-false}
 use Rattle.std.proofs.lemmas.List.{nil_from_length, map-append}
 use Rattle.btf_codec.specs.Reading.{head_of, pieces_of, word_in}
+use Rattle.btf_codec.proofs.Splitting.{refused}
 use Rattle.btf_codec.proofs.Splitting.{bad_piece, fails_with, head_fits, kept_on, no_fuel, no_piece}
 use Rattle.btf_codec.proofs.Splitting.{quarter}
 use Rattle.btf_codec.proofs.file.pieces_of.Goals as goal
 use denote.Bor.{Bor}
-
-refused : {X Y : Type 0} (view : X → Y) (r : Result X BtfFault) (e : BtfFault)
-    (read : Result Y BtfFault) → r ≡ Err e → Fails e read → Gives view r read
-refused {X} {Y} view r e read gone fails =
-    subst (λ (s : Result X BtfFault). Gives view s read) (sym gone) fails
 
 pub returns-then-is_empty : goal.returns-then-is_empty
 returns-then-is_empty c =

@@ -3,17 +3,13 @@ use Rattle.std.proofs.Common.{subst, ◌∙◌, arith, Result, rules}
 use Rattle.btf_codec.specs.declared.fault.BtfFault.{BtfFault}
 use Rattle.btf_codec.specs.Reading.{file_of, pieces_fault, pieces_of}
 use Rattle.btf_codec.specs.Gives.{Fails, Gives, IsPiece}
+use Rattle.btf_codec.proofs.Splitting.{refused}
 use Rattle.btf_codec.proofs.Gluing.{all_well, cut, fails_on, how_many, no_fault, no_order}
 use Rattle.btf_codec.proofs.Gluing.{no_pieces, no_sections, no_strings, no_words, same_fault}
 use Rattle.btf_codec.proofs.Gluing.{the_piece, a_fault}
 use Rattle.btf_codec.proofs.Splitting.{fails_with}
 use Rattle.btf_codec.proofs.reader.file_of.Goals as goal
 use denote.Bor.{Bor}
-
-refused : {X Y : Type 0} (view : X → Y) (r : Result X BtfFault) (e : BtfFault)
-    (read : Result Y BtfFault) → r ≡ Err e → Fails e read → Gives view r read
-refused {X} {Y} view r e read gone fails =
-    subst (λ (s : Result X BtfFault). Gives view s read) (sym gone) fails
 
 pub returns-in_err-order-clause-gives : goal.returns-in_err-order-clause-gives
 returns-in_err-order-clause-gives c =

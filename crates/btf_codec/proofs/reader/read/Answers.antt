@@ -9,16 +9,12 @@ use Rattle.btf_codec.specs.Reading.{Decoded, is_wanted, types_of}
 use Rattle.btf_codec.specs.Spells.{Spells}
 use Rattle.btf_codec.specs.declared.fault.BtfFault.{BtfFault}
 use Rattle.btf_codec.specs.declared.table.Table.{Table}
+use Rattle.btf_codec.proofs.Splitting.{refused}
 use Rattle.btf_codec.proofs.Accepted.{shows}
 use Rattle.btf_codec.proofs.Complete.{complete, memory_alone}
 use Rattle.btf_codec.proofs.Gluing.{still_some, table_read, table_refused}
 use Rattle.btf_codec.proofs.reader.read.Goals as goal
 use denote.Bor.{Bor}
-
-refused : {X Y : Type 0} (view : X → Y) (r : Result X BtfFault) (e : BtfFault)
-    (read : Result Y BtfFault) → r ≡ Err e → Fails e read → Gives view r read
-refused {X} {Y} view r e read gone fails =
-    subst (λ (s : Result X BtfFault). Gives view s read) (sym gone) fails
 
 told : {X : Type 0} (ok : X → Type 0) (err : BtfFault → Type 0) (r : Result X BtfFault)
     (e : BtfFault) → r ≡ Err e → err e → MatchResult r ok err
