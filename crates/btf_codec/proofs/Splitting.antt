@@ -7,7 +7,7 @@ use Rattle.std.proofs.lemmas.Bool.{le-ltb, ltb-false}
 use Rattle.std.proofs.lemmas.List.{drop-drop}
 use Rattle.dw_base.specs.declared.numbers.Order.{Order}
 use Rattle.btf_codec.specs.Fields.{layout_of}
-use Rattle.btf_codec.specs.Gives.{Fails}
+use Rattle.btf_codec.specs.Gives.{Fails, Gives}
 use Rattle.btf_codec.specs.Reading.{◌>>=◌, checked, head_of, is_header, is_info, kind_in, pieces_of}
 use Rattle.btf_codec.specs.Reading.{sections_of, type_width, vlen_in, word_in}
 use Rattle.btf_codec.specs.declared.fault.BtfFault.{BtfFault}
@@ -31,6 +31,12 @@ fails_with (BtfName a b c) read h = h
 fails_with (BtfRef a b c) read h = h
 fails_with (BtfStrings a) read h = h
 fails_with Memory read h = tt
+
+-- a call that gives a fault answers what reading refuses with it
+pub refused : {X Y : Type 0} (view : X → Y) (r : Result X BtfFault) (e : BtfFault)
+    (read : Result Y BtfFault) → r ≡ Err e → Fails e read → Gives view r read
+refused {X} {Y} view r e read gone fails =
+    subst (λ (s : Result X BtfFault). Gives view s read) (sym gone) fails
 
 -- pieces before the rest
 abbrev pub with_front : List (List ℕ) → Result (List (List ℕ)) BtfFault

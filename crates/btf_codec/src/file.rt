@@ -11,7 +11,7 @@ use crate::pieces::{head_of, word_in};
 use dw_base::Order;
 use std::alloc::Global;
 
-/// The byte at a place; 0 past the end.
+/// The byte at an offset; 0 past the end.
 fn byte_at(bytes: &[u8], place: usize) -> u8
     ensures { result ≡ slice_index bytes.now place }
 {
@@ -31,6 +31,7 @@ fn magic_order(first: u8, second: u8) -> Option<Order>
     }
 }
 
+/// Whether two byte orders are the same.
 fn is_same_order(a: Order, b: Order) -> bool
     ensures { result ≡ is_same_order a b }
 {
@@ -46,6 +47,7 @@ fn is_same_order(a: Order, b: Order) -> bool
     }
 }
 
+/// Whether a byte order is the wanted one, if one is wanted.
 fn is_wanted(want: Option<Order>, order: Order) -> bool
     ensures { result ≡ is_wanted want order }
 {
@@ -71,6 +73,8 @@ pub fn order_in(want: Option<Order>, bytes: &[u8]) -> Result<Order, BtfFault>
     }
 }
 
+/// Whether the first 24 bytes are a header: version 1, no flags, its own length, types first and
+/// in whole words, then the strings and nothing more.
 fn is_header(order: Order, bytes: &[u8]) -> bool
     requires { 24 ≤ length bytes.now }
     ensures { result ≡ is_header order bytes.now }
@@ -86,7 +90,8 @@ fn is_header(order: Order, bytes: &[u8]) -> bool
         && bytes.len() == 24 + types as usize + names as usize
 }
 
-/// The bytes of the types and those of the strings.
+/// The bytes of the types and those of the strings. Refused where the header is too short or has
+/// another value than it should.
 pub fn sections_of(order: Order, bytes: &[u8]) -> Result<(&[u8], &[u8]), BtfFault>
     ensures sections { seen (λ x. (x.0.now, x.1.now)) result ≡ sections_of order bytes.now }
     ensures few { IfOk result (λ x. length x.0.now < 2 ^ 32) }
@@ -111,7 +116,8 @@ pub fn are_strings(based: bool, names: &[u8]) -> bool
     (based || names[0] == 0) && names[names.len() - 1] == 0
 }
 
-/// The bytes of each type. The first has the id `first`.
+/// The bytes of each type. The first has the id `first`. Refused at the first type that is cut
+/// off, has no kind, or has an info word that its kind doesn't allow.
 pub fn pieces_of<'a>(
     alloc: Global,
     order: Order,
@@ -131,10 +137,7 @@ pub fn pieces_of<'a>(
         if rest.is_empty() {
             return Ok(pieces);
         }
-        let size = match head_of(order, place, id, rest) {
-            Ok(size) => size,
-            Err(fault) => return Err(fault),
-        };
+        let size = head_of(order, place, id, rest)?;
         let (piece, behind) = rest.split_at(4 * size);
         pieces.push(piece)?;
         rest = behind;

@@ -31,21 +31,21 @@ pub fn word_in(order: Order, piece: &[u8], i: usize) -> u32
     }
 }
 
-/// The kind in an info word.
+/// The kind in an info word: bits 24 to 28.
 pub fn kind_in(info: u32) -> u8
     ensures { result ≡ kind_in info }
 {
     (info / 0x100_0000 % 32) as u8
 }
 
-/// Whether kind_flag is set in an info word.
+/// Whether kind_flag, bit 31 of an info word, is set.
 pub fn flag_in(info: u32) -> bool
     ensures { result ≡ flag_in info }
 {
     info >= 0x8000_0000
 }
 
-/// vlen in an info word.
+/// vlen in an info word: bits 0 to 15.
 pub fn vlen_in(info: u32) -> u32
     ensures { result ≡ vlen_in info }
 {
@@ -83,7 +83,7 @@ pub fn type_width(layout: KindLayout, vlen: u32) -> usize
     }
 }
 
-/// Whether the bits that are not named are clear.
+/// Whether the bits of an info word that no field has are clear: 16 to 23, 29 and 30.
 fn is_clean(info: u32) -> bool
     ensures { result ≡ is_clean info }
 {
@@ -106,6 +106,8 @@ fn may_flag(kind: u8) -> bool
     )
 }
 
+/// Whether a kind allows a vlen: a FUNC has its linkage there, other kinds the number of their
+/// parts, or 0.
 fn is_vlen(layout: KindLayout, kind: u8, vlen: u32) -> bool
     ensures { result ≡ is_vlen layout kind vlen }
 {
@@ -127,6 +129,7 @@ fn is_vlen(layout: KindLayout, kind: u8, vlen: u32) -> bool
     }
 }
 
+/// Whether a layout allows the third word of a type: that of an ARRAY and of a FWD is 0.
 fn is_third(layout: KindLayout, third: u32) -> bool
     ensures { result ≡ is_third layout third }
 {
@@ -142,6 +145,7 @@ fn is_third(layout: KindLayout, third: u32) -> bool
     }
 }
 
+/// Whether a layout allows an info word and the third word of a type.
 fn is_info(layout: KindLayout, info: u32, third: u32) -> bool
     ensures { result ≡ is_info layout info third }
 {
@@ -167,6 +171,7 @@ pub fn head_of(order: Order, place: u64, id: u32, rest: &[u8]) -> Result<usize, 
     }
 }
 
+/// The checks of a type of a known layout, of whose words `left` are there: how many it has.
 fn checked(
     layout: KindLayout,
     place: u64,

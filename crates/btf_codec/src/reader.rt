@@ -112,25 +112,14 @@ fn file_of<'a>(
     ensures each { IfOk result (λ f. All (λ p. IsPiece f.order p.now) f.pieces.items) }
     ensures few { IfOk result (λ f. length f.pieces.items < 2 ^ 30) }
 {
-    let order = match order_in(want, bytes) {
-        Ok(order) => order,
-        Err(fault) => return Err(fault),
-    };
-    let (body, names) = match sections_of(order, bytes) {
-        Ok(sections) => sections,
-        Err(fault) => return Err(fault),
-    };
+    let order = order_in(want, bytes)?;
+    let (body, names) = sections_of(order, bytes)?;
     if !are_strings(based, names) {
         return Err(BtfFault::BtfStrings(24 + body.len() as u64));
     }
-    let pieces = match pieces_of(alloc, order, body, types + 1) {
-        Ok(pieces) => pieces,
-        Err(fault) => return Err(fault),
-    };
+    let pieces = pieces_of(alloc, order, body, types + 1)?;
     let count = types + pieces.len() as u32;
-    if let Err(fault) = check_words(order, &pieces, types + 1, limit + names.len() as u64, count) {
-        return Err(fault);
-    }
+    check_words(order, &pieces, types + 1, limit + names.len() as u64, count)?;
     Ok(File {
         order,
         pieces,
@@ -183,17 +172,14 @@ pub fn read<'a>(
     let mut all = types_of(alloc, base)?;
     let before = all.len() as u32;
     let strings = strings_of(base);
-    let file = match file_of(
+    let file = file_of(
         alloc,
         base.is_some(),
         before,
         strings.len() as u64,
         want,
         bytes,
-    ) {
-        Ok(file) => file,
-        Err(fault) => return Err(fault),
-    };
+    )?;
     let base_ends = TextEnds::of(alloc, strings)?;
     let own_ends = TextEnds::of(alloc, file.names)?;
     let texts = TableStrings {

@@ -1,4 +1,4 @@
-//! Why a name has no place.
+//! Why a name gets no offset.
 ghost use Rattle.std.specs.Prelude.{◌≡◌};
 ghost use Rattle.btf_strings.specs.declared.fault.StringsFault.TheVariants.{Memory};
 
@@ -8,9 +8,11 @@ use thiserror::Error;
 /// Why a name was not put.
 #[derive(Clone, Copy, Debug, PartialEq, Eq, Error)]
 pub enum StringsFault {
-    /// The name is new, and the offset that it would have is past the last.
+    /// The name is new, and the offset that it would have, in bytes from the beginning of the
+    /// base's strings, is past `LAST_OFFSET`.
     #[error("the name would stand at {0}")]
     Full(u64),
+    /// Memory ran out.
     #[error("out of memory")]
     Memory,
 }

@@ -1,5 +1,8 @@
 //! The names of a BTF table and their string section (the Linux kernel's BTF documentation, "String
 //! Encoding").
+//!
+//! Work grows linearly: `Strings::new` takes the base's strings once, and `put` and `offset_of` the
+//! bytes of their name.
 #![tactic(auto)]
 
 pub mod fault;

@@ -1,7 +1,11 @@
-use Rattle.std.proofs.Common.{◌≡◌, ℕ, ◌/◌, ◌≤◌, List, [], ◌∷◌, length, map, Ok, sym, ap, ◌∙◌, arith}
+use Rattle.std.proofs.Common.{◌≡◌, ℕ, ◌/◌, ◌≤◌, List, [], ◌∷◌, length, map, Ok, Err, rules, sym, ap, ◌∙◌, arith}
+use Rattle.std.proofs.Common.{subst, Result}
+use Rattle.btf_codec.specs.Gives.{Fails, Gives}
+use Rattle.btf_codec.specs.declared.fault.BtfFault.{BtfFault}
 use Rattle.std.proofs.lemmas.Bool.{eqb-true, eqb-false}
 use Rattle.std.proofs.lemmas.List.{nil_from_length, map-append}
 use Rattle.btf_codec.specs.Reading.{head_of, pieces_of, word_in}
+use Rattle.btf_codec.proofs.Splitting.{refused}
 use Rattle.btf_codec.proofs.Splitting.{bad_piece, fails_with, head_fits, kept_on, no_fuel, no_piece}
 use Rattle.btf_codec.proofs.Splitting.{quarter}
 use Rattle.btf_codec.proofs.file.pieces_of.Goals as goal
@@ -15,36 +19,38 @@ returns-then-is_empty c =
     (nil_from_length c.loop.rest.now (eqb-true (length c.loop.rest.now) 0
     (sym c.is_empty.ensures ∙ c.if-is_empty.true))) c.loop.invariant.so_far
 
-pub returns-in-Err : goal.returns-in-Err
-returns-in-Err c =
+pub returns-in_err-size : goal.returns-in_err-size
+returns-in_err-size c =
     let n : length c.loop.rest.now ≡ 0 → ⊥ =
     eqb-false (length c.loop.rest.now) 0 (sym c.is_empty.ensures ∙ c.if-is_empty.false) in
-    fails_with c.in-Err.fault
+    let gone : c.from_residual.result ≡ Err c.in_err-size.field-0.0 = search rules in
+    refused _ c.from_residual.result c.in_err-size.field-0.0 _ gone
+    (fails_with c.in_err-size.field-0.0
     (pieces_of c.args.order (length c.args.types.now) 24 c.args.first c.args.types.now)
     (bad_piece c.args.order (length c.args.types.now) c.loop.counter c.loop.place c.loop.id
-    c.in-Err.fault c.loop.rest.now (map (λ (p : Bor (List ℕ)). p.now) c.loop.pieces.items)
+    c.in_err-size.field-0.0 c.loop.rest.now (map (λ (p : Bor (List ℕ)). p.now) c.loop.pieces.items)
     (pieces_of c.args.order (length c.args.types.now) 24 c.args.first c.args.types.now)
-    c.loop-test.true (omega arith) (sym c.in-Err.ensures) c.loop.invariant.so_far)
+    c.loop-test.true (omega arith) (sym c.in_err-size.ensures) c.loop.invariant.so_far))
 
 pub split_at-requires : goal.split_at-requires
 split_at-requires c =
-    let fit = head_fits c.loop.place c.loop.id (length c.loop.rest.now / 4) c.in-Ok.size
-    (word_in c.args.order c.loop.rest.now) (sym c.head_of.ensures ∙ c.in-Ok.is) in
-    quarter c.in-Ok.size (length c.loop.rest.now) fit.few
+    let fit = head_fits c.loop.place c.loop.id (length c.loop.rest.now / 4) c.in_ok-size.size
+    (word_in c.args.order c.loop.rest.now) (sym c.in_ok-size.ensures) in
+    quarter c.in_ok-size.size (length c.loop.rest.now) fit.few
 
 pub loop-preserved : goal.loop-preserved
 loop-preserved c =
     let n : length c.loop.rest.now ≡ 0 → ⊥ =
     eqb-false (length c.loop.rest.now) 0 (sym c.is_empty.ensures ∙ c.if-is_empty.false) in
     let h : head_of c.loop.place c.loop.id (word_in c.args.order c.loop.rest.now)
-    (length c.loop.rest.now / 4) ≡ Ok c.in-Ok.size = sym c.head_of.ensures ∙ c.in-Ok.is in
-    let fit = head_fits c.loop.place c.loop.id (length c.loop.rest.now / 4) c.in-Ok.size
+    (length c.loop.rest.now / 4) ≡ Ok c.in_ok-size.size = sym c.in_ok-size.ensures in
+    let fit = head_fits c.loop.place c.loop.id (length c.loop.rest.now / 4) c.in_ok-size.size
     (word_in c.args.order c.loop.rest.now) h in
-    let some : 3 ≤ c.in-Ok.size = fit.some in
+    let some : 3 ≤ c.in_ok-size.size = fit.some in
     record {
       so_far =
           kept_on c.args.order (length c.args.types.now) c.loop.counter c.loop.place c.loop.id
-          c.in-Ok.size c.loop.rest.now c.split_at.result.0.now c.split_at.result.1.now
+          c.in_ok-size.size c.loop.rest.now c.split_at.result.0.now c.split_at.result.1.now
           (map (λ (p : Bor (List ℕ)). p.now) c.loop.pieces.items)
           (map (λ (p : Bor (List ℕ)). p.now) c.push.new.self.items)
           (pieces_of c.args.order (length c.args.types.now) 24 c.args.first c.args.types.now)
@@ -66,6 +72,6 @@ returns c =
 
 pub overflow_mul-size : goal.overflow_mul-size
 overflow_mul-size c =
-    let fit = head_fits c.loop.place c.loop.id (length c.loop.rest.now / 4) c.in-Ok.size
-    (word_in c.args.order c.loop.rest.now) (sym c.head_of.ensures ∙ c.in-Ok.is) in
-    omega (arith, quarter c.in-Ok.size (length c.loop.rest.now) fit.few, c.loop.invariant.place_is)
+    let fit = head_fits c.loop.place c.loop.id (length c.loop.rest.now / 4) c.in_ok-size.size
+    (word_in c.args.order c.loop.rest.now) (sym c.in_ok-size.ensures) in
+    omega (arith, quarter c.in_ok-size.size (length c.loop.rest.now) fit.few, c.loop.invariant.place_is)
