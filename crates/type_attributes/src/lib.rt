@@ -4,8 +4,6 @@
 //! - Of the refusals of a unit's types the first counts: by the entry's offset, then by number,
 //!   then by what it keeps. So each reader goes on after a refusal, which it notes, and what it
 //!   gives back counts only where none is noted in the end.
-//! - A base type without a kind in BTF, and an unspecified type, becomes a structure of its name
-//!   and size without members. It counts as a definition of its name.
 //! - Bit fields by DW_AT_bit_offset (DWARF 4, section 5.5.6) are read in units of DWARF 4 and 5
 //!   alike. DWARF 5 dropped the attribute, but compilers (clang 14 and 15) went on writing it, and
 //!   without it layouts are wrong in silence. They also write a negative one, of a field that does
@@ -13,8 +11,8 @@
 //! - In a little-endian file such a bit field counts from the end of its storage, whose size is the
 //!   member's own byte_size, else that of its type. At most 64 typedefs, qualifiers and atomic
 //!   types are followed to it, since a chain may be a ring. What is wrong on that way only means
-//!   that no storage is found (64). Only a unit with such a member reads what its entries say of
-//!   their sizes.
+//!   that no storage is found, which refuses the member. Only a unit with such a member reads what
+//!   its entries say of their sizes.
 #![tactic(auto)]
 
 pub mod attributes;
