@@ -13,9 +13,9 @@ use Rattle.btf_codec.specs.Spells.{Base}
 use Rattle.dw_base.specs.declared.numbers.Order.{Order}
 
 -- the answer, seen by a view
-abbrev pub seen : {A B : Type 0} → (A → B) → Result A BtfFault → Result B BtfFault
-seen view (Ok x) = Ok (view x)
-seen view (Err e) = Err e
+abbrev pub map_ok : {A B : Type 0} → (A → B) → Result A BtfFault → Result B BtfFault
+map_ok view (Ok x) = Ok (view x)
+map_ok view (Err e) = Err e
 
 -- the same where memory can run out
 abbrev pub Fails : {Y : Type 0} → BtfFault → Result Y BtfFault → Type 0

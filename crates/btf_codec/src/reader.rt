@@ -17,6 +17,7 @@ ghost use denote.Bor.{Bor};
 use crate::decoded::{TableStrings, decoded_type};
 use crate::fault::BtfFault;
 use crate::file::{are_strings, order_in, pieces_of, sections_of};
+use crate::format::HEADER_LEN;
 use crate::offsets::words_fault;
 use crate::table::Table;
 use c_model::{CType, Nodes, copy_of_types};
@@ -37,10 +38,10 @@ fn check_words(
         → IsPiece order (slice_index_or pieces.now k d).now }
     requires short { (k : ℕ) (d : Bor (List ℕ)) → k < length pieces.now
         → length (slice_index_or pieces.now k d).now < 2 ^ 32 }
-    ensures { result ≡ unless (pieces_fault order 24 first limit count
+    ensures { result ≡ unless (pieces_fault order HEADER_LEN first limit count
         (map (λ p. p.now) pieces.now)) }
 {
-    let mut place = 24;
+    let mut place = HEADER_LEN as u64;
     let mut id = first;
     for piece in pieces {
         if let Some(fault) = words_fault(order, piece, place, id, limit, count) {
@@ -115,7 +116,7 @@ fn file_of<'a>(
     let order = order_in(want, bytes)?;
     let (body, names) = sections_of(order, bytes)?;
     if !are_strings(based, names) {
-        return Err(BtfFault::BtfStrings(24 + body.len() as u64));
+        return Err(BtfFault::BtfStrings((HEADER_LEN + body.len()) as u64));
     }
     let pieces = pieces_of(alloc, order, body, types + 1)?;
     let count = types + pieces.len() as u32;

@@ -4,7 +4,7 @@ use Rattle.btf_codec.specs.declared.fault.BtfFault.TheVariants.{Memory}
 use Rattle.std.specs.Option.{option_map}
 use Rattle.c_model.specs.declared.graph.CType.{CType}
 use Rattle.dw_base.specs.declared.numbers.Order.{Order}
-use Rattle.btf_codec.specs.Gives.{EndsWithNul, Fails, Gives, base_seen, before_of, table_over}
+use Rattle.btf_codec.specs.Gives.{EndsWithNul, base_seen, before_of, table_over}
 use Rattle.btf_codec.specs.Reading.{Decoded, is_wanted, types_of}
 use Rattle.btf_codec.specs.Spells.{Spells}
 use Rattle.btf_codec.specs.declared.fault.BtfFault.{BtfFault}
