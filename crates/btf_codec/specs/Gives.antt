@@ -5,6 +5,7 @@ use Rattle.btf_codec.specs.Reading.{Before, Decoded, types_before, layout_in, ty
 use Rattle.btf_codec.specs.Reading.{word_in}
 use Rattle.btf_codec.specs.declared.fault.BtfFault.{BtfFault}
 use Rattle.btf_codec.specs.declared.fault.BtfFault.TheVariants.{Memory}
+use Rattle.btf_codec.specs.declared.format.TheConstants.{INFO}
 use Rattle.btf_codec.specs.declared.layout.KindLayout.{KindLayout}
 use Rattle.c_model.specs.Graph.{RefersWithin}
 use Rattle.c_model.specs.declared.graph.CType.{CType}
@@ -35,7 +36,7 @@ unless (Some fault) = Err fault
 pub record IsPiece (order : Order) (piece : List ℕ) : Type 0 where
   pub layout : KindLayout
   pub laid : layout_in (word_in order piece) ≡ Some layout
-  pub long : length piece ≡ 4 * type_width layout (vlen_in (word_in order piece 1))
+  pub long : length piece ≡ 4 * type_width layout (vlen_in (word_in order piece INFO))
 
 -- a string section that isn't empty ends with NUL
 abbrev pub EndsWithNul : List ℕ → Type 0

@@ -21,7 +21,11 @@ use Rattle.c_model.specs.declared.graph.Ref.TheVariants.{Void, Node}
 use Rattle.btf_codec.specs.Fields.{bit_of, has_size, layout_of, own_targets, part_layout}
 use Rattle.btf_codec.specs.declared.format.TheConstants.{BTF_VERSION, HEADER_LEN, VERSION, FLAGS}
 use Rattle.btf_codec.specs.declared.format.TheConstants.{HDR_LEN, TYPE_OFF, TYPE_LEN, STR_OFF}
-use Rattle.btf_codec.specs.declared.format.TheConstants.{STR_LEN}
+use Rattle.btf_codec.specs.declared.format.TheConstants.{STR_LEN, NAME_OFF, INFO, SIZE, TYPE}
+use Rattle.btf_codec.specs.declared.format.TheConstants.{TAIL, TYPE_HEAD, ARRAY_TYPE}
+use Rattle.btf_codec.specs.declared.format.TheConstants.{ARRAY_INDEX_TYPE, ARRAY_NELEMS}
+use Rattle.btf_codec.specs.declared.format.TheConstants.{BTF_MAX_VLEN, KIND_SHIFT, KINDS}
+use Rattle.btf_codec.specs.declared.format.TheConstants.{KIND_FLAG_BIT}
 use Rattle.btf_codec.specs.declared.layout.OwnTargets.{OwnTargets}
 use Rattle.btf_codec.specs.declared.layout.OwnTargets.TheVariants.{NoTarget, OneTarget}
 use Rattle.btf_codec.specs.declared.layout.OwnTargets.TheVariants.{ArrayTargets}
@@ -54,17 +58,18 @@ word_in Big bytes i = from_be_bytes w32 (four bytes (4 * i))
 
 -- the parts of an info word
 abbrev pub kind_in : ℕ → ℕ
-kind_in y = y / 2 ^ 24 % 32
+kind_in y = y / 2 ^ KIND_SHIFT % KINDS
 
 abbrev pub flag_in : ℕ → Bool
-flag_in y = nat_le (2 ^ 31) y
+flag_in y = nat_le (2 ^ KIND_FLAG_BIT) y
 
 abbrev pub vlen_in : ℕ → ℕ
-vlen_in y = y % 2 ^ 16
+vlen_in y = y % (BTF_MAX_VLEN + 1)
 
 -- bits 16 to 23, 29 and 30 are clear
 abbrev pub is_clean : ℕ → Bool
-is_clean y = y == vlen_in y + 2 ^ 24 * kind_in y + 2 ^ 31 * bit_of (flag_in y)
+is_clean y =
+    y == vlen_in y + 2 ^ KIND_SHIFT * kind_in y + 2 ^ KIND_FLAG_BIT * bit_of (flag_in y)
 
 -- kind_flag may be set on this kind
 abbrev pub may_flag : ℕ → Bool
@@ -105,8 +110,8 @@ type_width Array v = 6
 type_width Forward v = 3
 type_width TaggedLink v = 4
 type_width Float v = 3
-type_width (Sized parts) v = 3 + part_width parts * v
-type_width Prototype v = 3 + 2 * v
+type_width (Sized parts) v = TYPE_HEAD + part_width parts * v
+type_width Prototype v = TYPE_HEAD + 2 * v
 
 -- the checks of a type at a place, of whose words so many are left: how many of them it has
 abbrev pub checked_width : ℕ → ℕ → ℕ → ℕ → ℕ → Option KindLayout → Result ℕ BtfFault
@@ -118,8 +123,8 @@ checked_width place id y third left (Some layout) =
     else Err (BtfInfo place id)
 
 abbrev pub head_of : ℕ → ℕ → (ℕ → ℕ) → ℕ → Result ℕ BtfFault
-head_of place id w left = if nat_lt left 3 then Err (BtfTruncated place)
-    else checked_width place id (w 1) (w 2) left (layout_of (kind_in (w 1)))
+head_of place id w left = if nat_lt left TYPE_HEAD then Err (BtfTruncated place)
+    else checked_width place id (w INFO) (w SIZE) left (layout_of (kind_in (w INFO)))
 
 -- the bytes of each type, from a place on
 unfoldable pub pieces_of : Order → ℕ → ℕ → ℕ → List ℕ → Result (List (List ℕ)) BtfFault
@@ -157,22 +162,22 @@ part_ids parts w at n = []
 
 abbrev pub names_over : Option PartLayout → (ℕ → ℕ) → ℕ → List ℕ
 names_over None w v = []
-names_over (Some parts) w v = part_names parts w 3 v
+names_over (Some parts) w v = part_names parts w TYPE_HEAD v
 
 abbrev pub ids_over : Option PartLayout → (ℕ → ℕ) → ℕ → List ℕ
 ids_over None w v = []
-ids_over (Some parts) w v = part_ids parts w 3 v
+ids_over (Some parts) w v = part_ids parts w TYPE_HEAD v
 
 -- the words outside of parts that are ids
 abbrev pub own_ids : OwnTargets → (ℕ → ℕ) → List ℕ
 own_ids NoTarget w = []
-own_ids OneTarget w = w 2 ∷ []
-own_ids ArrayTargets w = w 3 ∷ w 4 ∷ []
+own_ids OneTarget w = w TYPE ∷ []
+own_ids ArrayTargets w = w ARRAY_TYPE ∷ w ARRAY_INDEX_TYPE ∷ []
 
 -- the words of a type that are offsets of names
 abbrev pub names_by : Option KindLayout → (ℕ → ℕ) → ℕ → List ℕ
-names_by None w v = w 0 ∷ []
-names_by (Some layout) w v = w 0 ∷ names_over (part_layout layout) w v
+names_by None w v = w NAME_OFF ∷ []
+names_by (Some layout) w v = w NAME_OFF ∷ names_over (part_layout layout) w v
 
 -- the words of a type that are ids
 abbrev pub ids_by : Option KindLayout → (ℕ → ℕ) → ℕ → List ℕ
@@ -180,13 +185,13 @@ ids_by None w v = []
 ids_by (Some layout) w v = own_ids (own_targets layout) w ++ ids_over (part_layout layout) w v
 
 abbrev pub layout_in : (ℕ → ℕ) → Option KindLayout
-layout_in w = layout_of (kind_in (w 1))
+layout_in w = layout_of (kind_in (w INFO))
 
 abbrev pub names_in : (ℕ → ℕ) → List ℕ
-names_in w = names_by (layout_in w) w (vlen_in (w 1))
+names_in w = names_by (layout_in w) w (vlen_in (w INFO))
 
 abbrev pub ids_in : (ℕ → ℕ) → List ℕ
-ids_in w = ids_by (layout_in w) w (vlen_in (w 1))
+ids_in w = ids_by (layout_in w) w (vlen_in (w INFO))
 
 -- the first word of a type that is no offset in the strings, and after it the first that is no id
 -- of the table
@@ -222,7 +227,7 @@ decoded_part Variable strings w at = record { name = []; value = whole_value w a
 
 abbrev pub decoded_parts : PartLayout → List ℕ → (ℕ → ℕ) → ℕ → List Part
 decoded_parts layout strings w n = map (decoded_part layout strings w)
-    (places 3 (part_width layout) n)
+    (places TYPE_HEAD (part_width layout) n)
 
 abbrev pub parts_over : Option PartLayout → List ℕ → (ℕ → ℕ) → ℕ → List Part
 parts_over None strings w v = []
@@ -234,27 +239,27 @@ parts_by (Some layout) strings w v = parts_over (part_layout layout) strings w v
 
 abbrev pub size_by : Option KindLayout → (ℕ → ℕ) → ℕ
 size_by None w = 0
-size_by (Some layout) w = if has_size layout then w 2 else 0
+size_by (Some layout) w = if has_size layout then w SIZE else 0
 
 abbrev pub extra_by : Option KindLayout → (ℕ → ℕ) → ℕ
-extra_by (Some Int) w = w 3
-extra_by (Some Link) w = if kind_in (w 1) == BTF_KIND_FUNC then vlen_in (w 1) else 0
-extra_by (Some Array) w = w 5
-extra_by (Some TaggedLink) w = w 3
+extra_by (Some Int) w = w TAIL
+extra_by (Some Link) w = if kind_in (w INFO) == BTF_KIND_FUNC then vlen_in (w INFO) else 0
+extra_by (Some Array) w = w ARRAY_NELEMS
+extra_by (Some TaggedLink) w = w TAIL
 extra_by layout w = 0
 
 abbrev pub type_by : Option KindLayout → List ℕ → (ℕ → ℕ) → CType
 type_by layout strings w =
     record {
       label = record {
-        kind = kind_in (w 1);
-        name = name_at strings (w 0);
-        flag = flag_in (w 1);
+        kind = kind_in (w INFO);
+        name = name_at strings (w NAME_OFF);
+        flag = flag_in (w INFO);
         size = size_by layout w;
         extra = extra_by layout w;
-        parts = parts_by layout strings w (vlen_in (w 1));
+        parts = parts_by layout strings w (vlen_in (w INFO));
       };
-      targets = map ref_of (ids_by layout w (vlen_in (w 1)));
+      targets = map ref_of (ids_by layout w (vlen_in (w INFO)));
     }
 
 unfoldable pub decoded_type : List ℕ → (ℕ → ℕ) → CType

@@ -122,7 +122,7 @@ fn decoded_parts<'a>(
 ) -> Result<Vec<Part<'a>>, AllocError>
     requires ends { EndsWithNul texts.base.now }
     requires few { n ≤ BTF_MAX_VLEN }
-    requires room { 4 * (3 + part_width layout * n) ≤ length piece.now }
+    requires room { 4 * (TYPE_HEAD + part_width layout * n) ≤ length piece.now }
     ensures { IfOk result (λ v. v.items ≡ decoded_parts layout
         (texts.entry.base.now ++ texts.entry.own.now) (word_in order piece.now) n) }
 {
@@ -196,9 +196,9 @@ fn push_part_refs(
     vlen: u32,
 ) -> Result<(), AllocError>
     requires few { vlen ≤ BTF_MAX_VLEN }
-    requires room { 4 * (3 + part_width layout * vlen) ≤ length piece.now }
+    requires room { 4 * (TYPE_HEAD + part_width layout * vlen) ≤ length piece.now }
     ensures { OnOk result (out.new.items ≡ out.old.items
-        ++ map ref_of (part_ids layout (word_in order piece.now) 3 vlen)) }
+        ++ map ref_of (part_ids layout (word_in order piece.now) TYPE_HEAD vlen)) }
 {
     match layout {
         PartLayout::Member => push_refs(out, order, piece, TYPE_HEAD + 1, 3, vlen),
@@ -251,7 +251,7 @@ fn parts_by<'a>(
 
 /// The size of a type; 0 where its kind has none.
 fn size_by(layout: KindLayout, order: Order, piece: &[u8]) -> u32
-    requires { 12 ≤ length piece.now }
+    requires { 4 * TYPE_HEAD ≤ length piece.now }
     ensures { result ≡ size_by (Some layout) (word_in order piece.now) }
 {
     if has_size(layout) {
@@ -265,7 +265,7 @@ fn size_by(layout: KindLayout, order: Order, piece: &[u8]) -> u32
 /// ARRAY, the index of a DECL_TAG; else 0.
 fn extra_by(layout: KindLayout, order: Order, piece: &[u8], vlen: u32) -> u32
     requires { length piece.now ≡ 4 * type_width layout vlen }
-    ensures { vlen ≡ vlen_in (word_in order piece.now 1)
+    ensures { vlen ≡ vlen_in (word_in order piece.now INFO)
         → result ≡ extra_by (Some layout) (word_in order piece.now) }
 {
     match layout {
@@ -285,8 +285,9 @@ fn type_by<'a>(
     piece: &[u8],
 ) -> Result<CType<'a>, AllocError>
     requires ends { EndsWithNul texts.base.now }
-    requires long { length piece.now ≡ 4 * type_width layout (vlen_in (word_in order piece.now 1)) }
-    requires head { 12 ≤ length piece.now }
+    requires long { length piece.now
+        ≡ 4 * type_width layout (vlen_in (word_in order piece.now INFO)) }
+    requires head { 4 * TYPE_HEAD ≤ length piece.now }
     ensures { IfOk result (λ t. t ≡ type_by (Some layout)
         (texts.entry.base.now ++ texts.entry.own.now) (word_in order piece.now)) }
 {

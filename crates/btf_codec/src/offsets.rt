@@ -69,9 +69,9 @@ fn part_name_past(
     limit: u64,
 ) -> Option<u32>
     requires few { vlen ≤ BTF_MAX_VLEN }
-    requires room { 4 * (3 + part_width layout * vlen) ≤ length piece.now }
+    requires room { 4 * (TYPE_HEAD + part_width layout * vlen) ≤ length piece.now }
     ensures { result
-        ≡ first_past limit (part_names layout (word_in order piece.now) 3 vlen) }
+        ≡ first_past limit (part_names layout (word_in order piece.now) TYPE_HEAD vlen) }
 {
     match layout {
         PartLayout::Variable => None,
@@ -123,8 +123,8 @@ fn part_id_past(
     limit: u64,
 ) -> Option<u32>
     requires few { vlen ≤ BTF_MAX_VLEN }
-    requires room { 4 * (3 + part_width layout * vlen) ≤ length piece.now }
-    ensures { result ≡ first_past limit (part_ids layout (word_in order piece.now) 3 vlen) }
+    requires room { 4 * (TYPE_HEAD + part_width layout * vlen) ≤ length piece.now }
+    ensures { result ≡ first_past limit (part_ids layout (word_in order piece.now) TYPE_HEAD vlen) }
 {
     match layout {
         PartLayout::Member => first_past(order, piece, TYPE_HEAD + 1, 3, vlen, limit),

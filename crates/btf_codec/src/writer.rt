@@ -13,7 +13,7 @@ ghost use Rattle.c_model.specs.declared.graph.CType.{CType};
 ghost use Rattle.c_model.specs.declared.label.Part.{Part};
 ghost use Rattle.c_model.specs.declared.graph.Ref.{Ref};
 
-use crate::format::{BTF_MAGIC, BTF_VERSION, HEADER_LEN};
+use crate::format::{BTF_MAGIC, BTF_MAX_VLEN, BTF_VERSION, HEADER_LEN, KINDS};
 use crate::layout::{KindLayout, PartLayout, layout_of};
 use crate::table::TableOut;
 use crate::words::{
@@ -156,7 +156,7 @@ fn put_type(
     t: &CType<'_>,
 ) -> Result<(), AllocError>
     requires { All (IsBelow (2 ^ 32 - 1)) t.now.targets }
-    ensures { OnOk result (vlen_of t.now.label ≤ 65535 → t.now.label.kind < 32 →
+    ensures { OnOk result (vlen_of t.now.label ≤ BTF_MAX_VLEN → t.now.label.kind < KINDS →
         out.new.items
         ≡ out.old.items ++ words_bytes order (words_of strings.now (fields_of t.now))) }
 {
