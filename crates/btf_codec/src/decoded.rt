@@ -158,13 +158,6 @@ fn push_refs(
     Ok(())
 }
 
-/// The references of some ids.
-fn refs_of(alloc: Global, ids: &[u32]) -> Result<Vec<Ref>, AllocError>
-    ensures { IfOk result (λ v. v.items ≡ map ref_of ids.now) }
-{
-    ids.iter().map(|id| ref_of(*id)).collect(alloc)
-}
-
 /// The references of a type that stand in no part.
 fn own_refs(
     alloc: Global,
@@ -177,14 +170,16 @@ fn own_refs(
     ensures { IfOk result
         (λ v. v.items ≡ map ref_of (own_ids (own_targets layout) (word_in order piece.now))) }
 {
+    let mut refs = Vec::new(alloc);
     match own_targets(layout) {
-        OwnTargets::NoTarget => refs_of(alloc, &[]),
-        OwnTargets::OneTarget => refs_of(alloc, &[word_in(order, piece, TYPE)]),
+        OwnTargets::NoTarget => {}
+        OwnTargets::OneTarget => refs.push(ref_of(word_in(order, piece, TYPE)))?,
         OwnTargets::ArrayTargets => {
-            let element = word_in(order, piece, ARRAY_TYPE);
-            refs_of(alloc, &[element, word_in(order, piece, ARRAY_INDEX_TYPE)])
+            refs.push(ref_of(word_in(order, piece, ARRAY_TYPE)))?;
+            refs.push(ref_of(word_in(order, piece, ARRAY_INDEX_TYPE)))?;
         }
     }
+    Ok(refs)
 }
 
 /// Appends the references of parts.

@@ -141,6 +141,28 @@ fn strings_of<'a>(base: Option<&Table<'a>>) -> &'a [u8]
     }
 }
 
+/// Appends the types that the parts of a file show. `strings` are those of the table before.
+fn push_file_types<'a>(
+    alloc: Global,
+    all: &mut Vec<CType<'a>>,
+    strings: &'a [u8],
+    file: &File<'a>,
+) -> Result<(), AllocError>
+    requires ends { EndsWithNul strings.now }
+    requires each { All (λ p. IsPiece file.now.order p.now) file.now.pieces.items }
+    ensures { OnOk result (all.new.items ≡ all.old.items ++ types_of
+        (strings.now ++ file.now.names.now) file.now.order
+        (map (λ p. p.now) file.now.pieces.items)) }
+{
+    let base_ends = TextEnds::of(alloc, strings)?;
+    let own_ends = TextEnds::of(alloc, file.names)?;
+    let texts = TableStrings {
+        base: &base_ends,
+        own: &own_ends,
+    };
+    push_types(alloc, all, texts, file.order, &file.pieces)
+}
+
 /// The table that the bytes spell over a base, in the wanted byte order if one is wanted (the
 /// kernel's BTF documentation). Bytes that spell none are refused with their first fault, by the
 /// order of the checks, and none are refused that spell one, unless memory runs out.
@@ -181,13 +203,7 @@ pub fn read<'a>(
         want,
         bytes,
     )?;
-    let base_ends = TextEnds::of(alloc, strings)?;
-    let own_ends = TextEnds::of(alloc, file.names)?;
-    let texts = TableStrings {
-        base: &base_ends,
-        own: &own_ends,
-    };
-    push_types(alloc, &mut all, texts, file.order, &file.pieces)?;
+    push_file_types(alloc, &mut all, strings, &file)?;
     Ok(Table {
         order: file.order,
         base: before,
