@@ -1,7 +1,7 @@
 use Rattle.std.proofs.Common.{sym, ◌∙◌}
 use Rattle.btf_codec.specs.Reading.{word_in}
 use Rattle.btf_codec.proofs.Pasts.{past_found, past_none, past_on}
-use Rattle.btf_codec.proofs.offsets.past.Goals as goal
+use Rattle.btf_codec.proofs.offsets.first_past.Goals as goal
 
 pub returns-then-is_past : goal.returns-then-is_past
 returns-then-is_past c =

@@ -1,6 +1,6 @@
 use Rattle.std.proofs.Common.{◌≡◌, ◌+◌, ◌*◌, ◌-◌}
 use Rattle.btf_codec.specs.Reading.{first_past, word_in, words_at}
-use Rattle.btf_codec.proofs.offsets.past.Given as goal
+use Rattle.btf_codec.proofs.offsets.first_past.Given as goal
 
 abbrev pub invariant-loop-i : goal.invariant-loop-i
 invariant-loop-i l =
