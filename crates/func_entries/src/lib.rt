@@ -1,4 +1,7 @@
 //! The functions of one unit and their prototypes (DWARF 5, section 3.3), as BTF has them.
+//!
+//! An entry that takes its name from another one (inlined code) is no function: the other one
+//! counts.
 #![tactic(auto)]
 
 pub mod entries;

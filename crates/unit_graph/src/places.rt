@@ -100,8 +100,9 @@ impl NodePlaces {
     ghost use Rattle.std.specs.Prelude.{◌≡◌, ℕ, IfOk};
     ghost use Rattle.unit_graph.specs.Numbers.{number_in};
 
-    /// Takes rows in any order. Those of units that follow one another are in order, which costs
-    /// one pass.
+    /// Takes rows in any order. Works in proportion to the rows where they are in order, as those
+    /// of units that follow one another are, else in proportion to the rows times the logarithm of
+    /// their number.
     pub fn new(rows: Vec<NodePlace>) -> Result<NodePlaces, AllocError>
         ensures { IfOk result (λ places. (p : ℕ × ℕ) → number_in p places ≡
             number_in p rows.items) }
@@ -111,7 +112,8 @@ impl NodePlaces {
         Ok(NodePlaces { rows })
     }
 
-    /// The number of the last row at an offset of a file; none where no row is there.
+    /// The number of the last row at an offset of a file; none where no row is there. Works in
+    /// proportion to the logarithm of the number of rows.
     pub fn find(&self, file: u32, to: u64) -> Option<u32>
         ensures { result ≡ number_in (file, to) self.now }
     {

@@ -121,8 +121,9 @@ impl KeptTables {
         Ok(end)
     }
 
-    /// The number of a unit's table, which is read where it isn't kept. All that are kept are of the
-    /// unit's file then.
+    /// The number of a unit's table, which is read where it isn't kept. All that are kept are of
+    /// the unit's file then. Works in proportion to the logarithm of the number of tables where it
+    /// is kept, else as `c_types::read_abbrevs`.
     pub fn table_for(&mut self, alloc: Global, at: &UnitAt<'_>) -> Result<usize, TypeFault>
         requires { self.old.file ≡ at.now.file
             → AreTablesOf at.now.bytes self.old.tables.items }
