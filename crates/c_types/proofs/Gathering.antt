@@ -6,7 +6,7 @@ use Rattle.entry_tree.specs.Items.{Given}
 use Rattle.type_attributes.specs.declared.fault.TypeFault.{TypeFault}
 use Rattle.type_attributes.specs.Faults.{noted}
 use Rattle.type_attributes.specs.Children.{tagged}
-use Rattle.type_attributes.specs.Parts.{refused_by, some_is}
+use Rattle.type_attributes.specs.Parts.{refusals_by, some_is}
 use Rattle.dw_base.proofs.Bools.{or_assoc}
 use Rattle.c_types.specs.Taking.{made_if, refused_if}
 use Rattle.type_attributes.proofs.Noting.{noted_append}
@@ -32,21 +32,21 @@ gathered {X} tag make kids xs all none h =
     sym (append-nil xs) ∙ sym (ap (λ (ks : List Given). xs ++ map make (tagged tag ks)) none) ∙ h
 
 one_refused : (refused : Given → List TypeFault) (e : Given) (es : List Given) (t : Bool)
-    → refused_by refused (if t then e ∷ es else es)
-    ≡ (if t then refused e else []) ++ refused_by refused es
+    → refusals_by refused (if t then e ∷ es else es)
+    ≡ (if t then refused e else []) ++ refusals_by refused es
 one_refused refused e es true = refl
 one_refused refused e es false = refl
 
 pub notes : (tag : ℕ) (refused : Given → List TypeFault) (old new : List Given) (e : Given)
     (o after all : Option TypeFault) → old ≡ e ∷ new → after ≡ noted o (refused_if tag refused e)
-    → noted o (refused_by refused (tagged tag old)) ≡ all
-    → noted after (refused_by refused (tagged tag new)) ≡ all
+    → noted o (refusals_by refused (tagged tag old)) ≡ all
+    → noted after (refusals_by refused (tagged tag new)) ≡ all
 notes tag refused old new e o after all took made h =
-    ap (λ (x : Option TypeFault). noted x (refused_by refused (tagged tag new))) made
-    ∙ sym (noted_append o (refused_if tag refused e) (refused_by refused (tagged tag new)))
+    ap (λ (x : Option TypeFault). noted x (refusals_by refused (tagged tag new))) made
+    ∙ sym (noted_append o (refused_if tag refused e) (refusals_by refused (tagged tag new)))
     ∙ ap (λ (fs : List TypeFault). noted o fs)
     (sym (one_refused refused e (tagged tag new) (e.tag == tag)))
-    ∙ sym (ap (λ (ks : List Given). noted o (refused_by refused (tagged tag ks))) took) ∙ h
+    ∙ sym (ap (λ (ks : List Given). noted o (refusals_by refused (tagged tag ks))) took) ∙ h
 
 -- whether one so far, or one that is left, passes a test
 pub tests : (test : Given → Bool) (old new : List Given) (e : Given) (b after all : Bool)

@@ -9,7 +9,7 @@ use Rattle.c_types.specs.declared.open.OpenType.TheVariants.{Array}
 use Rattle.type_attributes.specs.declared.fault.TypeFault.TheVariants.{MissingType, ArrayLength}
 use Rattle.type_attributes.specs.Scopes.{Scope}
 use Rattle.type_attributes.specs.Faults.{noted, refuse_if}
-use Rattle.type_attributes.specs.Attributes.{has, target_asked, target_of_type}
+use Rattle.type_attributes.specs.Attributes.{has, target_attr, target_of_type}
 use Rattle.c_types.specs.Taking.{made_if}
 use Rattle.c_types.specs.Arrays.{subrange_length, lengths_of, array_row}
 use Rattle.c_types.specs.Lengths.{start, extended, is_too_long}
@@ -45,11 +45,11 @@ module _ (e : Given) (o p : OpenArray) (kids : List Given)
 -- an array begins
 pub record IsFresh (c : Sections) (e : Given) (o : OpenArray) : Type 0 where
   pub at : o.at ≡ e.at
-  pub target : o.target ≡ target_of_type e.at (target_asked c e)
+  pub target : o.target ≡ target_of_type e.at (target_attr c e)
   pub lengths : o.lengths ≡ start
   pub least : o.least
       ≡ noted None
-      ((target_asked c e).refused ++ refuse_if (not (has DW_AT_type e)) (MissingType e.at))
+      ((target_attr c e).refused ++ refuse_if (not (has DW_AT_type e)) (MissingType e.at))
 
 pub array_comes : (s : Scope) (e : Given) (b : Box OpenArray Global) → IsFresh s.sections e b.value
     → ComesTo s (Array b) (array_row s.sections e)

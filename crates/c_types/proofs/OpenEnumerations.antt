@@ -13,11 +13,11 @@ use Rattle.type_attributes.specs.declared.source.SourceType.{SourceType}
 use Rattle.type_attributes.specs.declared.fault.TypeFault.{TypeFault}
 use Rattle.type_attributes.specs.Scopes.{Scope}
 use Rattle.type_attributes.specs.Faults.{noted}
-use Rattle.type_attributes.specs.Attributes.{name_asked, name_in_full, constant_asked, flag_asked}
+use Rattle.type_attributes.specs.Attributes.{name_attr, name_in_full, constant_attr, flag_attr}
 use Rattle.type_attributes.specs.Attributes.{is_set}
 use Rattle.type_attributes.specs.Children.{tagged}
 use Rattle.type_attributes.specs.Labels.{Row, is_empty, size_in}
-use Rattle.type_attributes.specs.Parts.{refused_by, some_is, some_tagged}
+use Rattle.type_attributes.specs.Parts.{refusals_by, some_is, some_tagged}
 use Rattle.c_types.specs.Taking.{refused_if}
 use Rattle.c_types.specs.Structures.{with_refused}
 use Rattle.c_types.specs.Enumerations.{is_negative, enumerator_part, enumerator_refused}
@@ -106,21 +106,21 @@ module _ (c : Sections) (e : Given) (o p : OpenEnumeration) (kids : List Given)
   enumerated_met b count =
       let many = too_many o.at count in
       let n : noted (own_sign p b)
-      (refused_by (enumerator_refused c o.wide b) (tagged DW_TAG_enumerator kids))
+      (refusals_by (enumerator_refused c o.wide b) (tagged DW_TAG_enumerator kids))
       ≡ noted (own_sign o b)
-      (refused_by (enumerator_refused c o.wide b) (tagged DW_TAG_enumerator (e ∷ kids))) =
+      (refusals_by (enumerator_refused c o.wide b) (tagged DW_TAG_enumerator (e ∷ kids))) =
       notes DW_TAG_enumerator (enumerator_refused c o.wide b) (e ∷ kids) kids e (own_sign o b)
       (own_sign p b) _ refl (own_met b) refl in
       ap (λ (w : Bool). noted (own_sign p b)
-      (refused_by (enumerator_refused c w b) (tagged DW_TAG_enumerator kids)
+      (refusals_by (enumerator_refused c w b) (tagged DW_TAG_enumerator kids)
       ++ too_many p.at count)) g.wide
       ∙ ap (λ (at : ℕ). noted (own_sign p b)
-      (refused_by (enumerator_refused c o.wide b) (tagged DW_TAG_enumerator kids)
+      (refusals_by (enumerator_refused c o.wide b) (tagged DW_TAG_enumerator kids)
       ++ too_many at count)) g.at
-      ∙ noted_append (own_sign p b) (refused_by (enumerator_refused c o.wide b)
+      ∙ noted_append (own_sign p b) (refusals_by (enumerator_refused c o.wide b)
       (tagged DW_TAG_enumerator kids)) many ∙ ap (λ (x : Option TypeFault). noted x many) n
       ∙ sym (noted_append (own_sign o b)
-      (refused_by (enumerator_refused c o.wide b) (tagged DW_TAG_enumerator (e ∷ kids))) many)
+      (refusals_by (enumerator_refused c o.wide b) (tagged DW_TAG_enumerator (e ∷ kids))) many)
 
   pub enumeration_met : enumeration_made c p kids ≡ enumeration_made c o (e ∷ kids)
   enumeration_met = made_is c p kids ∙ rw (
@@ -148,23 +148,23 @@ module _ (c : Sections) (e : Given) (o p : OpenEnumeration) (kids : List Given)
 -- an enumeration begins
 pub record IsFresh (c : Sections) (e : Given) (o : OpenEnumeration) : Type 0 where
   pub at : o.at ≡ e.at
-  pub name : o.name ≡ name_in_full (name_asked c e)
-  pub size : o.size ≡ size_in (constant_asked DW_AT_byte_size e).said
-  pub wide : o.wide ≡ (size_in (constant_asked DW_AT_byte_size e).said == 8)
+  pub name : o.name ≡ name_in_full (name_attr c e)
+  pub size : o.size ≡ size_in (constant_attr DW_AT_byte_size e).value
+  pub wide : o.wide ≡ (size_in (constant_attr DW_AT_byte_size e).value == 8)
   pub has_some : o.has_some ≡ false
   pub has_negative : o.has_negative ≡ false
   pub parts : o.parts.items ≡ []
   pub bare : o.fault_if_bare
-      ≡ noted (noted None (flag_asked DW_AT_declaration e).refused) (name_asked c e).refused
+      ≡ noted (noted None (flag_attr DW_AT_declaration e).refused) (name_attr c e).refused
   pub unsigned : o.fault_if_unsigned
-      ≡ noted (noted o.fault_if_bare (constant_asked DW_AT_byte_size e).refused)
-      (enum_size_refused e.at (constant_asked DW_AT_byte_size e).said)
+      ≡ noted (noted o.fault_if_bare (constant_attr DW_AT_byte_size e).refused)
+      (enum_size_refused e.at (constant_attr DW_AT_byte_size e).value)
   pub signed : o.fault_if_signed
-      ≡ noted (noted o.fault_if_bare (constant_asked DW_AT_byte_size e).refused)
-      (enum_size_refused e.at (constant_asked DW_AT_byte_size e).said)
+      ≡ noted (noted o.fault_if_bare (constant_attr DW_AT_byte_size e).refused)
+      (enum_size_refused e.at (constant_attr DW_AT_byte_size e).value)
 
 abbrev named : Sections → Given → List ℕ
-named c e = name_in_full (name_asked c e)
+named c e = name_in_full (name_attr c e)
 
 -- its row, by whether it has a name and no enumerator
 abbrev row_by : Sections → Given → Bool → Bool → List Given → Row
@@ -175,9 +175,9 @@ abbrev bare_of : Sections → Given → List Given → Bool
 bare_of c e kids = not (some_tagged DW_TAG_enumerator kids) && not (is_empty (named c e))
 
 row_open : (c : Sections) (e : Given) (kids : List Given)
-    → is_set (flag_asked DW_AT_declaration e) ≡ false
+    → is_set (flag_attr DW_AT_declaration e) ≡ false
     → enumeration_row c e kids
-    ≡ with_refused ((flag_asked DW_AT_declaration e).refused ++ (name_asked c e).refused)
+    ≡ with_refused ((flag_attr DW_AT_declaration e).refused ++ (name_attr c e).refused)
     (row_by c e (bare_of c e kids) (some_is is_negative (tagged DW_TAG_enumerator kids))
     (tagged DW_TAG_enumerator kids))
 row_open c e kids h = rw h refl
@@ -188,10 +188,10 @@ made_by c e bare negative enumerators =
       at = e.at;
       label = if bare
           then enumeration_label false (named c e) false 4 []
-          else enumeration_label (size_in (constant_asked DW_AT_byte_size e).said == 8)
+          else enumeration_label (size_in (constant_attr DW_AT_byte_size e).value == 8)
           (named c e) negative
-          (size_in (constant_asked DW_AT_byte_size e).said)
-          (map (enumerator_part c (size_in (constant_asked DW_AT_byte_size e).said == 8))
+          (size_in (constant_attr DW_AT_byte_size e).value)
+          (map (enumerator_part c (size_in (constant_attr DW_AT_byte_size e).value == 8))
           enumerators);
       targets = [];
     }
@@ -219,18 +219,18 @@ by_way false x y fs r q h k = k
 
 module _ (c : Sections) (e : Given) (o : OpenEnumeration) (h : IsFresh c e o) where
   bare_way : o.fault_if_bare
-      ≡ noted None (((flag_asked DW_AT_declaration e).refused ++ (name_asked c e).refused)
+      ≡ noted None (((flag_attr DW_AT_declaration e).refused ++ (name_attr c e).refused)
       ++ (bare_row (named c e) e false).refused)
   bare_way =
       h.bare ∙ sym
-      (noted_append None (flag_asked DW_AT_declaration e).refused (name_asked c e).refused)
+      (noted_append None (flag_attr DW_AT_declaration e).refused (name_attr c e).refused)
       ∙ ap (λ (fs : List TypeFault). noted None fs)
-      (sym (append-nil ((flag_asked DW_AT_declaration e).refused ++ (name_asked c e).refused)))
+      (sym (append-nil ((flag_attr DW_AT_declaration e).refused ++ (name_attr c e).refused)))
 
   enumerated_way : (kids : List Given) (negative : Bool)
       → enumerated c o negative
       (length (map (enumerator_part c o.wide) (tagged DW_TAG_enumerator kids))) kids
-      ≡ noted None (((flag_asked DW_AT_declaration e).refused ++ (name_asked c e).refused)
+      ≡ noted None (((flag_attr DW_AT_declaration e).refused ++ (name_attr c e).refused)
       ++ (enumerated_row (named c e) e c negative (tagged DW_TAG_enumerator kids)).refused)
   enumerated_way kids negative =
       rw (
@@ -240,18 +240,18 @@ module _ (c : Sections) (e : Given) (o : OpenEnumeration) (h : IsFresh c e o) wh
         h.at,
         length-map
             (tagged DW_TAG_enumerator kids)
-            (enumerator_part c (size_in (constant_asked DW_AT_byte_size e).said == 8)),
+            (enumerator_part c (size_in (constant_attr DW_AT_byte_size e).value == 8)),
       )
-      (several (flag_asked DW_AT_declaration e).refused (name_asked c e).refused
-      (constant_asked DW_AT_byte_size e).refused
-      (enum_size_refused e.at (constant_asked DW_AT_byte_size e).said)
-      (refused_by
-      (enumerator_refused c (size_in (constant_asked DW_AT_byte_size e).said == 8) negative)
+      (several (flag_attr DW_AT_declaration e).refused (name_attr c e).refused
+      (constant_attr DW_AT_byte_size e).refused
+      (enum_size_refused e.at (constant_attr DW_AT_byte_size e).value)
+      (refusals_by
+      (enumerator_refused c (size_in (constant_attr DW_AT_byte_size e).value == 8) negative)
       (tagged DW_TAG_enumerator kids)) (too_many e.at (length (tagged DW_TAG_enumerator kids))))
 
   fresh_refused : (kids : List Given) → enumeration_refused c o kids
       ≡ noted None
-      (((flag_asked DW_AT_declaration e).refused ++ (name_asked c e).refused) ++ (row_by c e
+      (((flag_attr DW_AT_declaration e).refused ++ (name_attr c e).refused) ++ (row_by c e
       (bare_of c e kids) (some_is is_negative (tagged DW_TAG_enumerator kids))
       (tagged DW_TAG_enumerator kids)).refused)
   fresh_refused kids =
@@ -265,7 +265,7 @@ module _ (c : Sections) (e : Given) (o : OpenEnumeration) (h : IsFresh c e o) wh
       refused_is c o kids
       ∙ rw (ways, n, p)
       (by_way (bare_of c e kids) _ _
-      ((flag_asked DW_AT_declaration e).refused ++ (name_asked c e).refused)
+      ((flag_attr DW_AT_declaration e).refused ++ (name_attr c e).refused)
       (bare_row (named c e) e false) (enumerated_row (named c e) e c negative
       (tagged DW_TAG_enumerator kids)) bare_way (enumerated_way kids negative))
 
@@ -275,20 +275,20 @@ module _ (c : Sections) (e : Given) (o : OpenEnumeration) (h : IsFresh c e o) wh
   fresh_made kids =
       made_is c o kids ∙ rw (h.at, h.name, h.has_some, h.has_negative, h.parts, h.size, h.wide) refl
 
-  came_made : is_set (flag_asked DW_AT_declaration e) ≡ false → (kids : List Given)
+  came_made : is_set (flag_attr DW_AT_declaration e) ≡ false → (kids : List Given)
       → enumeration_made c o kids ≡ (enumeration_row c e kids).made
   came_made defined kids = fresh_made kids
       ∙ made_way c e (bare_of c e kids) (some_is is_negative (tagged DW_TAG_enumerator kids))
       (tagged DW_TAG_enumerator kids)
       ∙ ap (λ (r : Row). r.made) (sym (row_open c e kids defined))
 
-  came_refused : is_set (flag_asked DW_AT_declaration e) ≡ false → (kids : List Given)
+  came_refused : is_set (flag_attr DW_AT_declaration e) ≡ false → (kids : List Given)
       → enumeration_refused c o kids ≡ noted None (enumeration_row c e kids).refused
   came_refused defined kids =
       fresh_refused kids ∙ ap (λ (r : Row). noted None r.refused) (sym (row_open c e kids defined))
 
 pub enumeration_comes : (s : Scope) (e : Given) (b : Box OpenEnumeration Global)
-    → IsFresh s.sections e b.value → is_set (flag_asked DW_AT_declaration e) ≡ false
+    → IsFresh s.sections e b.value → is_set (flag_attr DW_AT_declaration e) ≡ false
     → ComesTo s (Enumeration b) (enumeration_row s.sections e)
 enumeration_comes s e b h defined = record {
   made = came_made s.sections e b.value h defined;

@@ -13,9 +13,9 @@ use Rattle.type_attributes.specs.declared.source.Target.TheVariants.{Void}
 use Rattle.type_attributes.specs.declared.fault.TypeFault.{TypeFault}
 use Rattle.type_attributes.specs.Scopes.{Scope}
 use Rattle.type_attributes.specs.Faults.{noted}
-use Rattle.type_attributes.specs.Attributes.{target_asked, target_of_type}
+use Rattle.type_attributes.specs.Attributes.{target_attr, target_of_type}
 use Rattle.type_attributes.specs.Children.{tagged}
-use Rattle.type_attributes.specs.Parts.{refused_by, some_tagged}
+use Rattle.type_attributes.specs.Parts.{refusals_by, some_tagged}
 use Rattle.c_types.specs.Functions.{parameter_part, parameter_target, parameter_refused, rest_part}
 use Rattle.c_types.specs.Functions.{function_row}
 use Rattle.c_types.specs.Opened.{empty_parts, empty_made, empty_refused, IsNewFunction}
@@ -34,7 +34,7 @@ made_is c o kids = refl
 
 refused_is : (c : Sections) (o : OpenFunction) (kids : List Given)
     → function_refused c o kids
-    ≡ noted o.least (refused_by (parameter_refused c) (tagged DW_TAG_formal_parameter kids)
+    ≡ noted o.least (refusals_by (parameter_refused c) (tagged DW_TAG_formal_parameter kids)
     ++ too_many o.at (length (all_parameters c o kids ++ rest_part (all_variadic o kids))))
 unfolding function_refused
 refused_is c o kids = refl
@@ -77,8 +77,9 @@ module _ (c : Sections) (e : Given) (o p : OpenFunction) (kids : List Given)
   function_met = made_is c p kids
       ∙ rw (variadic_met, parts_met, targets_met, g.at) (sym (made_is c o (e ∷ kids)))
 
-  noted_met : noted p.least (refused_by (parameter_refused c) (tagged DW_TAG_formal_parameter kids))
-      ≡ noted o.least (refused_by (parameter_refused c) (tagged DW_TAG_formal_parameter (e ∷ kids)))
+  noted_met : noted p.least (refusals_by (parameter_refused c)
+      (tagged DW_TAG_formal_parameter kids)) ≡ noted o.least
+      (refusals_by (parameter_refused c) (tagged DW_TAG_formal_parameter (e ∷ kids)))
   noted_met = notes DW_TAG_formal_parameter (parameter_refused c)
       (e ∷ kids) kids e o.least p.least _ refl g.least refl
 
@@ -89,10 +90,10 @@ module _ (c : Sections) (e : Given) (o p : OpenFunction) (kids : List Given)
       refused_is c p kids
       ∙ rw (variadic_met, parts_met, g.at)
       (noted_append p.least
-      (refused_by (parameter_refused c) (tagged DW_TAG_formal_parameter kids)) many
+      (refusals_by (parameter_refused c) (tagged DW_TAG_formal_parameter kids)) many
       ∙ ap (λ (x : Option TypeFault). noted x many) noted_met
       ∙ sym (noted_append o.least
-      (refused_by (parameter_refused c) (tagged DW_TAG_formal_parameter (e ∷ kids)))
+      (refusals_by (parameter_refused c) (tagged DW_TAG_formal_parameter (e ∷ kids)))
       many) ∙ sym (refused_is c o (e ∷ kids)))
 
 -- one that has gathered nothing
@@ -103,7 +104,7 @@ unfolding empty_made
 empty_made_is c at kids = refl
 
 empty_refused_is : (c : Sections) (at : ℕ) (kids : List Given) → empty_refused c at kids
-    ≡ noted None (refused_by (parameter_refused c) (tagged DW_TAG_formal_parameter kids)
+    ≡ noted None (refusals_by (parameter_refused c) (tagged DW_TAG_formal_parameter kids)
     ++ too_many at (length
     (empty_parts c kids ++ rest_part (some_tagged DW_TAG_unspecified_parameters kids))))
 unfolding empty_refused
@@ -155,8 +156,8 @@ empty_passes_refused c at e kids p u =
 
 -- a subroutine type begins
 pub function_comes : (s : Scope) (e : Given) (o : Box OpenFunction Global)
-    → IsNewFunction e.at (target_of_type e.at (target_asked s.sections e))
-    (noted None (target_asked s.sections e).refused) o.value
+    → IsNewFunction e.at (target_of_type e.at (target_attr s.sections e))
+    (noted None (target_attr s.sections e).refused) o.value
     → ComesTo s (Function o) (function_row s.sections e)
 function_comes s e o h =
     let c = s.sections in
@@ -165,12 +166,12 @@ function_comes s e o h =
           ∙ rw (h.at_is, h.parts, h.targets, h.variadic) refl;
       refused = λ kids. refused_is c o.value kids
           ∙ rw (h.at_is, h.parts, h.variadic, h.least_is)
-          (sym (noted_append None (target_asked c e).refused _));
+          (sym (noted_append None (target_attr c e).refused _));
     }
 
 pub empty_comes : (s : Scope) (e : Given)
-    → target_of_type e.at (target_asked s.sections e) ≡ Void
-    → noted None (target_asked s.sections e).refused ≡ None
+    → target_of_type e.at (target_attr s.sections e) ≡ Void
+    → noted None (target_attr s.sections e).refused ≡ None
     → ComesTo s (EmptyFunction e.at) (function_row s.sections e)
 empty_comes s e is none =
     let c = s.sections in
@@ -178,9 +179,9 @@ empty_comes s e is none =
       made = λ kids. empty_made_is c e.at kids ∙ rw (← is) refl;
       refused = λ kids. empty_refused_is c e.at kids
           ∙ ap (λ (x : Option TypeFault). noted x
-          (refused_by (parameter_refused c) (tagged DW_TAG_formal_parameter kids)
+          (refusals_by (parameter_refused c) (tagged DW_TAG_formal_parameter kids)
           ++ too_many e.at (length
           (empty_parts c kids ++ rest_part (some_tagged DW_TAG_unspecified_parameters kids)))))
           (sym none)
-          ∙ sym (noted_append None (target_asked c e).refused _);
+          ∙ sym (noted_append None (target_attr c e).refused _);
     }

@@ -11,8 +11,8 @@ use Rattle.c_types.specs.declared.open.OpenPointer.{OpenPointer}
 use Rattle.type_attributes.specs.declared.source.Target.{Target}
 use Rattle.type_attributes.specs.declared.source.Target.TheVariants.{Entry}
 use Rattle.type_attributes.specs.Scopes.{Scope}
-use Rattle.type_attributes.specs.Attributes.{name_asked, name_in_full}
-use Rattle.c_types.specs.Pointers.{is_type_tag, link_to, is_tag_entry, tag_asked, tag_in}
+use Rattle.type_attributes.specs.Attributes.{name_attr, name_in_full}
+use Rattle.c_types.specs.Pointers.{is_type_tag, link_to, is_tag_entry, tag_attr, tag_in}
 use Rattle.c_types.specs.Opened.{pointer_by, pointer_made}
 use Rattle.c_types.specs.Types.{row_of}
 use Rattle.type_attributes.specs.declared.tags.TheConstants.{DW_TAG_GNU_annotation}
@@ -43,12 +43,12 @@ pointer_linked c e o kids tagged =
 -- what a type tag is
 pub tag_is : (c : Sections) (e : Given) → is_type_tag c e
     ≡ (e.tag == DW_TAG_GNU_annotation
-    && bytes_eq (name_in_full (name_asked c e)) (codes "btf_type_tag"))
+    && bytes_eq (name_in_full (name_attr c e)) (codes "btf_type_tag"))
 unfolding is_type_tag
 tag_is c e = refl
 
 pub tag_by : (c : Sections) (e : Given) (b : Bool) → e.tag ≡ DW_TAG_GNU_annotation
-    → b ≡ bytes_eq (name_in_full (name_asked c e)) (codes "btf_type_tag") → is_type_tag c e ≡ b
+    → b ≡ bytes_eq (name_in_full (name_attr c e)) (codes "btf_type_tag") → is_type_tag c e ≡ b
 tag_by c e b is named = tag_is c e ∙ rw is (sym named)
 
 pub other_tag : (c : Sections) (e : Given) → e.tag ≢ DW_TAG_GNU_annotation → is_type_tag c e ≡ false
@@ -69,9 +69,9 @@ told_by false m n is = absurd (none-some n is)
 
 pub tag_told : (c : Sections) (e : Given) (n : List ℕ) (own : Target) (t : Bool)
     → tag_in c (if t then Some own else None) e ≡ Some n
-    → (t ≡ true) × (is_type_tag c e ≡ true) × (n ≡ name_in_full (tag_asked c e))
+    → (t ≡ true) × (is_type_tag c e ≡ true) × (n ≡ name_in_full (tag_attr c e))
 tag_told c e n own true is = let t =
-    told_by (is_type_tag c e) (name_in_full (tag_asked c e)) n is in (refl, t.0, t.1)
+    told_by (is_type_tag c e) (name_in_full (tag_attr c e)) n is in (refl, t.0, t.1)
 tag_told c e n own false is = absurd (none-some n is)
 
 pub tag_untold : (c : Sections) (e : Given) (n : List ℕ) (pointed : Option Target) → pointed ≡ None
@@ -84,11 +84,11 @@ pub tag_is_annotation : (c : Sections) (pointed : Option Target) (e : Given) (n 
 tag_is_annotation c None e n is = absurd (none-some n is)
 tag_is_annotation c (Some own) e n is =
     let both : (e.tag == DW_TAG_GNU_annotation
-    && bytes_eq (name_in_full (name_asked c e)) (codes "btf_type_tag"))
+    && bytes_eq (name_in_full (name_attr c e)) (codes "btf_type_tag"))
     ≡ true = sym (tag_is c e)
-    ∙ (told_by (is_type_tag c e) (name_in_full (tag_asked c e)) n is).0 in
+    ∙ (told_by (is_type_tag c e) (name_in_full (tag_attr c e)) n is).0 in
     eqb-true e.tag DW_TAG_GNU_annotation (and_parts (e.tag == DW_TAG_GNU_annotation)
-    (bytes_eq (name_in_full (name_asked c e)) (codes "btf_type_tag")) both).0
+    (bytes_eq (name_in_full (name_attr c e)) (codes "btf_type_tag")) both).0
 
 untold_by : (b : Bool) (m : List ℕ) → None ≡ (if b then Some m else None) → b ≡ false
 untold_by true m is = absurd (none-some m is)
@@ -96,7 +96,7 @@ untold_by false m is = refl
 
 pub no_tag_entry : (c : Sections) (pointed : Option Target) (e : Given) → None ≡ tag_in c pointed e
     → is_tag_entry c pointed e ≡ false
-no_tag_entry c pointed e is = untold_by (is_tag_entry c pointed e) (name_in_full (tag_asked c e)) is
+no_tag_entry c pointed e is = untold_by (is_tag_entry c pointed e) (name_in_full (tag_attr c e)) is
 
 -- a tag entry has no row
 pub tag_rowless : (c : Scope) (e : Given) (es : List Given) → e.tag ≡ DW_TAG_GNU_annotation

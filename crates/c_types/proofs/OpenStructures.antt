@@ -13,11 +13,11 @@ use Rattle.c_types.specs.declared.open.OpenType.TheVariants.{Structure}
 use Rattle.type_attributes.specs.declared.fault.TypeFault.{TypeFault}
 use Rattle.type_attributes.specs.Scopes.{Scope}
 use Rattle.type_attributes.specs.Faults.{noted}
-use Rattle.type_attributes.specs.Attributes.{has, flag_asked, is_set, name_asked, name_in_full}
-use Rattle.type_attributes.specs.Attributes.{constant_asked}
+use Rattle.type_attributes.specs.Attributes.{has, flag_attr, is_set, name_attr, name_in_full}
+use Rattle.type_attributes.specs.Attributes.{constant_attr}
 use Rattle.type_attributes.specs.Children.{tagged}
-use Rattle.type_attributes.specs.Labels.{size_in, size_refused}
-use Rattle.type_attributes.specs.Parts.{refused_by}
+use Rattle.type_attributes.specs.Labels.{size_in, size_refusals}
+use Rattle.type_attributes.specs.Parts.{refusals_by}
 use Rattle.c_types.specs.Taking.{refused_if}
 use Rattle.type_attributes.specs.Positions.{position_of}
 use Rattle.c_types.specs.Structures.{or_zero, near, defined_row, structure_row, member_part}
@@ -36,7 +36,7 @@ unfolding structure_made
 made_is c o kids = refl
 
 refused_is : (c : Scope) (o : OpenStructure) (kids : List Given)
-    → structure_refused c o kids ≡ noted (own o (all_fields o kids)) (refused_by (member_refused c
+    → structure_refused c o kids ≡ noted (own o (all_fields o kids)) (refusals_by (member_refused c
     (all_fields o kids)) (tagged DW_TAG_member kids)
     ++ too_many o.at (length (all_members c o kids)))
 unfolding structure_refused
@@ -97,9 +97,9 @@ module _ (c : Scope) (e : Given) (o p : OpenStructure) (kids : List Given)
   ) (sym (made_is c o (e ∷ kids)))
 
   noted_met : (fields : Bool)
-      → noted (own p fields) (refused_by (member_refused c fields) (tagged DW_TAG_member kids))
+      → noted (own p fields) (refusals_by (member_refused c fields) (tagged DW_TAG_member kids))
       ≡ noted (own o fields)
-      (refused_by (member_refused c fields) (tagged DW_TAG_member (e ∷ kids)))
+      (refusals_by (member_refused c fields) (tagged DW_TAG_member (e ∷ kids)))
   noted_met fields = notes DW_TAG_member (member_refused c fields) (e ∷ kids) kids e (own o fields)
       (own p fields) _ refl (own_gathers c e o p g fields) refl
 
@@ -110,9 +110,9 @@ module _ (c : Scope) (e : Given) (o p : OpenStructure) (kids : List Given)
       refused_is c p kids
       ∙ rw (fields_met, members_met, g.at)
       (noted_append (own p fields)
-      (refused_by (member_refused c fields) (tagged DW_TAG_member kids)) many
+      (refusals_by (member_refused c fields) (tagged DW_TAG_member kids)) many
       ∙ ap (λ (x : Option TypeFault). noted x many) (noted_met fields)
-      ∙ sym (noted_append (own o fields) (refused_by (member_refused c fields)
+      ∙ sym (noted_append (own o fields) (refusals_by (member_refused c fields)
       (tagged DW_TAG_member (e ∷ kids))) many) ∙ sym (refused_is c o (e ∷ kids)))
 
 -- a structure begins
@@ -124,8 +124,8 @@ near_near p false e = let far : nat_lt p (2 ^ 24) ≡ false =
 
 part_same : (c : Scope) (fields : Bool) (m : Given)
     → part_from fields (kept_of c m) ≡ member_part c fields m
-part_same c true m = rw (near_near (or_zero (position_of c m).said)
-    (nat_lt (or_zero (position_of c m).said) (2 ^ 32)) refl) refl
+part_same c true m = rw (near_near (or_zero (position_of c m).value)
+    (nat_lt (or_zero (position_of c m).value) (2 ^ 32)) refl) refl
 part_same c false m = refl
 
 parts_same : (c : Scope) (fields : Bool) (ms : List Given)
@@ -140,8 +140,8 @@ pub record IsFresh (c : Scope) (union : Bool) (e : Given) (found : Option TypeFa
   pub fields : o.fields ≡ false
   pub at : o.at ≡ e.at
   pub is_union : o.is_union ≡ union
-  pub name : o.name ≡ name_in_full (name_asked c.sections e)
-  pub size : o.size ≡ size_in (constant_asked DW_AT_byte_size e).said
+  pub name : o.name ≡ name_in_full (name_attr c.sections e)
+  pub size : o.size ≡ size_in (constant_attr DW_AT_byte_size e).value
   pub plain : o.fault_if_plain ≡ found
   pub packed : o.fault_if_packed ≡ found
 
@@ -167,7 +167,7 @@ fresh_own o found false p q = p
 
 fresh_refused : (c : Scope) (union : Bool) (e : Given) (found : Option TypeFault)
     (o : OpenStructure) (kids : List Given) → IsFresh c union e found o
-    → structure_refused c o kids ≡ noted found (refused_by (member_refused c (has_fields
+    → structure_refused c o kids ≡ noted found (refusals_by (member_refused c (has_fields
     (tagged DW_TAG_member kids))) (tagged DW_TAG_member kids)
     ++ too_many e.at (length (tagged DW_TAG_member kids)))
 fresh_refused c union e found o kids h =
@@ -184,20 +184,20 @@ begun : (found : Option TypeFault) (f n s r x : List TypeFault) → found ≡ no
 begun found f n s r x e = rw e (simp noted_append)
 
 row_defined : (c : Scope) (union : Bool) (e : Given) (kids : List Given)
-    → is_set (flag_asked DW_AT_declaration e) ≡ false
+    → is_set (flag_attr DW_AT_declaration e) ≡ false
     → ((structure_row c union e kids).made
     ≡ (defined_row c union e (tagged DW_TAG_member kids)).made)
     × ((structure_row c union e kids).refused
-    ≡ (flag_asked DW_AT_declaration e).refused
+    ≡ (flag_attr DW_AT_declaration e).refused
     ++ (defined_row c union e (tagged DW_TAG_member kids)).refused)
 row_defined c union e kids h = (rw h refl, rw h refl)
 
 pub structure_comes : (c : Scope) (union : Bool) (e : Given) (declared found : Option TypeFault)
-    (b : Box OpenStructure Global) → is_set (flag_asked DW_AT_declaration e) ≡ false
-    → declared ≡ noted None (flag_asked DW_AT_declaration e).refused
-    → found ≡ noted (noted (noted declared (name_asked c.sections e).refused)
-    (constant_asked DW_AT_byte_size e).refused)
-    (size_refused e.at (constant_asked DW_AT_byte_size e).said)
+    (b : Box OpenStructure Global) → is_set (flag_attr DW_AT_declaration e) ≡ false
+    → declared ≡ noted None (flag_attr DW_AT_declaration e).refused
+    → found ≡ noted (noted (noted declared (name_attr c.sections e).refused)
+    (constant_attr DW_AT_byte_size e).refused)
+    (size_refusals e.at (constant_attr DW_AT_byte_size e).value)
     → IsFresh c union e found b.value → ComesTo c (Structure b) (structure_row c union e)
 structure_comes c union e declared found b defined d f h =
     let o = b.value in
@@ -205,22 +205,22 @@ structure_comes c union e declared found b defined d f h =
       made =
           λ kids. fresh_made c union e found o kids h ∙ sym (row_defined c union e kids defined).0;
       refused = λ kids.
-          let x = refused_by (member_refused c (has_fields (tagged DW_TAG_member kids)))
+          let x = refusals_by (member_refused c (has_fields (tagged DW_TAG_member kids)))
           (tagged DW_TAG_member kids)
           ++ too_many e.at (length (tagged DW_TAG_member kids)) in
-          let s = constant_asked DW_AT_byte_size e in
+          let s = constant_attr DW_AT_byte_size e in
           let all : found
-          ≡ noted (noted (noted (noted None (flag_asked DW_AT_declaration e).refused)
-          (name_asked c.sections e).refused) (constant_asked DW_AT_byte_size e).refused)
-          (size_refused e.at (constant_asked DW_AT_byte_size e).said) =
+          ≡ noted (noted (noted (noted None (flag_attr DW_AT_declaration e).refused)
+          (name_attr c.sections e).refused) (constant_attr DW_AT_byte_size e).refused)
+          (size_refusals e.at (constant_attr DW_AT_byte_size e).value) =
           f ∙ ap (λ (y : Option TypeFault). noted
-          (noted (noted y (name_asked c.sections e).refused)
-          (constant_asked DW_AT_byte_size e).refused)
-          (size_refused e.at (constant_asked DW_AT_byte_size e).said)) d in
+          (noted (noted y (name_attr c.sections e).refused)
+          (constant_attr DW_AT_byte_size e).refused)
+          (size_refusals e.at (constant_attr DW_AT_byte_size e).value)) d in
           fresh_refused c union e found o kids h
-          ∙ begun found (flag_asked DW_AT_declaration e).refused
-          (name_asked c.sections e).refused s.refused
-          (size_refused e.at s.said) x all
+          ∙ begun found (flag_attr DW_AT_declaration e).refused
+          (name_attr c.sections e).refused s.refused
+          (size_refusals e.at s.value) x all
           ∙ ap
           (λ (fs : List TypeFault). noted None fs) (sym (row_defined c union e kids defined).1);
     }

@@ -27,7 +27,7 @@ use Rattle.c_types.specs.Parents.{parent_in}
 use Rattle.type_attributes.specs.Attributes.{name_in_full}
 use Rattle.type_attributes.specs.Labels.{Row}
 use Rattle.c_types.specs.Pointers.{is_type_tag, own_target, link_to, pointer_row, own_of_pointer}
-use Rattle.c_types.specs.Pointers.{pointed_in, tag_asked, tag_in, tag_type, tag_made}
+use Rattle.c_types.specs.Pointers.{pointed_in, tag_attr, tag_in, tag_type, tag_made}
 use Rattle.c_types.specs.Opened.{pointer_by, pointer_made, kept_made, kept_refused, ComesTo}
 use Rattle.c_types.specs.Types.{listed}
 use Rattle.c_types.specs.Walking.{made_at, refused_at, filled, least_of, AreNested}
@@ -266,7 +266,7 @@ module _ (c : Scope) (left : List Open) (o : Open) (q : OpenPointer) (e : Given)
   own = ap own_of kept
 
   told : ((o.depth + 1 == e.depth) ≡ true) × (is_type_tag c.sections e ≡ true)
-      × (n ≡ name_in_full (tag_asked c.sections e))
+      × (n ≡ name_in_full (tag_attr c.sections e))
   told = tag_told c.sections e n q.own (o.depth + 1 == e.depth)
       (ap (λ (x : Option Target). tag_in c.sections x e) (sym (pointed_last left o e.depth nested lt
       ∙ ap (λ (x : Option Target). if o.depth + 1 == e.depth then x else None) own)) ∙ tag)

@@ -38,7 +38,7 @@ use Rattle.c_types.specs.declared.open.LastPointer.{LastPointer}
 use Rattle.c_types.specs.Readings.{types_with, least_with, with_pointer, IsFirst, IsKept}
 use Rattle.std.proofs.lemmas.List.{append-nil}
 use Rattle.std.proofs.lemmas.Option.{none-some}
-use Rattle.type_attributes.specs.Attributes.{target_asked}
+use Rattle.type_attributes.specs.Attributes.{target_attr}
 use Rattle.c_types.specs.Pointers.{own_target, pointer_row}
 use Rattle.c_types.specs.Types.{made_in, refused_in}
 use Rattle.c_types.specs.Walking.{opened_pointer}
@@ -339,7 +339,7 @@ made_some row t h = rw h refl
 pub pointer_taken : (s : Scope) (e : Given) (depth at : ℕ) (own : Target) (old new : Read)
     → depth ≡ e.depth → at ≡ e.at → own ≡ own_target s.sections e
     → Takes s depth (Some own) (λ es. pointer_at s at own (children_of depth es) ∷ [])
-    (λ es. (target_asked s.sections e).refused) old new
+    (λ es. (target_attr s.sections e).refused) old new
     → TakesRow s e (Some (own_target s.sections e)) (pointer_row s.sections e) old new
 pointer_taken s e depth at own old new same place owns h =
     let p : LastPointer = record { depth = depth; index = 0; at = at; own = own } in

@@ -16,7 +16,7 @@ use Rattle.type_attributes.specs.declared.number.Number.TheVariants.{Natural, Ne
 use Rattle.type_attributes.specs.declared.fault.TypeFault.TheVariants.{MissingType, ArrayLength}
 use Rattle.type_attributes.specs.Faults.{refuse_if}
 use Rattle.type_attributes.specs.Numbers.{number_from}
-use Rattle.type_attributes.specs.Attributes.{has, target_asked, target_of_type}
+use Rattle.type_attributes.specs.Attributes.{has, target_attr, target_of_type}
 use Rattle.type_attributes.specs.Children.{tagged}
 use Rattle.type_attributes.specs.Labels.{Row, type_of}
 use Rattle.dwarf_abbrev.specs.declared.constants.TheConstants.{DW_AT_count, DW_AT_type}
@@ -99,7 +99,7 @@ elements_in lengths = if is_refused lengths then 0 else elements_of lengths
 -- an array has a type, and refers to the unit's type of indices besides
 abbrev pub array_row : Sections → Given → List Given → Row
 array_row c e children =
-    let target = target_asked c e in
+    let target = target_attr c e in
     let lengths = lengths_of children in
     record {
       made =

@@ -15,11 +15,11 @@ use Rattle.type_attributes.specs.declared.fault.TypeFault.TheVariants.{UnnamedFo
 use Rattle.type_attributes.specs.declared.fault.TypeFault.TheVariants.{EnumValue, TooMany}
 use Rattle.type_attributes.specs.Faults.{refuse_if}
 use Rattle.type_attributes.specs.Numbers.{number_from}
-use Rattle.type_attributes.specs.Attributes.{name_asked, name_in_full, constant_asked, number_said}
-use Rattle.type_attributes.specs.Attributes.{flag_asked, is_set}
+use Rattle.type_attributes.specs.Attributes.{name_attr, name_in_full, constant_attr, number_value}
+use Rattle.type_attributes.specs.Attributes.{flag_attr, is_set}
 use Rattle.type_attributes.specs.Children.{tagged}
 use Rattle.type_attributes.specs.Labels.{Row, type_of, is_empty, size_in}
-use Rattle.type_attributes.specs.Parts.{part_of, refused_by, some_is, some_tagged, most}
+use Rattle.type_attributes.specs.Parts.{part_of, refusals_by, some_is, some_tagged, most}
 use Rattle.c_types.specs.Structures.{with_refused}
 use Rattle.dwarf_abbrev.specs.declared.constants.TheConstants.{DW_AT_byte_size, DW_AT_const_value}
 use Rattle.dwarf_abbrev.specs.declared.constants.TheConstants.{DW_AT_declaration, DW_TAG_enumerator}
@@ -30,7 +30,7 @@ negative (Some (Negative n)) = true
 negative other = false
 
 abbrev pub is_negative : Given → Bool
-is_negative e = negative (number_said (constant_asked DW_AT_const_value e))
+is_negative e = negative (number_value (constant_attr DW_AT_const_value e))
 
 -- the numbers below which values are, and their opposites at or above which: an eighth byte makes
 -- 64 bits of them
@@ -60,15 +60,15 @@ residue_in wide (Some n) = residue wide n
 
 abbrev pub enumerator_part : Sections → Bool → Given → Part
 enumerator_part c wide e =
-    part_of (name_in_full (name_asked c e))
-    (residue_in wide (number_said (constant_asked DW_AT_const_value e)))
+    part_of (name_in_full (name_attr c e))
+    (residue_in wide (number_value (constant_attr DW_AT_const_value e)))
 
 abbrev pub enumerator_refused : Sections → Bool → Bool → Given → List TypeFault
 enumerator_refused c wide signed e =
-    (name_asked c e).refused
-    ++ (refuse_if (is_empty (name_in_full (name_asked c e))) (MissingName e.at)
-    ++ ((constant_asked DW_AT_const_value e).refused
-    ++ value_refused e.at wide signed (number_said (constant_asked DW_AT_const_value e))))
+    (name_attr c e).refused
+    ++ (refuse_if (is_empty (name_in_full (name_attr c e))) (MissingName e.at)
+    ++ ((constant_attr DW_AT_const_value e).refused
+    ++ value_refused e.at wide signed (number_value (constant_attr DW_AT_const_value e))))
 
 -- its size is 1, 2, 4 or 8
 abbrev pub is_size : ℕ → Bool
@@ -95,15 +95,15 @@ enumeration_label wide name signed size parts = record {
 -- the size that is given, and one of 8 bytes makes an ENUM64
 abbrev pub enumerated_row : List ℕ → Given → Sections → Bool → List Given → Row
 enumerated_row name e c signed enumerators =
-    let size = constant_asked DW_AT_byte_size e in
-    let wide = size_in size.said == 8 in
+    let size = constant_attr DW_AT_byte_size e in
+    let wide = size_in size.value == 8 in
     record {
-      made = type_of e (enumeration_label wide name signed (size_in size.said)
+      made = type_of e (enumeration_label wide name signed (size_in size.value)
           (map (enumerator_part c wide) enumerators)) [];
       refused =
           size.refused
-          ++ (enum_size_refused e.at size.said
-          ++ (refused_by (enumerator_refused c wide signed) enumerators
+          ++ (enum_size_refused e.at size.value
+          ++ (refusals_by (enumerator_refused c wide signed) enumerators
           ++ refuse_if (nat_lt most (length enumerators)) (TooMany e.at (length enumerators))));
     }
 
@@ -123,8 +123,8 @@ is_bare declared name children =
 -- where a value is negative, the enumeration is signed
 abbrev pub enumeration_row : Sections → Given → List Given → Row
 enumeration_row c e children =
-    let declared = flag_asked DW_AT_declaration e in
-    let name = name_asked c e in
+    let declared = flag_attr DW_AT_declaration e in
+    let name = name_attr c e in
     with_refused (declared.refused ++ name.refused)
     (if is_bare (is_set declared) (name_in_full name) children
     then bare_row (name_in_full name) e (is_set declared)

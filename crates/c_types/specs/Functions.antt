@@ -11,24 +11,24 @@ use Rattle.type_attributes.specs.declared.source.Target.TheVariants.{Void}
 use Rattle.type_attributes.specs.declared.fault.TypeFault.{TypeFault}
 use Rattle.type_attributes.specs.declared.fault.TypeFault.TheVariants.{MissingType, TooMany}
 use Rattle.type_attributes.specs.Faults.{refuse_if}
-use Rattle.type_attributes.specs.Attributes.{has, name_asked, name_in_full, target_asked}
+use Rattle.type_attributes.specs.Attributes.{has, name_attr, name_in_full, target_attr}
 use Rattle.type_attributes.specs.Attributes.{target_of_type}
 use Rattle.type_attributes.specs.Children.{tagged}
 use Rattle.type_attributes.specs.Labels.{Row, type_of}
-use Rattle.type_attributes.specs.Parts.{part_of, refused_by, some_tagged, most}
+use Rattle.type_attributes.specs.Parts.{part_of, refusals_by, some_tagged, most}
 use Rattle.dwarf_abbrev.specs.declared.constants.TheConstants.{DW_AT_type, DW_TAG_formal_parameter}
 use Rattle.dwarf_abbrev.specs.declared.constants.TheConstants.{DW_TAG_unspecified_parameters}
 
 abbrev pub parameter_part : Sections → Given → Part
-parameter_part c p = part_of (name_in_full (name_asked c p)) 0
+parameter_part c p = part_of (name_in_full (name_attr c p)) 0
 
 abbrev pub parameter_target : Sections → Given → Target
-parameter_target c p = target_of_type p.at (target_asked c p)
+parameter_target c p = target_of_type p.at (target_attr c p)
 
 -- a parameter has a type
 abbrev pub parameter_refused : Sections → Given → List TypeFault
-parameter_refused c p = (name_asked c p).refused
-    ++ ((target_asked c p).refused ++ refuse_if (not (has DW_AT_type p)) (MissingType p.at))
+parameter_refused c p = (name_attr c p).refused
+    ++ ((target_attr c p).refused ++ refuse_if (not (has DW_AT_type p)) (MissingType p.at))
 
 -- an unspecified_parameters entry (0x18) makes one last parameter without name and of void
 abbrev pub rest_part : Bool → List Part
@@ -60,12 +60,12 @@ function_targets c children =
 
 abbrev pub function_row : Sections → Given → List Given → Row
 function_row c e children =
-    let result = target_asked c e in
+    let result = target_attr c e in
     let parts = function_parts c children in
     record {
       made = type_of e (function_label parts)
           (target_of_type e.at result ∷ function_targets c children);
       refused = result.refused
-          ++ (refused_by (parameter_refused c) (tagged DW_TAG_formal_parameter children)
+          ++ (refusals_by (parameter_refused c) (tagged DW_TAG_formal_parameter children)
           ++ refuse_if (nat_lt most (length parts)) (TooMany e.at (length parts)));
     }

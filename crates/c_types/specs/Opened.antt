@@ -22,10 +22,10 @@ use Rattle.type_attributes.specs.declared.fault.TypeFault.{TypeFault}
 use Rattle.type_attributes.specs.declared.fault.TypeFault.TheVariants.{TooMany, ArrayLength}
 use Rattle.type_attributes.specs.Scopes.{Scope}
 use Rattle.type_attributes.specs.Faults.{noted, refuse_if}
-use Rattle.type_attributes.specs.Attributes.{has, name_asked, name_in_full, constant_asked}
+use Rattle.type_attributes.specs.Attributes.{has, name_attr, name_in_full, constant_attr}
 use Rattle.type_attributes.specs.Children.{tagged}
 use Rattle.type_attributes.specs.Labels.{Row, plain_label, is_empty}
-use Rattle.type_attributes.specs.Parts.{part_of, refused_by, some_is, some_tagged, most}
+use Rattle.type_attributes.specs.Parts.{part_of, refusals_by, some_is, some_tagged, most}
 use Rattle.type_attributes.specs.Positions.{position_of}
 use Rattle.c_types.specs.Structures.{or_zero, bits_in, near, member_target, member_refused}
 use Rattle.c_types.specs.Structures.{has_fields, structure_label}
@@ -48,10 +48,10 @@ too_many at count = refuse_if (nat_lt most count) (TooMany at count)
 -- what is kept of a member, and the part that it is once its structure is complete
 abbrev pub kept_of : Scope → Given → Member
 kept_of s m = record {
-  name = name_in_full (name_asked s.sections m);
+  name = name_in_full (name_attr s.sections m);
   bits = bits_in
-      (constant_asked DW_AT_bit_size m).said;
-  near = near false (or_zero (position_of s m).said);
+      (constant_attr DW_AT_bit_size m).value;
+  near = near false (or_zero (position_of s m).value);
 }
 
 abbrev pub part_from : Bool → Member → Part
@@ -86,7 +86,7 @@ own o fields = if fields then o.fault_if_packed else o.fault_if_plain
 
 unfoldable pub structure_refused : Scope → OpenStructure → List Given → Option TypeFault
 structure_refused s o kids =
-    noted (own o (all_fields o kids)) (refused_by (member_refused s (all_fields o kids))
+    noted (own o (all_fields o kids)) (refusals_by (member_refused s (all_fields o kids))
     (tagged DW_TAG_member kids) ++ too_many o.at (length (all_members s o kids)))
 
 -- of an open subroutine type: the parameters, their types behind that of the result, and whether
@@ -116,7 +116,7 @@ function_made c o kids =
 
 unfoldable pub function_refused : Sections → OpenFunction → List Given → Option TypeFault
 function_refused c o kids =
-    noted o.least (refused_by (parameter_refused c) (tagged DW_TAG_formal_parameter kids)
+    noted o.least (refusals_by (parameter_refused c) (tagged DW_TAG_formal_parameter kids)
     ++ too_many o.at (length (all_parameters c o kids ++ rest_part (all_variadic o kids))))
 
 -- of a subroutine type of `void` that has gathered nothing so far
@@ -130,7 +130,7 @@ empty_made c at kids =
 
 unfoldable pub empty_refused : Sections → ℕ → List Given → Option TypeFault
 empty_refused c at kids =
-    noted None (refused_by (parameter_refused c) (tagged DW_TAG_formal_parameter kids)
+    noted None (refusals_by (parameter_refused c) (tagged DW_TAG_formal_parameter kids)
     ++ too_many at (length
     (empty_parts c kids ++ rest_part (some_tagged DW_TAG_unspecified_parameters kids))))
 
@@ -176,7 +176,7 @@ own_sign o negative = if negative then o.fault_if_signed else o.fault_if_unsigne
 
 abbrev pub enumerated : Sections → OpenEnumeration → Bool → ℕ → List Given → Option TypeFault
 enumerated c o negative count kids = noted (own_sign o negative)
-    (refused_by (enumerator_refused c o.wide negative) (tagged DW_TAG_enumerator kids)
+    (refusals_by (enumerator_refused c o.wide negative) (tagged DW_TAG_enumerator kids)
     ++ too_many o.at count)
 
 unfoldable pub enumeration_refused : Sections → OpenEnumeration → List Given → Option TypeFault

@@ -14,8 +14,8 @@ use Rattle.type_attributes.specs.declared.source.Target.TheVariants.{Entry}
 use Rattle.type_attributes.specs.declared.fault.TypeFault.{TypeFault}
 use Rattle.type_attributes.specs.declared.fault.TypeFault.TheVariants.{MissingName}
 use Rattle.type_attributes.specs.Faults.{refuse_if}
-use Rattle.type_attributes.specs.Attributes.{Asked, text_asked, name_asked, name_in_full}
-use Rattle.type_attributes.specs.Attributes.{target_asked, target_of_type}
+use Rattle.type_attributes.specs.Attributes.{Attr, text_attr, name_attr, name_in_full}
+use Rattle.type_attributes.specs.Attributes.{target_attr, target_of_type}
 use Rattle.type_attributes.specs.Children.{children_of}
 use Rattle.type_attributes.specs.Labels.{Row, type_of, plain_label, is_empty}
 use Rattle.c_types.specs.Parents.{parent_in}
@@ -26,11 +26,11 @@ use Rattle.type_attributes.specs.declared.tags.TheConstants.{DW_TAG_GNU_annotati
 -- an annotation with the name of type tags
 unfoldable pub is_type_tag : Sections → Given → Bool
 is_type_tag c e = e.tag == DW_TAG_GNU_annotation
-    && bytes_eq (name_in_full (name_asked c e)) (codes "btf_type_tag")
+    && bytes_eq (name_in_full (name_attr c e)) (codes "btf_type_tag")
 
 -- the type that a pointer has of its own
 abbrev pub own_target : Sections → Given → Target
-own_target c p = target_of_type p.at (target_asked c p)
+own_target c p = target_of_type p.at (target_attr c p)
 
 -- the first type tag among some children of a pointer, which is referred to from a place; without
 -- one the pointer's own type
@@ -43,7 +43,7 @@ pointer_row c p children =
     record {
       made =
           type_of p (plain_label BTF_KIND_PTR [] 0) (link_to c p.at (own_target c p) children ∷ []);
-      refused = (target_asked c p).refused;
+      refused = (target_attr c p).refused;
     }
 
 -- the own type of the pointer that is the parent of an entry of a depth, where the parent is a
@@ -60,16 +60,16 @@ abbrev pub is_tag_entry : Sections → Option Target → Given → Bool
 is_tag_entry c pointed e = is_some pointed && is_type_tag c e
 
 -- the tag is the const_value (0x1c), read as a name
-abbrev pub tag_asked : Sections → Given → Asked (List ℕ)
-tag_asked c e = text_asked DW_AT_const_value c e
+abbrev pub tag_attr : Sections → Given → Attr (List ℕ)
+tag_attr c e = text_attr DW_AT_const_value c e
 
 abbrev pub tag_in : Sections → Option Target → Given → Option (List ℕ)
-tag_in c pointed e = if is_tag_entry c pointed e then Some (name_in_full (tag_asked c e)) else None
+tag_in c pointed e = if is_tag_entry c pointed e then Some (name_in_full (tag_attr c e)) else None
 
 -- its type, given the pointer's own type and the children of the pointer behind it
 abbrev pub tag_type : Sections → Target → Given → List Given → SourceType
 tag_type c own e later =
-    type_of e (plain_label BTF_KIND_TYPE_TAG (name_in_full (tag_asked c e)) 0)
+    type_of e (plain_label BTF_KIND_TYPE_TAG (name_in_full (tag_attr c e)) 0)
     (link_to c e.at own later ∷ [])
 
 abbrev pub tag_made : Sections → Option Target → Given → List Given → Option SourceType
@@ -78,12 +78,12 @@ tag_made c (Some own) e after = Some (tag_type c own e (children_of (e.depth - 1
 
 -- it has a tag that is not empty
 abbrev pub tag_refused : Sections → Given → List TypeFault
-tag_refused c e = (tag_asked c e).refused
-    ++ refuse_if (is_empty (name_in_full (tag_asked c e))) (MissingName e.at)
+tag_refused c e = (tag_attr c e).refused
+    ++ refuse_if (is_empty (name_in_full (tag_attr c e))) (MissingName e.at)
 
 -- the name of every annotation of a pointer is read, and the tag of a tag entry
 abbrev pub annotation_refused : Sections → Option Target → Given → List TypeFault
 annotation_refused c pointed e =
     if is_some pointed && e.tag == DW_TAG_GNU_annotation
-    then (name_asked c e).refused ++ (if is_type_tag c e then tag_refused c e else [])
+    then (name_attr c e).refused ++ (if is_type_tag c e then tag_refused c e else [])
     else []

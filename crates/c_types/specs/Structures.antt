@@ -16,11 +16,11 @@ use Rattle.type_attributes.specs.Scopes.{Scope}
 use Rattle.type_attributes.specs.Faults.{refuse_if}
 use Rattle.type_attributes.specs.Numbers.{number_from}
 use Rattle.type_attributes.specs.Positions.{position_of}
-use Rattle.type_attributes.specs.Attributes.{has, name_asked, name_in_full, constant_asked}
-use Rattle.type_attributes.specs.Attributes.{flag_asked, is_set, target_asked, target_of_type}
+use Rattle.type_attributes.specs.Attributes.{has, name_attr, name_in_full, constant_attr}
+use Rattle.type_attributes.specs.Attributes.{flag_attr, is_set, target_attr, target_of_type}
 use Rattle.type_attributes.specs.Children.{tagged}
-use Rattle.type_attributes.specs.Labels.{Row, type_of, is_empty, size_in, size_refused}
-use Rattle.type_attributes.specs.Parts.{part_of, refused_by, some_is, most}
+use Rattle.type_attributes.specs.Labels.{Row, type_of, is_empty, size_in, size_refusals}
+use Rattle.type_attributes.specs.Parts.{part_of, refusals_by, some_is, most}
 use Rattle.dwarf_abbrev.specs.declared.constants.TheConstants.{DW_AT_bit_size, DW_AT_byte_size}
 use Rattle.dwarf_abbrev.specs.declared.constants.TheConstants.{DW_AT_declaration, DW_AT_type}
 use Rattle.dwarf_abbrev.specs.declared.constants.TheConstants.{DW_TAG_member}
@@ -60,13 +60,14 @@ word_of fields position bits =
 
 abbrev pub member_word : Scope → Bool → Given → ℕ
 member_word s fields m =
-    word_of fields (or_zero (position_of s m).said) (bits_in (constant_asked DW_AT_bit_size m).said)
+    word_of fields (or_zero (position_of s m).value)
+    (bits_in (constant_attr DW_AT_bit_size m).value)
 
 abbrev pub member_part : Scope → Bool → Given → Part
-member_part s fields m = part_of (name_in_full (name_asked s.sections m)) (member_word s fields m)
+member_part s fields m = part_of (name_in_full (name_attr s.sections m)) (member_word s fields m)
 
 abbrev pub member_target : Scope → Given → Target
-member_target s m = target_of_type m.at (target_asked s.sections m)
+member_target s m = target_of_type m.at (target_attr s.sections m)
 
 abbrev pub far_refused : ℕ → Bool → ℕ → List TypeFault
 far_refused at fields position =
@@ -77,14 +78,14 @@ far_refused at fields position =
 abbrev pub place_refused : Scope → Bool → Given → List TypeFault
 place_refused s fields m =
     (position_of s m).refused
-    ++ ((constant_asked DW_AT_bit_size m).refused
-    ++ (bits_refused m.at (constant_asked DW_AT_bit_size m).said
-    ++ far_refused m.at fields (or_zero (position_of s m).said)))
+    ++ ((constant_attr DW_AT_bit_size m).refused
+    ++ (bits_refused m.at (constant_attr DW_AT_bit_size m).value
+    ++ far_refused m.at fields (or_zero (position_of s m).value)))
 
 -- and a type
 abbrev pub member_refused : Scope → Bool → Given → List TypeFault
 member_refused s fields m =
-    (name_asked s.sections m).refused ++ ((target_asked s.sections m).refused
+    (name_attr s.sections m).refused ++ ((target_attr s.sections m).refused
     ++ (refuse_if (not (has DW_AT_type m)) (MissingType m.at) ++ place_refused s fields m))
 
 -- some member is a bit field
@@ -108,7 +109,7 @@ structure_label union name size fields parts = record {
 -- a declared one has a name, and neither its size nor its members are read
 abbrev pub forward_row : Scope → Bool → Given → Row
 forward_row s union e =
-    let name = name_asked s.sections e in
+    let name = name_attr s.sections e in
     record {
       made = type_of e (forward_label union (name_in_full name)) [];
       refused = name.refused ++ refuse_if (is_empty (name_in_full name)) (UnnamedForward e.at);
@@ -116,14 +117,15 @@ forward_row s union e =
 
 abbrev pub defined_row : Scope → Bool → Given → List Given → Row
 defined_row s union e members =
-    let name = name_asked s.sections e in
-    let size = constant_asked DW_AT_byte_size e in
+    let name = name_attr s.sections e in
+    let size = constant_attr DW_AT_byte_size e in
     let fields = has_fields members in
     record {
-      made = type_of e (structure_label union (name_in_full name) (size_in size.said) fields
+      made = type_of e (structure_label union (name_in_full name) (size_in size.value) fields
           (map (member_part s fields) members)) (map (member_target s) members);
       refused = name.refused
-          ++ (size.refused ++ (size_refused e.at size.said ++ (refused_by (member_refused s fields)
+          ++ (size.refused
+          ++ (size_refusals e.at size.value ++ (refusals_by (member_refused s fields)
           members ++ refuse_if (nat_lt most (length members)) (TooMany e.at (length members)))));
     }
 
@@ -133,6 +135,6 @@ with_refused refused r = record { made = r.made; refused = refused ++ r.refused 
 
 abbrev pub structure_row : Scope → Bool → Given → List Given → Row
 structure_row s union e children =
-    with_refused (flag_asked DW_AT_declaration e).refused
-    (if is_set (flag_asked DW_AT_declaration e)
+    with_refused (flag_attr DW_AT_declaration e).refused
+    (if is_set (flag_attr DW_AT_declaration e)
     then forward_row s union e else defined_row s union e (tagged DW_TAG_member children))

@@ -7,7 +7,7 @@ ghost use Rattle.dwarf_forms.specs.Meanings.{Sections, sections, Fits64};
 ghost use Rattle.type_attributes.specs.Scopes.{scope};
 ghost use Rattle.type_attributes.specs.Faults.{noted};
 ghost use Rattle.type_attributes.specs.Labels.{is_empty};
-ghost use Rattle.type_attributes.specs.Attributes.{name_asked, name_in_full, flag_asked, is_set};
+ghost use Rattle.type_attributes.specs.Attributes.{name_attr, name_in_full, flag_attr, is_set};
 ghost use Rattle.c_types.specs.Enumerations.{negative, is_negative, top, is_in_range};
 ghost use Rattle.c_types.specs.Enumerations.{value_refused, power, residue, residue_in};
 ghost use Rattle.c_types.specs.Enumerations.{enumerator_part, enumerator_refused, is_size};
@@ -28,7 +28,7 @@ use entry_tree::Entry;
 use std::alloc::{AllocError, Global};
 use type_attributes::attributes::{constant, name, signed_constant};
 use type_attributes::fault::{TypeFault, note, note_found, note_if};
-use type_attributes::labels::{MOST, given_size, is_unnamed, no_targets};
+use type_attributes::labels::{MOST, is_unnamed, no_targets, size_or_zero};
 use type_attributes::number::{Number, by_sign};
 use type_attributes::scope::UnitCtx;
 use type_attributes::source::SourceType;
@@ -321,8 +321,8 @@ pub(crate) fn open_enumeration<'a>(
     entry: &Entry<'_, 'a>,
     declared: Option<TypeFault>,
 ) -> Result<Box<OpenEnumeration<'a>>, AllocError>
-    requires defined { is_set (flag_asked DW_AT_declaration entry.now) ≡ false }
-    requires declared { declared ≡ noted None (flag_asked DW_AT_declaration entry.now).refused }
+    requires defined { is_set (flag_attr DW_AT_declaration entry.now) ≡ false }
+    requires declared { declared ≡ noted None (flag_attr DW_AT_declaration entry.now).refused }
     ensures { IfOk result (λ o. ComesTo (scope ctx.now) (Enumeration o)
         (enumeration_row (sections ctx.now.form) entry.now)) }
 {
@@ -332,7 +332,7 @@ pub(crate) fn open_enumeration<'a>(
     let mut found = fault_if_bare;
     let size = constant(entry, DW_AT_byte_size, &mut found);
     note_enum_size(&mut found, at, size);
-    let size = given_size(size);
+    let size = size_or_zero(size);
     let enumeration = OpenEnumeration {
         at,
         name,
@@ -356,10 +356,10 @@ pub(crate) fn declared_enumeration<'a>(
     entry: &Entry<'_, 'a>,
     least: &mut Option<TypeFault>,
 ) -> SourceType<'a>
-    ensures made { result ≡ (bare_row (name_in_full (name_asked (sections ctx.now)
+    ensures made { result ≡ (bare_row (name_in_full (name_attr (sections ctx.now)
         entry.now)) entry.now true).made }
-    ensures noted { least.new ≡ noted least.old ((name_asked (sections ctx.now)
-        entry.now).refused ++ (bare_row (name_in_full (name_asked (sections ctx.now)
+    ensures noted { least.new ≡ noted least.old ((name_attr (sections ctx.now)
+        entry.now).refused ++ (bare_row (name_in_full (name_attr (sections ctx.now)
         entry.now)) entry.now true).refused) }
 {
     let name = name(ctx, entry, least);

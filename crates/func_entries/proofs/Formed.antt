@@ -9,7 +9,7 @@ use Rattle.entry_tree.specs.Items.{Given}
 use Rattle.entry_tree.specs.Walks.{entries_of}
 use Rattle.type_attributes.specs.declared.fault.TypeFault.{TypeFault}
 use Rattle.type_attributes.specs.declared.source.SourceType.{SourceType}
-use Rattle.type_attributes.specs.Attributes.{name_asked, name_in_full, flag_asked, is_set}
+use Rattle.type_attributes.specs.Attributes.{name_attr, name_in_full, flag_attr, is_set}
 use Rattle.type_attributes.specs.Children.{children_of}
 use Rattle.c_types.specs.Formed.{IsFormed, AreFormed}
 use Rattle.c_types.specs.Functions.{function_row}
@@ -60,10 +60,10 @@ proto_formed : (c : Sections) (e : Given) (after : List Given) → IsNamedCleanl
 proto_formed c e after clean all is none =
     let row = function_row c e (children_of e.depth after) in
     let unrefused : row.refused ≡ [] =
-    second_empty (flag_asked DW_AT_external e).refused row.refused
-    (second_empty (flag_asked DW_AT_declaration e).refused
-    ((flag_asked DW_AT_external e).refused ++ row.refused)
-    (second_empty (name_asked c e).refused _ none)) in
+    second_empty (flag_attr DW_AT_external e).refused row.refused
+    (second_empty (flag_attr DW_AT_declaration e).refused
+    ((flag_attr DW_AT_external e).refused ++ row.refused)
+    (second_empty (name_attr c e).refused _ none)) in
     function_row_formed c e (children_of e.depth after)
     (children_all IsNamedCleanly e.depth after all) unrefused
 
@@ -96,12 +96,12 @@ first_true false b d e = absurd (cc)
 
 name_is : (c : Sections) (e : Given) (after : List Given) → IsNamedCleanly e
     → All IsNamedCleanly after → is_function c e ≡ true → function_refused c e after ≡ []
-    → IsName (name_in_full (name_asked c e))
+    → IsName (name_in_full (name_attr c e))
 name_is c e after clean all is none =
-    let unrefused : (name_asked c e).refused ≡ [] = first_empty (name_asked c e).refused _ none in
-    let named : has_name (name_asked c e) ≡ true = first_true (e.tag == DW_TAG_subprogram)
-    (has_name (name_asked c e)) (not (is_set (flag_asked DW_AT_declaration e))) is in (
-      named_by (name_asked c e).refused (name_in_full (name_asked c e)) unrefused named,
+    let unrefused : (name_attr c e).refused ≡ [] = first_empty (name_attr c e).refused _ none in
+    let named : has_name (name_attr c e) ≡ true = first_true (e.tag == DW_TAG_subprogram)
+    (has_name (name_attr c e)) (not (is_set (flag_attr DW_AT_declaration e))) is in (
+      named_by (name_attr c e).refused (name_in_full (name_attr c e)) unrefused named,
       name_clean c e clean,
     )
 

@@ -8,7 +8,7 @@ use Rattle.entry_tree.specs.Items.{Given}
 use Rattle.type_attributes.specs.declared.fault.TypeFault.{TypeFault}
 use Rattle.type_attributes.specs.Faults.{first_of, noted, joined}
 use Rattle.type_attributes.specs.declared.source.SourceType.{SourceType}
-use Rattle.type_attributes.specs.Attributes.{Asked, name_asked, name_in_full, flag_asked, is_set}
+use Rattle.type_attributes.specs.Attributes.{Attr, name_attr, name_in_full, flag_attr, is_set}
 use Rattle.type_attributes.specs.Children.{children_of}
 use Rattle.c_types.specs.Functions.{function_row}
 use Rattle.type_attributes.specs.Labels.{is_empty}
@@ -36,8 +36,8 @@ pub functions_paired : (c : Sections) (es : List Given)
 functions_paired c [] = refl
 functions_paired c (e ∷ es) =
     one_paired (is_function c e) (record {
-      name = name_in_full (name_asked c e);
-      external = is_set (flag_asked DW_AT_external e);
+      name = name_in_full (name_attr c e);
+      external = is_set (flag_attr DW_AT_external e);
     }) (function_row c e (children_of e.depth es)).made
     (heads_of c es) (prototypes_of c es) (functions_of c es) (functions_paired c es)
 
@@ -53,7 +53,7 @@ refusals_split c e es = one_refused (is_function c e) (function_refused c e es) 
 -- what an entry is, by the tests that are made of it
 pub function_by : (c : Sections) (e : Given) (t n d : Bool) → (e.tag == DW_TAG_subprogram) ≡ t
     → has_name
-    (name_asked c e) ≡ n → is_set (flag_asked DW_AT_declaration e) ≡ d
+    (name_attr c e) ≡ n → is_set (flag_attr DW_AT_declaration e) ≡ d
     → is_function c e ≡ (t && (n && not d))
 function_by c e t n d p q r = rw (p, q, r) refl
 
@@ -83,14 +83,14 @@ pub refusals_joined : (t : Bool) (names declarations externals row later : List 
 refusals_joined true ns ds xs row later e = simp append_assoc refl
 refusals_joined false ns ds xs row later e = absurd (cc)
 
-pub named_by_refusal : (name : Asked (List ℕ)) (found : Option TypeFault)
+pub named_by_refusal : (name : Attr (List ℕ)) (found : Option TypeFault)
     → found ≡ noted None name.refused → is_some found ≡ true → has_name name ≡ true
 named_by_refusal name found is some =
     let told : some_refused name.refused ≡ true =
     sym (refused_is name.refused) ∙ ap (λ (o : Option TypeFault). is_some o) (sym is) ∙ some in
     rw told refl
 
-pub named_by_name : (name : Asked (List ℕ)) → is_empty (name_in_full name) ≡ false
+pub named_by_name : (name : Attr (List ℕ)) → is_empty (name_in_full name) ≡ false
     → has_name name ≡ true
 named_by_name name full = rw full (or_true (some_refused name.refused))
 

@@ -7,7 +7,7 @@ use Rattle.dwarf_forms.specs.Meanings.{Sections}
 use Rattle.entry_tree.specs.Items.{Given}
 use Rattle.type_attributes.specs.declared.fault.TypeFault.{TypeFault}
 use Rattle.type_attributes.specs.declared.source.SourceType.{SourceType}
-use Rattle.type_attributes.specs.Attributes.{name_asked, name_in_full, flag_asked, is_set}
+use Rattle.type_attributes.specs.Attributes.{name_attr, name_in_full, flag_attr, is_set}
 use Rattle.type_attributes.specs.Children.{children_of}
 use Rattle.c_types.specs.Functions.{function_row}
 use Rattle.c_types.specs.Pointers.{is_type_tag}
@@ -31,13 +31,13 @@ use Rattle.dwarf_abbrev.specs.declared.constants.TheConstants.{DW_TAG_volatile_t
 -- what an entry says of itself, where it is a function, and its own refusals
 abbrev pub head_at : Sections → Given → Option Head
 head_at c e = if is_function c e then Some (record {
-  name = name_in_full (name_asked c e);
-  external = is_set (flag_asked DW_AT_external e);
+  name = name_in_full (name_attr c e);
+  external = is_set (flag_attr DW_AT_external e);
 }) else None
 
 abbrev pub head_refused : Sections → Given → List TypeFault
-head_refused c e = if is_function c e then (name_asked c e).refused
-    ++ ((flag_asked DW_AT_declaration e).refused ++ (flag_asked DW_AT_external e).refused) else []
+head_refused c e = if is_function c e then (name_attr c e).refused
+    ++ ((flag_attr DW_AT_declaration e).refused ++ (flag_attr DW_AT_external e).refused) else []
 
 abbrev pub head_listed : Option Head → List Head
 head_listed None = []

@@ -18,8 +18,9 @@ use Rattle.type_attributes.specs.declared.base.Base.{Base}
 use Rattle.type_attributes.specs.declared.base.Base.TheVariants.{Int, Float, Opaque}
 use Rattle.type_attributes.specs.declared.fault.TypeFault.TheVariants.{MissingName}
 use Rattle.type_attributes.specs.Faults.{refuse_if}
-use Rattle.type_attributes.specs.Attributes.{name_asked, name_in_full, constant_asked, number_said}
-use Rattle.type_attributes.specs.Labels.{Row, type_of, plain_label, is_empty, size_in, size_refused}
+use Rattle.type_attributes.specs.Attributes.{name_attr, name_in_full, constant_attr, number_value}
+use Rattle.type_attributes.specs.Labels.{Row, type_of, plain_label, is_empty, size_in}
+use Rattle.type_attributes.specs.Labels.{size_refusals}
 use Rattle.dwarf_abbrev.specs.declared.constants.TheConstants.{DW_AT_bit_size, DW_AT_byte_size}
 use Rattle.dwarf_abbrev.specs.declared.constants.TheConstants.{DW_AT_encoding}
 
@@ -80,21 +81,22 @@ base_label name size Opaque = plain_label BTF_KIND_STRUCT name size
 
 abbrev pub base_row : Sections → Given → Row
 base_row c e =
-    let name = name_asked c e in
-    let size = constant_asked DW_AT_byte_size e in
-    let encoding = constant_asked DW_AT_encoding e in
-    let bits = constant_asked DW_AT_bit_size e in
+    let name = name_attr c e in
+    let size = constant_attr DW_AT_byte_size e in
+    let encoding = constant_attr DW_AT_encoding e in
+    let bits = constant_attr DW_AT_bit_size e in
     record {
-      made = type_of e (base_label (name_in_full name) (size_in size.said)
-          (base_with (size_in size.said) (number_said encoding) (number_said bits))) [];
+      made = type_of e (base_label (name_in_full name) (size_in size.value)
+          (base_with (size_in size.value) (number_value encoding) (number_value bits))) [];
       refused = name.refused ++ (refuse_if (is_empty (name_in_full name)) (MissingName e.at)
-          ++ (size.refused ++ (size_refused e.at size.said ++ (encoding.refused ++ bits.refused))));
+          ++ (size.refused
+          ++ (size_refusals e.at size.value ++ (encoding.refused ++ bits.refused))));
     }
 
 -- an unspecified type is a structure of its name, if it has one, without members
 abbrev pub unspecified_row : Sections → Given → Row
 unspecified_row c e = record {
-  made = type_of e (plain_label BTF_KIND_STRUCT (name_in_full (name_asked c e)) 0)
+  made = type_of e (plain_label BTF_KIND_STRUCT (name_in_full (name_attr c e)) 0)
       [];
-  refused = (name_asked c e).refused;
+  refused = (name_attr c e).refused;
 }

@@ -9,7 +9,7 @@ use Rattle.type_attributes.specs.declared.number.Number.{Number}
 use Rattle.type_attributes.specs.declared.extents.Extent.{Extent}
 use Rattle.type_attributes.specs.declared.extents.Extent.TheVariants.{Bytes, SameAs, Unknown}
 use Rattle.type_attributes.specs.Scopes.{Scope}
-use Rattle.type_attributes.specs.Attributes.{has, constant_asked, number_said, target_asked}
+use Rattle.type_attributes.specs.Attributes.{has, constant_attr, number_value, target_attr}
 use Rattle.dwarf_abbrev.specs.declared.constants.TheConstants.{DW_AT_byte_size, DW_TAG_atomic_type}
 use Rattle.dwarf_abbrev.specs.declared.constants.TheConstants.{DW_TAG_const_type}
 use Rattle.dwarf_abbrev.specs.declared.constants.TheConstants.{DW_TAG_restrict_type, DW_TAG_typedef}
@@ -30,8 +30,8 @@ by_type (Some at) = SameAs at
 -- what an entry says; a value of the wrong class says nothing
 abbrev pub extent_of : Sections → Given → Extent
 extent_of c e =
-    if has DW_AT_byte_size e then by_size (number_said (constant_asked DW_AT_byte_size e))
-    else (if stands_for_another e.tag then by_type (target_asked c e).said else Unknown)
+    if has DW_AT_byte_size e then by_size (number_value (constant_attr DW_AT_byte_size e))
+    else (if stands_for_another e.tag then by_type (target_attr c e).value else Unknown)
 
 -- what the entry says that begins at a place
 abbrev pub extent_at : Sections → List Given → ℕ → Extent

@@ -3,11 +3,14 @@
 use Rattle.std.specs.Prelude.{ℕ, Bool, ◌≡◌, ◌<◌, ◌≤◌, ◌⊎◌, nat_lt, ◌==◌, List, [], ◌∷◌, All, Option}
 use Rattle.std.specs.Prelude.{None, Some, if◌then◌else◌}
 use Rattle.std.specs.List.{Contains}
-use Rattle.dw_base.specs.declared.fault_numbers.TheConstants.{LEB_WIDE, FORM_UNKNOWN, VALUE_TRUNCATED, STRING_OUT}
-use Rattle.dw_base.specs.declared.fault_numbers.TheConstants.{STRX_OUT, ALT_FORM, WRONG_CLASS, MISSING_NAME}
-use Rattle.dw_base.specs.declared.fault_numbers.TheConstants.{MISSING_SIZE, MISSING_TYPE, UNNAMED_FORWARD, MEMBER_PLACE}
-use Rattle.dw_base.specs.declared.fault_numbers.TheConstants.{BIT_SIZE, MEMBER_FAR, TOO_MANY, ARRAY_LENGTH}
-use Rattle.dw_base.specs.declared.fault_numbers.TheConstants.{ENUM_SIZE, ENUM_VALUE, SIZE_LARGE}
+use Rattle.dw_base.specs.declared.fault_numbers.TheConstants.{LEB_WIDE, FORM_UNKNOWN}
+use Rattle.dw_base.specs.declared.fault_numbers.TheConstants.{VALUE_TRUNCATED, STRING_OUT, STRX_OUT}
+use Rattle.dw_base.specs.declared.fault_numbers.TheConstants.{ALT_FORM, WRONG_CLASS, MISSING_NAME}
+use Rattle.dw_base.specs.declared.fault_numbers.TheConstants.{MISSING_SIZE, MISSING_TYPE}
+use Rattle.dw_base.specs.declared.fault_numbers.TheConstants.{UNNAMED_FORWARD, MEMBER_PLACE}
+use Rattle.dw_base.specs.declared.fault_numbers.TheConstants.{BIT_SIZE, MEMBER_FAR, TOO_MANY}
+use Rattle.dw_base.specs.declared.fault_numbers.TheConstants.{ARRAY_LENGTH, ENUM_SIZE, ENUM_VALUE}
+use Rattle.dw_base.specs.declared.fault_numbers.TheConstants.{SIZE_LARGE}
 use Rattle.dwarf_forms.specs.declared.fault.FormFault.{FormFault}
 use Rattle.dwarf_forms.specs.declared.fault.FormFault.TheVariants.{LebWide, FormUnknown}
 use Rattle.dwarf_forms.specs.declared.fault.FormFault.TheVariants.{ValueTruncated, StringOut}
@@ -22,35 +25,35 @@ use Rattle.type_attributes.specs.declared.fault.TypeFault.TheVariants.{EnumValue
 use Rattle.type_attributes.specs.declared.fault.Rank.{Rank}
 
 -- a place, a number and what is kept
-abbrev pub ranked : ℕ → ℕ → ℕ → ℕ → Rank
-ranked at number kept more = record { at = at; kept = kept; more = more; number = number }
+abbrev pub rank_from : ℕ → ℕ → ℕ → ℕ → Rank
+rank_from at number kept more = record { at = at; kept = kept; more = more; number = number }
 
 abbrev pub form_rank : ℕ → FormFault → Rank
-form_rank at (LebWide o) = ranked at LEB_WIDE 0 0
-form_rank at (FormUnknown f) = ranked at FORM_UNKNOWN 0 0
-form_rank at (ValueTruncated a) = ranked at VALUE_TRUNCATED 0 0
-form_rank at (StringOut o) = ranked at STRING_OUT o 0
-form_rank at (StrxOut i) = ranked at STRX_OUT i 0
-form_rank at (AltForm f) = ranked at ALT_FORM f 0
-form_rank at (WrongClass a f) = ranked at WRONG_CLASS a f
+form_rank at (LebWide o) = rank_from at LEB_WIDE 0 0
+form_rank at (FormUnknown f) = rank_from at FORM_UNKNOWN 0 0
+form_rank at (ValueTruncated a) = rank_from at VALUE_TRUNCATED 0 0
+form_rank at (StringOut o) = rank_from at STRING_OUT o 0
+form_rank at (StrxOut i) = rank_from at STRX_OUT i 0
+form_rank at (AltForm f) = rank_from at ALT_FORM f 0
+form_rank at (WrongClass a f) = rank_from at WRONG_CLASS a f
 
 -- the refusals of values alone come twice at one entry with one number, so what the others keep
 -- decides nothing
 abbrev pub rank_of : TypeFault → Rank
 rank_of (Form at f) = form_rank at f
-rank_of (MissingName at) = ranked at MISSING_NAME 0 0
-rank_of (MissingSize at) = ranked at MISSING_SIZE 0 0
-rank_of (MissingType at) = ranked at MISSING_TYPE 0 0
-rank_of (UnnamedForward at) = ranked at UNNAMED_FORWARD 0 0
-rank_of (MemberPlace at) = ranked at MEMBER_PLACE 0 0
-rank_of (BitSize at z) = ranked at BIT_SIZE 0 0
-rank_of (MemberFar at p) = ranked at MEMBER_FAR 0 0
-rank_of (TooMany at n) = ranked at TOO_MANY 0 0
-rank_of (ArrayLength at) = ranked at ARRAY_LENGTH 0 0
-rank_of (EnumSize at z) = ranked at ENUM_SIZE 0 0
-rank_of (EnumValue at) = ranked at ENUM_VALUE 0 0
-rank_of (SizeLarge at z) = ranked at SIZE_LARGE 0 0
-rank_of other = ranked 0 0 0 0
+rank_of (MissingName at) = rank_from at MISSING_NAME 0 0
+rank_of (MissingSize at) = rank_from at MISSING_SIZE 0 0
+rank_of (MissingType at) = rank_from at MISSING_TYPE 0 0
+rank_of (UnnamedForward at) = rank_from at UNNAMED_FORWARD 0 0
+rank_of (MemberPlace at) = rank_from at MEMBER_PLACE 0 0
+rank_of (BitSize at z) = rank_from at BIT_SIZE 0 0
+rank_of (MemberFar at p) = rank_from at MEMBER_FAR 0 0
+rank_of (TooMany at n) = rank_from at TOO_MANY 0 0
+rank_of (ArrayLength at) = rank_from at ARRAY_LENGTH 0 0
+rank_of (EnumSize at z) = rank_from at ENUM_SIZE 0 0
+rank_of (EnumValue at) = rank_from at ENUM_VALUE 0 0
+rank_of (SizeLarge at z) = rank_from at SIZE_LARGE 0 0
+rank_of other = rank_from 0 0 0 0
 
 abbrev pub is_before : Rank → Rank → Bool
 is_before a b =

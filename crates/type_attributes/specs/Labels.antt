@@ -40,6 +40,6 @@ size_in None = 0
 size_in (Some z) = word_of z
 
 -- it is missing, or too large
-abbrev pub size_refused : ℕ → Option ℤ → List TypeFault
-size_refused at None = MissingSize at ∷ []
-size_refused at (Some z) = refuse_if (not (fits_word z)) (SizeLarge at z)
+abbrev pub size_refusals : ℕ → Option ℤ → List TypeFault
+size_refusals at None = MissingSize at ∷ []
+size_refusals at (Some z) = refuse_if (not (fits_word z)) (SizeLarge at z)

@@ -8,9 +8,9 @@ abbrev pub part_of : List ℕ → ℕ → Part
 part_of name value = record { name = name; value = value }
 
 -- the refusals of some entries, in order
-abbrev pub refused_by : (Given → List TypeFault) → List Given → List TypeFault
-refused_by refused [] = []
-refused_by refused (e ∷ es) = refused e ++ refused_by refused es
+abbrev pub refusals_by : (Given → List TypeFault) → List Given → List TypeFault
+refusals_by refused [] = []
+refusals_by refused (e ∷ es) = refused e ++ refusals_by refused es
 
 -- one of some entries passes a test
 abbrev pub some_is : (Given → Bool) → List Given → Bool

@@ -14,8 +14,8 @@ use Rattle.type_attributes.specs.declared.fault.TypeFault.{TypeFault}
 use Rattle.type_attributes.specs.declared.fault.TypeFault.TheVariants.{MemberPlace}
 use Rattle.type_attributes.specs.Scopes.{Scope}
 use Rattle.type_attributes.specs.Numbers.{number_from, integer}
-use Rattle.type_attributes.specs.Attributes.{Asked, has, constant_asked, number_said, offset_asked}
-use Rattle.type_attributes.specs.Attributes.{target_asked}
+use Rattle.type_attributes.specs.Attributes.{Attr, has, constant_attr, number_value, offset_attr}
+use Rattle.type_attributes.specs.Attributes.{target_attr}
 use Rattle.type_attributes.specs.Extents.{bytes_at}
 use Rattle.dwarf_abbrev.specs.declared.constants.TheConstants.{DW_AT_bit_offset, DW_AT_bit_size}
 use Rattle.dwarf_abbrev.specs.declared.constants.TheConstants.{DW_AT_byte_size}
@@ -23,24 +23,24 @@ use Rattle.dwarf_abbrev.specs.declared.constants.TheConstants.{DW_AT_data_bit_of
 use Rattle.dwarf_abbrev.specs.declared.constants.TheConstants.{DW_AT_data_member_location}
 use Rattle.dwarf_abbrev.specs.declared.constants.TheConstants.{DW_FORM_data8, DW_TAG_member}
 
--- a place in bits: a natural number of units of so many bits
-abbrev pub placed : ℕ → ℕ → Number → Asked ℕ
-placed at scale (Natural n) = record { said = Some (scale * n); refused = [] }
-placed at scale (Negative n) = record { said = None; refused = MemberPlace at ∷ [] }
+-- a position in bits: a natural number of units of so many bits
+abbrev pub position_from : ℕ → ℕ → Number → Attr ℕ
+position_from at scale (Natural n) = record { value = Some (scale * n); refused = [] }
+position_from at scale (Negative n) = record { value = None; refused = MemberPlace at ∷ [] }
 
-abbrev pub placed_by_bits : ℕ → Option Number → Asked ℕ
-placed_by_bits at None = record { said = None; refused = [] }
-placed_by_bits at (Some n) = placed at 1 n
+abbrev pub position_by_bits : ℕ → Option Number → Attr ℕ
+position_by_bits at None = record { value = None; refused = [] }
+position_by_bits at (Some n) = position_from at 1 n
 
--- a place that is computed at run time is refused; one that is not given is 0
-abbrev pub placed_by_bytes : ℕ → Bool → Option (Option ℤ) → Asked ℕ
-placed_by_bytes at given None = record { said = if given then None else Some 0; refused = [] }
-placed_by_bytes at given (Some None) = record { said = None; refused = MemberPlace at ∷ [] }
-placed_by_bytes at given (Some (Some z)) = placed at 8 (number_from z)
+-- an offset that is computed at run time is refused; the position is 0 where none is given
+abbrev pub position_by_bytes : ℕ → Bool → Option (Option ℤ) → Attr ℕ
+position_by_bytes at given None = record { value = if given then None else Some 0; refused = [] }
+position_by_bytes at given (Some None) = record { value = None; refused = MemberPlace at ∷ [] }
+position_by_bytes at given (Some (Some z)) = position_from at 8 (number_from z)
 
 -- with refusals that came before
-abbrev pub after : List TypeFault → Asked ℕ → Asked ℕ
-after refused a = record { said = a.said; refused = refused ++ a.refused }
+abbrev pub with_refusals : List TypeFault → Attr ℕ → Attr ℕ
+with_refusals refused a = record { value = a.value; refused = refused ++ a.refused }
 
 -- in a unit of version 4 or 5 a bit field with a bit_offset (0x0c) stands in a storage: its first
 -- bit is so many bits behind the storage's most significant bit, which is the first one in a
@@ -55,15 +55,15 @@ abbrev pub has_8_bytes : Option Shown → Bool
 has_8_bytes None = false
 has_8_bytes (Some g) = g.form == DW_FORM_data8
 
-abbrev pub signed_if : Bool → Number → Number
-signed_if wide (Natural n) =
+abbrev pub with_sign : Bool → Number → Number
+with_sign wide (Natural n) =
     if wide && nat_le (2 ^ 63) n then Negative (2 ^ 64 - 1 - n) else Natural n
-signed_if wide (Negative n) = Negative n
+with_sign wide (Negative n) = Negative n
 
 abbrev pub offset_in_storage : Given → Option Number
 offset_in_storage m =
-    option_map (signed_if (has_8_bytes (value_with DW_AT_bit_offset m.values)))
-    (number_said (constant_asked DW_AT_bit_offset m))
+    option_map (with_sign (has_8_bytes (value_with DW_AT_bit_offset m.values)))
+    (number_value (constant_attr DW_AT_bit_offset m))
 
 -- the bytes before the storage: the data_member_location (0x38), 0 without one; none where it is
 -- computed at run time
@@ -73,7 +73,7 @@ offset_number other = None
 
 abbrev pub location_in : Given → Option Number
 location_in m = if has DW_AT_data_member_location m
-    then offset_number (offset_asked DW_AT_data_member_location m).said else Some (Natural 0)
+    then offset_number (offset_attr DW_AT_data_member_location m).value else Some (Natural 0)
 
 -- the bytes of the storage: the member's own byte_size (0x0b), else those of its type
 abbrev pub bytes_of_type : Scope → Option ℕ → Option Number
@@ -81,56 +81,56 @@ bytes_of_type s None = None
 bytes_of_type s (Some at) = bytes_at s at
 
 abbrev pub storage_in : Scope → Given → Option Number
-storage_in s m = if has DW_AT_byte_size m then number_said (constant_asked DW_AT_byte_size m)
-    else bytes_of_type s (target_asked s.sections m).said
+storage_in s m = if has DW_AT_byte_size m then number_value (constant_attr DW_AT_byte_size m)
+    else bytes_of_type s (target_attr s.sections m).value
 
-abbrev pub eightfold : Number → ℤ
-eightfold n = pos 8 *ℤ integer n
+abbrev pub bits_of_bytes : Number → ℤ
+bits_of_bytes n = pos 8 *ℤ integer n
 
 -- the first bit, by the location, the storage, the bit_offset and the bit_size (0x0d)
 abbrev pub first_bit_big : Option Number → Option Number → Option ℤ
-first_bit_big (Some location) (Some offset) = Some (eightfold location +ℤ integer offset)
+first_bit_big (Some location) (Some offset) = Some (bits_of_bytes location +ℤ integer offset)
 first_bit_big location offset = None
 
 abbrev pub first_bit_little : Option Number → Option Number → Option Number → Option Number
     → Option ℤ
 first_bit_little (Some location) (Some storage) (Some offset) (Some size) =
-    Some (((eightfold location +ℤ eightfold storage) -ℤ integer offset) -ℤ integer size)
+    Some (((bits_of_bytes location +ℤ bits_of_bytes storage) -ℤ integer offset) -ℤ integer size)
 first_bit_little location storage offset size = None
 
 abbrev pub first_bit : Order → Scope → Given → Option ℤ
 first_bit Big s m = first_bit_big (location_in m) (offset_in_storage m)
 first_bit Little s m = first_bit_little (location_in m) (storage_in s m) (offset_in_storage m)
-    (number_said (constant_asked DW_AT_bit_size m))
+    (number_value (constant_attr DW_AT_bit_size m))
 
 -- it is refused where it is not known or lies before the structure; a value of the wrong class is
 -- refused before that
-abbrev pub counted : ℕ → Option ℤ → Asked ℕ
-counted at (Some (pos n)) = record { said = Some n; refused = [] }
-counted at other = record { said = None; refused = MemberPlace at ∷ [] }
+abbrev pub natural_position : ℕ → Option ℤ → Attr ℕ
+natural_position at (Some (pos n)) = record { value = Some n; refused = [] }
+natural_position at other = record { value = None; refused = MemberPlace at ∷ [] }
 
-abbrev pub storage_refused : Order → Given → List TypeFault
-storage_refused Big m = []
-storage_refused Little m = (constant_asked DW_AT_byte_size m).refused
+abbrev pub storage_refusals : Order → Given → List TypeFault
+storage_refusals Big m = []
+storage_refusals Little m = (constant_attr DW_AT_byte_size m).refused
 
-abbrev pub stored_position : Scope → Given → Asked ℕ
+abbrev pub stored_position : Scope → Given → Attr ℕ
 stored_position s m =
-    after ((offset_asked DW_AT_data_member_location m).refused
-    ++ ((constant_asked DW_AT_bit_offset m).refused
-    ++ storage_refused s.sections.order m)) (counted m.at (first_bit s.sections.order s m))
+    with_refusals ((offset_attr DW_AT_data_member_location m).refused
+    ++ ((constant_attr DW_AT_bit_offset m).refused ++ storage_refusals s.sections.order m))
+    (natural_position m.at (first_bit s.sections.order s m))
 
 -- the bit position of a member: its data_bit_offset (0x6b), if it has one, else that in its
 -- storage, if it has one, else 8 times its location
-abbrev pub position_of : Scope → Given → Asked ℕ
+abbrev pub position_of : Scope → Given → Attr ℕ
 position_of s m =
     if has DW_AT_data_bit_offset m
-    then after (constant_asked DW_AT_data_bit_offset m).refused
-    (placed_by_bits m.at (number_said (constant_asked DW_AT_data_bit_offset m)))
+    then with_refusals (constant_attr DW_AT_data_bit_offset m).refused
+    (position_by_bits m.at (number_value (constant_attr DW_AT_data_bit_offset m)))
     else (if is_stored s m
     then stored_position s m
-    else after (offset_asked DW_AT_data_member_location m).refused
-    (placed_by_bytes m.at (has DW_AT_data_member_location m)
-    (offset_asked DW_AT_data_member_location m).said))
+    else with_refusals (offset_attr DW_AT_data_member_location m).refused
+    (position_by_bytes m.at (has DW_AT_data_member_location m)
+    (offset_attr DW_AT_data_member_location m).value))
 
 -- whether the extent of another entry is needed
 abbrev pub is_little : Order → Bool

@@ -5,9 +5,10 @@ ghost use Rattle.dwarf_forms.specs.Values.{given as shown};
 ghost use Rattle.dwarf_forms.specs.Meanings.{sections, Fits64};
 ghost use Rattle.entry_tree.specs.Reads.{value_with};
 ghost use Rattle.type_attributes.specs.Faults.{noted};
-ghost use Rattle.type_attributes.specs.Attributes.{has, text_asked, name_asked, name_in_full};
-ghost use Rattle.type_attributes.specs.Attributes.{constant_asked, number_said, flag_asked, is_set};
-ghost use Rattle.type_attributes.specs.Attributes.{target_asked, target_of_type, offset_asked};
+ghost use Rattle.type_attributes.specs.Attributes.{has, text_attr, name_attr, name_in_full};
+ghost use Rattle.type_attributes.specs.Attributes.{constant_attr, NotesConstant, number_value};
+ghost use Rattle.type_attributes.specs.Attributes.{flag_attr, is_set};
+ghost use Rattle.type_attributes.specs.Attributes.{target_attr, target_of_type, offset_attr};
 
 use crate::fault::{TypeFault, note};
 use crate::number::{Number, by_sign};
@@ -17,7 +18,7 @@ use dwarf_abbrev::constants::{DW_AT_name, DW_AT_type};
 use dwarf_forms::{FormCtx, Given, flag_of};
 use entry_tree::Entry;
 
-/// The first value of an attribute.
+/// The value of an attribute, of several of one name the first. It works as `Entry::attr`.
 #[inline(always)]
 pub fn attribute<'a>(entry: &Entry<'_, 'a>, name: u64) -> Option<Given<'a>>
     ensures { option_map shown result ≡ value_with name entry.now.values }
@@ -28,7 +29,8 @@ pub fn attribute<'a>(entry: &Entry<'_, 'a>, name: u64) -> Option<Given<'a>>
     }
 }
 
-/// Whether an entry has an attribute. Its abbreviation tells, so no value is read.
+/// Whether an entry has an attribute. Its abbreviation tells, so no value is read. It works as
+/// `Entry::has`.
 #[inline(always)]
 pub fn is_given(entry: &Entry<'_, '_>, name: u64) -> bool
     ensures { result ≡ has name entry.now }
@@ -36,11 +38,11 @@ pub fn is_given(entry: &Entry<'_, '_>, name: u64) -> bool
     entry.has(name)
 }
 
-/// What a constant that is given says.
-fn given_constant(entry: &Entry<'_, '_>, name: u64, least: &mut Option<TypeFault>) -> Option<i128>
-    ensures said { result ≡ (constant_asked name entry.now).said }
+/// The value of a constant that the entry has.
+fn read_constant(entry: &Entry<'_, '_>, name: u64, least: &mut Option<TypeFault>) -> Option<i128>
+    ensures value { result ≡ (constant_attr name entry.now).value }
     ensures small { IfSome result Fits64 }
-    ensures noted { least.new ≡ noted least.old (constant_asked name entry.now).refused }
+    ensures noted { NotesConstant name entry.now least.old least.new }
 {
     match entry.constant(name) {
         None => None,
@@ -52,24 +54,25 @@ fn given_constant(entry: &Entry<'_, '_>, name: u64, least: &mut Option<TypeFault
     }
 }
 
-/// What a constant says.
+/// The value of a constant, none where the entry has none. One of another class is noted. It works
+/// as `Entry::attr`.
 #[inline(always)]
 pub fn constant(entry: &Entry<'_, '_>, name: u64, least: &mut Option<TypeFault>) -> Option<i128>
-    ensures said { result ≡ (constant_asked name entry.now).said }
+    ensures value { result ≡ (constant_attr name entry.now).value }
     ensures small { IfSome result Fits64 }
-    ensures noted { least.new ≡ noted least.old (constant_asked name entry.now).refused }
+    ensures noted { NotesConstant name entry.now least.old least.new }
 {
     if is_given(entry, name) {
-        given_constant(entry, name, least)
+        read_constant(entry, name, least)
     } else {
         None
     }
 }
 
 /// Whether a flag that is given is true.
-fn given_flag(entry: &Entry<'_, '_>, name: u64, least: &mut Option<TypeFault>) -> bool
-    ensures said { result ≡ is_set (flag_asked name entry.now) }
-    ensures noted { least.new ≡ noted least.old (flag_asked name entry.now).refused }
+fn read_flag(entry: &Entry<'_, '_>, name: u64, least: &mut Option<TypeFault>) -> bool
+    ensures value { result ≡ is_set (flag_attr name entry.now) }
+    ensures noted { least.new ≡ noted least.old (flag_attr name entry.now).refused }
 {
     match attribute(entry, name) {
         None => false,
@@ -83,20 +86,23 @@ fn given_flag(entry: &Entry<'_, '_>, name: u64, least: &mut Option<TypeFault>) -
     }
 }
 
-/// Whether a flag is given and true.
+/// Whether an entry has a flag that is true. One of another class is noted. It works as
+/// `Entry::attr`.
 #[inline(always)]
 pub fn flag(entry: &Entry<'_, '_>, name: u64, least: &mut Option<TypeFault>) -> bool
-    ensures said { result ≡ is_set (flag_asked name entry.now) }
-    ensures noted { least.new ≡ noted least.old (flag_asked name entry.now).refused }
+    ensures value { result ≡ is_set (flag_attr name entry.now) }
+    ensures noted { least.new ≡ noted least.old (flag_attr name entry.now).refused }
 {
     if is_given(entry, name) {
-        given_flag(entry, name, least)
+        read_flag(entry, name, least)
     } else {
         false
     }
 }
 
-/// A text that is read as a name; the empty one where an entry has none.
+/// A text that is read as a name; the empty one where an entry has none. One of another class or
+/// without an end is noted. Its work is that of `Entry::attr`, and grows with the bytes of the
+/// text.
 #[inline(always)]
 pub fn text<'a>(
     ctx: &FormCtx<'a>,
@@ -104,9 +110,9 @@ pub fn text<'a>(
     name: u64,
     least: &mut Option<TypeFault>,
 ) -> Name<'a>
-    ensures said { result ≡ name_in_full (text_asked name (sections ctx.now) entry.now) }
+    ensures value { result ≡ name_in_full (text_attr name (sections ctx.now) entry.now) }
     ensures noted { least.new
-        ≡ noted least.old (text_asked name (sections ctx.now) entry.now).refused }
+        ≡ noted least.old (text_attr name (sections ctx.now) entry.now).refused }
 {
     match entry.name(ctx, name) {
         None => Name::new(&[]),
@@ -118,25 +124,26 @@ pub fn text<'a>(
     }
 }
 
-/// The name of an entry; the empty one where it has none.
+/// The name of an entry; the empty one where it has none. It works as `text`.
 pub fn name<'a>(ctx: &FormCtx<'a>, entry: &Entry<'_, 'a>, least: &mut Option<TypeFault>) -> Name<'a>
-    ensures said { result ≡ name_in_full (name_asked (sections ctx.now) entry.now) }
+    ensures value { result ≡ name_in_full (name_attr (sections ctx.now) entry.now) }
     ensures noted { least.new
-        ≡ noted least.old (name_asked (sections ctx.now) entry.now).refused }
+        ≡ noted least.old (name_attr (sections ctx.now) entry.now).refused }
 {
     text(ctx, entry, DW_AT_name, least)
 }
 
-/// The type that an entry refers to; `void` where it refers to none.
+/// The type that an entry refers to; `void` where it refers to none. A reference of another class
+/// is noted. It works as `Entry::attr`.
 pub fn type_target(
     ctx: &FormCtx<'_>,
     entry: &Entry<'_, '_>,
     least: &mut Option<TypeFault>,
 ) -> Target
-    ensures said { result ≡ target_of_type entry.now.at
-        (target_asked (sections ctx.now) entry.now) }
+    ensures value { result ≡ target_of_type entry.now.at
+        (target_attr (sections ctx.now) entry.now) }
     ensures noted { least.new
-        ≡ noted least.old (target_asked (sections ctx.now) entry.now).refused }
+        ≡ noted least.old (target_attr (sections ctx.now) entry.now).refused }
 {
     match entry.target(ctx, DW_AT_type) {
         None => Target::Void,
@@ -151,9 +158,10 @@ pub fn type_target(
     }
 }
 
-/// The offset in `.debug_info` of the type that an entry refers to, where it refers to one.
-pub fn target_said(ctx: &FormCtx<'_>, entry: &Entry<'_, '_>) -> Option<u128>
-    ensures { result ≡ (target_asked (sections ctx.now) entry.now).said }
+/// The offset in `.debug_info` of the type that an entry refers to, where it refers to one. It
+/// works as `Entry::attr`.
+pub fn type_offset(ctx: &FormCtx<'_>, entry: &Entry<'_, '_>) -> Option<u128>
+    ensures { result ≡ (target_attr (sections ctx.now) entry.now).value }
 {
     match entry.target(ctx, DW_AT_type) {
         Some(Ok(to)) => Some(to),
@@ -161,16 +169,18 @@ pub fn target_said(ctx: &FormCtx<'_>, entry: &Entry<'_, '_>) -> Option<u128>
     }
 }
 
-/// What the offset of a member says: a number of bytes, or `None` where it is computed at run time.
+/// The offset of a member in bytes; `Some(None)` where it is computed at run time, `None` where the
+/// entry has none. One of another class is noted. Its work is that of `Entry::attr`, and grows with
+/// the bytes of an expression.
 #[inline(always)]
 pub fn offset(
     entry: &Entry<'_, '_>,
     name: u64,
     least: &mut Option<TypeFault>,
 ) -> Option<Option<i128>>
-    ensures said { result ≡ (offset_asked name entry.now).said }
+    ensures value { result ≡ (offset_attr name entry.now).value }
     ensures small { IfSome result (λ o. IfSome o Fits64) }
-    ensures noted { least.new ≡ noted least.old (offset_asked name entry.now).refused }
+    ensures noted { least.new ≡ noted least.old (offset_attr name entry.now).refused }
 {
     match entry.byte_offset(name) {
         None => None,
@@ -182,14 +192,14 @@ pub fn offset(
     }
 }
 
-/// What a constant says, by its sign.
+/// The value of a constant, by its sign. It works as `constant`.
 pub fn signed_constant(
     entry: &Entry<'_, '_>,
     name: u64,
     least: &mut Option<TypeFault>,
 ) -> Option<Number>
-    ensures said { result ≡ number_said (constant_asked name entry.now) }
-    ensures noted { least.new ≡ noted least.old (constant_asked name entry.now).refused }
+    ensures value { result ≡ number_value (constant_attr name entry.now) }
+    ensures noted { NotesConstant name entry.now least.old least.new }
 {
     match constant(entry, name, least) {
         Some(z) => Some(by_sign(z)),

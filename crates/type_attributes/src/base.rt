@@ -8,7 +8,7 @@ ghost use Rattle.type_attributes.specs.BaseTypes.{base_with, base_label, base_ro
 
 use crate::attributes::{constant, name, signed_constant};
 use crate::fault::{TypeFault, note_if};
-use crate::labels::{given_size, is_unnamed, make_label, no_targets, note_size};
+use crate::labels::{is_unnamed, make_label, no_targets, note_size, size_or_zero};
 use crate::number::Number;
 use crate::source::SourceType;
 use c_model::kinds::{BTF_KIND_FLOAT, BTF_KIND_INT, BTF_KIND_STRUCT};
@@ -29,7 +29,7 @@ pub const BTF_INT_SIGNED: u32 = 1;
 pub const BTF_INT_BOOL: u32 = 4;
 
 /// What a base type is to BTF.
-#[derive(Clone, Copy, PartialEq, Eq)]
+#[derive(Clone, Copy)]
 pub enum Base {
     /// An INT, with its word of encoding, offset and bits.
     Int(u32),
@@ -137,7 +137,10 @@ fn base_type_label<'a>(alloc: Global, name: Name<'a>, size: u32, base: Base) -> 
     }
 }
 
-/// The type of a base type.
+/// The type of a base type: an INT, a FLOAT, or a structure of its name and size without members.
+/// A missing name and a missing or too large size are noted.
+///
+/// Its work is that of a few calls of `Entry::attr`, and grows with the bytes of the name.
 #[tactic(auto, using(crate::proofs::Noting::noted_append))]
 pub fn base_type<'a>(
     alloc: Global,
@@ -155,7 +158,7 @@ pub fn base_type<'a>(
     note_size(least, entry.at(), size);
     let encoding = signed_constant(entry, DW_AT_encoding, least);
     let bits = signed_constant(entry, DW_AT_bit_size, least);
-    let size = given_size(size);
+    let size = size_or_zero(size);
     SourceType {
         at: entry.at(),
         label: base_type_label(alloc, name, size, base_from(size, encoding, bits)),
@@ -163,7 +166,9 @@ pub fn base_type<'a>(
     }
 }
 
-/// The type of an unspecified type.
+/// The type of an unspecified type: a structure of its name without members.
+///
+/// Its work is that of a call of `Entry::attr`, and grows with the bytes of the name.
 pub fn unspecified_type<'a>(
     alloc: Global,
     ctx: &FormCtx<'a>,

@@ -8,7 +8,7 @@ ghost use Rattle.type_attributes.specs.Extents.{most_followed};
 ghost use Rattle.type_attributes.specs.Rows.{row_if, rows_of, extent_in};
 ghost use Rattle.type_attributes.specs.declared.extents.ExtentRow.{ExtentRow};
 
-use crate::attributes::{is_given, signed_constant, target_said};
+use crate::attributes::{is_given, signed_constant, type_offset};
 use crate::number::Number;
 use dwarf_abbrev::constants::{
     DW_AT_byte_size, DW_TAG_atomic_type, DW_TAG_const_type, DW_TAG_restrict_type, DW_TAG_typedef,
@@ -21,8 +21,8 @@ use std::alloc::{AllocError, Global};
 /// How many types are followed at most.
 const MOST_FOLLOWED: u32 = 64;
 
-/// What an entry says of how many bytes its objects have.
-#[derive(Clone, Copy, PartialEq, Eq)]
+/// What an entry says of the number of bytes of its objects.
+#[derive(Clone, Copy)]
 pub enum Extent {
     /// So many.
     Bytes(Number),
@@ -33,7 +33,7 @@ pub enum Extent {
 }
 
 /// What the entry at an offset of `.debug_info` says.
-#[derive(Clone, Copy, PartialEq, Eq)]
+#[derive(Clone, Copy)]
 pub struct ExtentRow {
     pub at: u64,
     pub extent: Extent,
@@ -71,7 +71,7 @@ fn read_extent(form: &FormCtx<'_>, entry: &Entry<'_, '_>) -> Extent
     if !is_followed(entry.tag()) {
         return Extent::Unknown;
     }
-    match target_said(form, entry) {
+    match type_offset(form, entry) {
         Some(to) => Extent::SameAs(to),
         None => Extent::Unknown,
     }
@@ -91,6 +91,8 @@ fn push_row(rows: &mut Vec<ExtentRow>, at: u64, extent: Extent) -> Result<(), Al
 }
 
 /// What the entries of a walk say, up to its end or fault.
+///
+/// Its work is that of the walk to its end, and of two calls of `Entry::attr` for each entry.
 pub fn read_extents(
     alloc: Global,
     form: &FormCtx<'_>,
@@ -121,7 +123,10 @@ fn find_extent(rows: &[ExtentRow], to: u128) -> Extent
     }
 }
 
-/// How many bytes the objects of the type at an offset have, by rows that rise.
+/// How many bytes the objects of the type at an offset have, by rows that rise; none where no chain
+/// of at most 64 types leads to a size.
+///
+/// Its work is at most 65 times the logarithm of the number of rows.
 pub fn find_bytes(rows: &[ExtentRow], to: u128) -> Option<Number>
     requires { IsNonDecreasingBy (λ (r : ExtentRow). r.at) rows.now }
     ensures { result ≡ bytes_after (extent_in rows.now) most_followed (extent_in rows.now to) }

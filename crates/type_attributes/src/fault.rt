@@ -1,6 +1,6 @@
 //! Why the types of a unit are refused, and which of two refusals comes first.
 ghost use Rattle.std.specs.Prelude.{◌≡◌, [], ◌∷◌};
-ghost use Rattle.type_attributes.specs.Faults.{ranked, rank_of, form_rank, is_before, noted};
+ghost use Rattle.type_attributes.specs.Faults.{rank_from, rank_of, form_rank, is_before, noted};
 ghost use Rattle.type_attributes.specs.Faults.{refuse_if, joined};
 
 use dw_base::fault_numbers as numbers;
@@ -97,9 +97,9 @@ pub struct Rank {
     number: u32,
 }
 
-/// The rank of a refusal that keeps these values beside its place.
-fn rank_keeping(at: u64, number: u32, kept: u64, more: u64) -> Rank
-    ensures { result ≡ ranked at number kept more }
+/// The rank of a refusal by its place, its number and what it keeps.
+fn rank_from(at: u64, number: u32, kept: u64, more: u64) -> Rank
+    ensures { result ≡ rank_from at number kept more }
 {
     Rank {
         at,
@@ -111,9 +111,9 @@ fn rank_keeping(at: u64, number: u32, kept: u64, more: u64) -> Rank
 
 /// The rank of a refusal that needs nothing but its place.
 fn rank_at(at: u64, number: u32) -> Rank
-    ensures { result ≡ ranked at number 0 0 }
+    ensures { result ≡ rank_from at number 0 0 }
 {
-    rank_keeping(at, number, 0, 0)
+    rank_from(at, number, 0, 0)
 }
 
 /// The rank of a value's refusal.
@@ -124,10 +124,10 @@ fn rank_form(at: u64, fault: FormFault) -> Rank
         FormFault::LebWide(_) => rank_at(at, numbers::LEB_WIDE),
         FormFault::FormUnknown(_) => rank_at(at, numbers::FORM_UNKNOWN),
         FormFault::ValueTruncated(_) => rank_at(at, numbers::VALUE_TRUNCATED),
-        FormFault::StringOut(offset) => rank_keeping(at, numbers::STRING_OUT, offset, 0),
-        FormFault::StrxOut(index) => rank_keeping(at, numbers::STRX_OUT, index, 0),
-        FormFault::AltForm(form) => rank_keeping(at, numbers::ALT_FORM, form, 0),
-        FormFault::WrongClass(attribute, form) => rank_keeping(
+        FormFault::StringOut(offset) => rank_from(at, numbers::STRING_OUT, offset, 0),
+        FormFault::StrxOut(index) => rank_from(at, numbers::STRX_OUT, index, 0),
+        FormFault::AltForm(form) => rank_from(at, numbers::ALT_FORM, form, 0),
+        FormFault::WrongClass(attribute, form) => rank_from(
             at,
             numbers::WRONG_CLASS,
             attribute,
@@ -175,7 +175,7 @@ fn comes_before(a: Rank, b: Rank) -> bool
     a.more < b.more
 }
 
-/// Keeps the first of the refusals so far and this one.
+/// Keeps the first of the refusals so far and this one, in constant time.
 pub fn note(least: &mut Option<TypeFault>, fault: TypeFault)
     ensures { least.new ≡ noted least.old (fault ∷ []) }
 {

@@ -3,7 +3,7 @@ ghost use Rattle.std.specs.Prelude.{◌≡◌, [], IfSome};
 ghost use Rattle.dwarf_forms.specs.Meanings.{Fits64};
 ghost use Rattle.type_attributes.specs.Faults.{noted};
 ghost use Rattle.type_attributes.specs.Labels.{plain_label, is_empty, fits_word, word_of, size_in};
-ghost use Rattle.type_attributes.specs.Labels.{size_refused};
+ghost use Rattle.type_attributes.specs.Labels.{size_refusals};
 
 use crate::fault::{TypeFault, note, note_if};
 use crate::number::{Number, by_sign};
@@ -15,7 +15,7 @@ use std::alloc::Global;
 /// The most members, enumerators or parameters of a type.
 pub const MOST: u64 = 65_535;
 
-/// A label without flag, extra and parts.
+/// A label without flag, extra and parts. It takes constant time, as all here.
 pub fn make_label<'a>(alloc: Global, kind: u8, name: Name<'a>, size: u32) -> Label<'a>
     ensures { result ≡ plain_label kind name.entry size }
 {
@@ -66,7 +66,7 @@ fn word(size: i128) -> u32
 }
 
 /// The size that is given; 0 where it is missing or too large.
-pub fn given_size(size: Option<i128>) -> u32
+pub fn size_or_zero(size: Option<i128>) -> u32
     requires { IfSome size Fits64 }
     ensures { result ≡ size_in size }
 {
@@ -79,7 +79,7 @@ pub fn given_size(size: Option<i128>) -> u32
 /// Refuses a size that is missing or too large.
 pub fn note_size(least: &mut Option<TypeFault>, at: u64, size: Option<i128>)
     requires { IfSome size Fits64 }
-    ensures { least.new ≡ noted least.old (size_refused at size) }
+    ensures { least.new ≡ noted least.old (size_refusals at size) }
 {
     match size {
         None => note(least, TypeFault::MissingSize(at)),

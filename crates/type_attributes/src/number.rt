@@ -4,7 +4,7 @@ ghost use Rattle.dwarf_forms.specs.Meanings.{Fits64};
 ghost use Rattle.type_attributes.specs.Numbers.{number_from, integer};
 
 /// A constant of 64 bits: a natural number, or -1 less a natural number.
-#[derive(Clone, Copy, PartialEq, Eq)]
+#[derive(Clone, Copy)]
 pub enum Number {
     Natural(u64),
     Negative(u64),

@@ -1,4 +1,4 @@
-//! The places of members.
+//! The positions of members in bits.
 ghost use Rattle.std.specs.Prelude.{◌≡◌, ◌≤◌, ◌<ℤ◌, ◌≤ℤ◌, ◌+ℤ◌, neg_ℤ, pos, ◌^◌, ◌++◌, OnOk};
 ghost use Rattle.std.specs.Prelude.{IfSome, false, true};
 ghost use Rattle.dwarf_forms.specs.Meanings.{Fits64};
@@ -6,17 +6,18 @@ ghost use Rattle.entry_tree.specs.Reads.{value_with};
 ghost use Rattle.entry_tree.specs.Rising.{Rises};
 ghost use Rattle.type_attributes.specs.Scopes.{scope};
 ghost use Rattle.type_attributes.specs.Faults.{noted};
-ghost use Rattle.type_attributes.specs.Attributes.{has, constant_asked, offset_asked};
-ghost use Rattle.type_attributes.specs.Positions.{placed, placed_by_bits, placed_by_bytes};
+ghost use Rattle.type_attributes.specs.Attributes.{has, constant_attr, offset_attr};
+ghost use Rattle.type_attributes.specs.Positions.{position_from, position_by_bits};
+ghost use Rattle.type_attributes.specs.Positions.{position_by_bytes};
 ghost use Rattle.type_attributes.specs.Positions.{is_stored, location_in, offset_number};
-ghost use Rattle.type_attributes.specs.Positions.{has_8_bytes, signed_if, offset_in_storage};
-ghost use Rattle.type_attributes.specs.Positions.{storage_in, bytes_of_type, eightfold};
+ghost use Rattle.type_attributes.specs.Positions.{has_8_bytes, with_sign, offset_in_storage};
+ghost use Rattle.type_attributes.specs.Positions.{storage_in, bytes_of_type, bits_of_bytes};
 ghost use Rattle.type_attributes.specs.Positions.{first_bit_big, first_bit_little, first_bit};
-ghost use Rattle.type_attributes.specs.Positions.{counted, storage_refused, position_of, is_little};
-ghost use Rattle.type_attributes.specs.Positions.{needs_extents};
+ghost use Rattle.type_attributes.specs.Positions.{natural_position, storage_refusals};
+ghost use Rattle.type_attributes.specs.Positions.{position_of, is_little, needs_extents};
 ghost use Rattle.type_attributes.specs.Rows.{SayExtents, AreKnown, IsReady};
 
-use crate::attributes::{attribute, is_given, offset, signed_constant, target_said};
+use crate::attributes::{attribute, is_given, offset, signed_constant, type_offset};
 use crate::extents::{find_bytes, read_extents};
 use crate::fault::{TypeFault, note};
 use crate::number::{Number, by_sign, to_integer};
@@ -29,11 +30,11 @@ use dwarf_abbrev::constants::{
 use entry_tree::Entry;
 use std::alloc::{AllocError, Global};
 
-/// A place in units of so many bits.
-fn place(at: u64, scale: u32, number: Number, least: &mut Option<TypeFault>) -> Option<u128>
+/// A position in units of so many bits.
+fn position_from(at: u64, scale: u32, number: Number, least: &mut Option<TypeFault>) -> Option<u128>
     requires { scale ≤ 8 }
-    ensures said { result ≡ (placed at scale number).said }
-    ensures noted { least.new ≡ noted least.old (placed at scale number).refused }
+    ensures value { result ≡ (position_from at scale number).value }
+    ensures noted { least.new ≡ noted least.old (position_from at scale number).refused }
 {
     match number {
         Number::Natural(n) => Some(u128::from(scale) * u128::from(n)),
@@ -44,35 +45,35 @@ fn place(at: u64, scale: u32, number: Number, least: &mut Option<TypeFault>) -> 
     }
 }
 
-/// A place that is given in bits.
-fn place_by_bits(at: u64, bits: Option<Number>, least: &mut Option<TypeFault>) -> Option<u128>
-    ensures said { result ≡ (placed_by_bits at bits).said }
-    ensures noted { least.new ≡ noted least.old (placed_by_bits at bits).refused }
+/// The position that a number of bits gives.
+fn position_by_bits(at: u64, bits: Option<Number>, least: &mut Option<TypeFault>) -> Option<u128>
+    ensures value { result ≡ (position_by_bits at bits).value }
+    ensures noted { least.new ≡ noted least.old (position_by_bits at bits).refused }
 {
     match bits {
         None => None,
-        Some(number) => place(at, 1, number, least),
+        Some(number) => position_from(at, 1, number, least),
     }
 }
 
-/// A place that is given in bytes.
-fn place_by_bytes(
+/// The position that an offset in bytes gives, 0 where the member has no attribute for it.
+fn position_by_bytes(
     at: u64,
-    given: bool,
+    present: bool,
     bytes: Option<Option<i128>>,
     least: &mut Option<TypeFault>,
 ) -> Option<u128>
     requires { IfSome bytes (λ o. IfSome o Fits64) }
-    ensures said { result ≡ (placed_by_bytes at given bytes).said }
-    ensures noted { least.new ≡ noted least.old (placed_by_bytes at given bytes).refused }
+    ensures value { result ≡ (position_by_bytes at present bytes).value }
+    ensures noted { least.new ≡ noted least.old (position_by_bytes at present bytes).refused }
 {
     match bytes {
-        None => { if given { None } else { Some(0) } }
+        None => { if present { None } else { Some(0) } }
         Some(None) => {
             note(least, TypeFault::MemberPlace(at));
             None
         }
-        Some(Some(z)) => place(at, 8, by_sign(z), least),
+        Some(Some(z)) => position_from(at, 8, by_sign(z), least),
     }
 }
 
@@ -98,9 +99,9 @@ fn constant_offset(bytes: Option<Option<i128>>) -> Option<Number>
 
 /// The bytes before the storage of a member; none where they are computed at run time.
 fn location(member: &Entry<'_, '_>, least: &mut Option<TypeFault>) -> Option<Number>
-    ensures said { result ≡ location_in member.now }
+    ensures value { result ≡ location_in member.now }
     ensures noted { least.new
-        ≡ noted least.old (offset_asked DW_AT_data_member_location member.now).refused }
+        ≡ noted least.old (offset_attr DW_AT_data_member_location member.now).refused }
 {
     let bytes = offset(member, DW_AT_data_member_location, least);
     if is_given(member, DW_AT_data_member_location) {
@@ -132,14 +133,14 @@ fn storage(
 ) -> Option<Number>
     requires { has DW_AT_byte_size member.now ≡ false
         → AreKnown (scope ctx.now) ctx.now.extents }
-    ensures said { result ≡ storage_in (scope ctx.now) member.now }
+    ensures value { result ≡ storage_in (scope ctx.now) member.now }
     ensures noted { least.new ≡ noted least.old
-        (constant_asked DW_AT_byte_size member.now).refused }
+        (constant_attr DW_AT_byte_size member.now).refused }
 {
     if is_given(member, DW_AT_byte_size) {
         return signed_constant(member, DW_AT_byte_size, least);
     }
-    type_bytes(ctx, target_said(&ctx.form, member))
+    type_bytes(ctx, type_offset(&ctx.form, member))
 }
 
 /// Whether the bit_offset of a member is given by 8 bytes.
@@ -154,7 +155,7 @@ fn is_wide(member: &Entry<'_, '_>) -> bool
 
 /// A number, which is one in two's complement where it was unsigned and of 8 bytes.
 fn with_sign(wide: bool, number: Number) -> Number
-    ensures { result ≡ signed_if wide number }
+    ensures { result ≡ with_sign wide number }
 {
     match number {
         Number::Natural(n) => {
@@ -170,9 +171,9 @@ fn with_sign(wide: bool, number: Number) -> Number
 
 /// The bits from the most significant bit of its storage to that of a member.
 fn storage_offset(member: &Entry<'_, '_>, least: &mut Option<TypeFault>) -> Option<Number>
-    ensures said { result ≡ offset_in_storage member.now }
+    ensures value { result ≡ offset_in_storage member.now }
     ensures noted { least.new ≡ noted least.old
-        (constant_asked DW_AT_bit_offset member.now).refused }
+        (constant_attr DW_AT_bit_offset member.now).refused }
 {
     match signed_constant(member, DW_AT_bit_offset, least) {
         Some(number) => Some(with_sign(is_wide(member), number)),
@@ -193,7 +194,7 @@ fn first_in_big(location: Option<Number>, offset: Option<Number>) -> Option<i128
 
 /// The bit behind a storage.
 fn storage_end(location: Number, storage: Number) -> i128
-    ensures value { result ≡ eightfold location +ℤ eightfold storage }
+    ensures value { result ≡ bits_of_bytes location +ℤ bits_of_bytes storage }
     ensures low { neg_ℤ (pos (2 ^ 68)) ≤ℤ result }
     ensures high { result <ℤ pos (2 ^ 68) }
 {
@@ -218,10 +219,10 @@ fn first_in_little(
     }
 }
 
-/// A place that is known and doesn't lie before the structure.
-fn count(at: u64, bits: Option<i128>, least: &mut Option<TypeFault>) -> Option<u128>
-    ensures said { result ≡ (counted at bits).said }
-    ensures noted { least.new ≡ noted least.old (counted at bits).refused }
+/// A position that is known and doesn't lie before the structure.
+fn natural_position(at: u64, bits: Option<i128>, least: &mut Option<TypeFault>) -> Option<u128>
+    ensures value { result ≡ (natural_position at bits).value }
+    ensures noted { least.new ≡ noted least.old (natural_position at bits).refused }
 {
     match bits {
         Some(z) if z >= 0 => Some(z as u128),
@@ -241,10 +242,10 @@ fn first_in_storage(
 ) -> Option<i128>
     requires { is_little ctx.now.form.order ≡ true → has DW_AT_byte_size member.now ≡ false
         → AreKnown (scope ctx.now) ctx.now.extents }
-    ensures said { result ≡ first_bit ctx.now.form.order (scope ctx.now) member.now }
-    ensures noted { least.new ≡ noted least.old ((offset_asked DW_AT_data_member_location
-        member.now).refused ++ ((constant_asked DW_AT_bit_offset member.now).refused
-        ++ storage_refused ctx.now.form.order member.now)) }
+    ensures value { result ≡ first_bit ctx.now.form.order (scope ctx.now) member.now }
+    ensures noted { least.new ≡ noted least.old ((offset_attr DW_AT_data_member_location
+        member.now).refused ++ ((constant_attr DW_AT_bit_offset member.now).refused
+        ++ storage_refusals ctx.now.form.order member.now)) }
 {
     let location = location(member, least);
     let offset = storage_offset(member, least);
@@ -260,7 +261,13 @@ fn first_in_storage(
     }
 }
 
-/// The bit position of a member.
+/// The position of a member: the bits from the start of its structure to its first bit; none where
+/// it is refused, which is noted. It is the DW_AT_data_bit_offset, else, of a bit field with a
+/// DW_AT_bit_offset in a unit of version 4 or 5, that in its storage, else the
+/// DW_AT_data_member_location.
+///
+/// Its work is that of a few calls of `Entry::attr`; in a storage whose size the type says, also at
+/// most 64 times the logarithm of the number of entries of the unit.
 #[tactic(auto, using(crate::proofs::Noting::noted_append))]
 pub fn position(
     ctx: &UnitCtx<'_, '_>,
@@ -269,20 +276,20 @@ pub fn position(
 ) -> Option<u128>
     requires member { member.now.tag ≡ DW_TAG_member }
     requires ready { IsReady ctx.now member.now }
-    ensures said { result ≡ (position_of (scope ctx.now) member.now).said }
+    ensures value { result ≡ (position_of (scope ctx.now) member.now).value }
     ensures noted { least.new
         ≡ noted least.old (position_of (scope ctx.now) member.now).refused }
 {
     if is_given(member, DW_AT_data_bit_offset) {
         let bits = signed_constant(member, DW_AT_data_bit_offset, least);
-        return place_by_bits(member.at(), bits, least);
+        return position_by_bits(member.at(), bits, least);
     }
     if stands_in_storage(ctx, member) {
         let bits = first_in_storage(ctx, member, least);
-        return count(member.at(), bits, least);
+        return natural_position(member.at(), bits, least);
     }
     let bytes = offset(member, DW_AT_data_member_location, least);
-    place_by_bytes(
+    position_by_bytes(
         member.at(),
         is_given(member, DW_AT_data_member_location),
         bytes,
@@ -291,7 +298,7 @@ pub fn position(
 }
 
 /// Whether a file is little-endian.
-fn counts_back(order: Order) -> bool
+fn is_little_endian(order: Order) -> bool
     ensures { result ≡ is_little order }
 {
     match order {
@@ -300,19 +307,21 @@ fn counts_back(order: Order) -> bool
     }
 }
 
-/// Whether the place of a member is found by what other entries say of their extents.
-fn needs_others(ctx: &UnitCtx<'_, '_>, member: &Entry<'_, '_>) -> bool
+/// Whether the position of a member is found by what other entries say of their extents.
+fn needs_extents(ctx: &UnitCtx<'_, '_>, member: &Entry<'_, '_>) -> bool
     ensures { result ≡ needs_extents (scope ctx.now) member.now }
 {
     member.tag() == DW_TAG_member
         && stands_in_storage(ctx, member)
         && !is_given(member, DW_AT_data_bit_offset)
         && !is_given(member, DW_AT_byte_size)
-        && counts_back(ctx.form.order)
+        && is_little_endian(ctx.form.order)
 }
 
-/// The extents of the unit's entries are read, where an entry is the first whose place is found by
-/// them.
+/// The extents of the unit's entries are read, where an entry is the first whose position is found
+/// by them.
+///
+/// Once a unit at most its work is that of `read_extents`, else it takes constant time.
 pub fn prepare(
     alloc: Global,
     ctx: &mut UnitCtx<'_, '_>,
@@ -327,7 +336,7 @@ pub fn prepare(
         (λ x. SayExtents (scope ctx.new) x.rows.items)) }
     ensures ready { OnOk result (IsReady ctx.new entry.now) }
 {
-    if ctx.extents.is_some() || !needs_others(ctx, entry) {
+    if ctx.extents.is_some() || !needs_extents(ctx, entry) {
         return Ok(());
     }
     let extents = read_extents(alloc, &ctx.form, ctx.start.copy())?;

@@ -15,6 +15,8 @@ use entry_tree::Entry;
 use std::alloc::{AllocError, Global};
 
 /// A type of a kind, with a name that doesn't come from the entry, that refers to one type.
+///
+/// Its work is that of a call of `Entry::attr`.
 pub fn reference<'a>(
     alloc: Global,
     ctx: &FormCtx<'a>,
@@ -36,7 +38,9 @@ pub fn reference<'a>(
     })
 }
 
-/// The type of a typedef.
+/// The type of a typedef. A missing name is noted.
+///
+/// Its work is that of two calls of `Entry::attr`, and grows with the bytes of the name.
 #[tactic(auto, using(crate::proofs::Noting::noted_append))]
 pub fn typedef<'a>(
     alloc: Global,

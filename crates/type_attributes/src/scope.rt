@@ -12,6 +12,6 @@ pub struct UnitCtx<'w, 'a> {
     pub version: u16,
     /// A walk at its first entry.
     pub start: Walk<'w, 'a>,
-    /// What its entries say of their extents, once the place of a member was found by it.
+    /// What its entries say of their extents, once the position of a member needed it.
     pub extents: Option<Extents>,
 }

@@ -26,7 +26,7 @@ enum OneOrMany {
 /// A list of targets. Contracts see it as the list.
 #[derive(Drop)]
 pub struct Targets {
-    kept: OneOrMany,
+    list: OneOrMany,
 }
 
 impl Model for Targets {
@@ -37,7 +37,7 @@ impl Model for Targets {
 
     ghost use Rattle.type_attributes.specs.Targets.{targets_in};
 
-    ghost view = { λ s. targets_in s.kept };
+    ghost view = { λ s. targets_in s.list };
 }
 
 impl Targets {
@@ -46,7 +46,7 @@ impl Targets {
         ensures { result ≡ items.items }
     {
         Targets {
-            kept: OneOrMany::Many(items),
+            list: OneOrMany::Many(items),
         }
     }
 
@@ -55,16 +55,16 @@ impl Targets {
         ensures { result ≡ target ∷ [] }
     {
         Targets {
-            kept: OneOrMany::One(target),
+            list: OneOrMany::One(target),
         }
     }
 
-    /// The targets as a slice.
+    /// The targets as a slice, in constant time.
     #[inline(always)]
     pub fn items(&self) -> &[Target]
         ensures { result.now ≡ self.now }
     {
-        match &self.kept {
+        match &self.list {
             OneOrMany::One(target) => std::slice::from_ref(target),
             OneOrMany::Many(items) => items.as_slice(),
         }

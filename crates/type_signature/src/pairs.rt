@@ -9,6 +9,11 @@ use crate::hashing::{FACTOR, place_among};
 use crate::labels::Numbered;
 use indexmap::IndexSet;
 use std::alloc::{AllocError, Global};
+use std::hash::{BuildHasherDefault, DefaultHasher};
+
+/// Different pairs. They are hashed by SipHash: a file's types can be made to collide by the
+/// library's default hasher.
+type PairSet = IndexSet<(u32, u64), BuildHasherDefault<DefaultHasher>>;
 
 /// How many hints there are at most.
 const MOST_HINTS: usize = 65_536;
@@ -27,7 +32,7 @@ fn hint_of(pair: (u32, u64), count: usize) -> usize {
 
 /// Whether a pair stands at this place.
 #[inline(always)]
-fn stands_at(pairs: &IndexSet<(u32, u64)>, place: usize, pair: (u32, u64)) -> bool
+fn stands_at(pairs: &PairSet, place: usize, pair: (u32, u64)) -> bool
     ensures { IsTrue result → slice_get pairs.now.keys place ≡ Some pair }
 {
     match pairs.get_index(place) {
@@ -37,7 +42,7 @@ fn stands_at(pairs: &IndexSet<(u32, u64)>, place: usize, pair: (u32, u64)) -> bo
 }
 
 /// The place of a pair by a look-up. One that is not there goes last.
-fn looked_up(pairs: &mut IndexSet<(u32, u64)>, pair: (u32, u64)) -> Result<usize, AllocError>
+fn looked_up(pairs: &mut PairSet, pair: (u32, u64)) -> Result<usize, AllocError>
     ensures { IfOk result (λ r. TakesKey pairs.old.keys pair pairs.new.keys r) }
 {
     let (place, _) = pairs.insert_full(pair)?;
@@ -46,11 +51,7 @@ fn looked_up(pairs: &mut IndexSet<(u32, u64)>, pair: (u32, u64)) -> Result<usize
 
 /// The place of a pair. One that is not there goes last. It is looked up only where it does not
 /// stand at its hint, which is then set to its place.
-fn place_of(
-    pairs: &mut IndexSet<(u32, u64)>,
-    hints: &mut [u32],
-    pair: (u32, u64),
-) -> Result<usize, AllocError>
+fn place_of(pairs: &mut PairSet, hints: &mut [u32], pair: (u32, u64)) -> Result<usize, AllocError>
     ensures { IfOk result (λ r. TakesKey pairs.old.keys pair pairs.new.keys r) }
 {
     let Some(hint) = hints.get_mut(hint_of(pair, hints.len())) else {
@@ -76,7 +77,7 @@ pub(crate) fn paired(alloc: Global, first: &[u32], second: &[u64]) -> Result<Num
     ensures below { IfOk result (λ r. All (λ k. k < length first.now) r.numbers.items) }
     ensures count { IfOk result (λ r. distinct_count nat_eq r.numbers.items ≡ r.count) }
 {
-    let mut pairs = IndexSet::new(alloc);
+    let mut pairs: PairSet = IndexSet::with_hasher(alloc, BuildHasherDefault::new());
     let mut hints = hints_for(alloc, first.len())?;
     let mut numbers = Vec::with_capacity(alloc, first.len())?;
     for x in 0..first.len() {

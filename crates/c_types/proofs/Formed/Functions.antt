@@ -12,9 +12,9 @@ use Rattle.dwarf_forms.specs.Meanings.{Sections}
 use Rattle.entry_tree.specs.Items.{Given}
 use Rattle.type_attributes.specs.declared.fault.TypeFault.TheVariants.{TooMany}
 use Rattle.type_attributes.specs.Faults.{refuse_if}
-use Rattle.type_attributes.specs.Attributes.{name_asked, name_in_full, target_asked}
+use Rattle.type_attributes.specs.Attributes.{name_attr, name_in_full, target_attr}
 use Rattle.type_attributes.specs.Children.{tagged}
-use Rattle.type_attributes.specs.Parts.{part_of, refused_by, some_tagged, most}
+use Rattle.type_attributes.specs.Parts.{part_of, refusals_by, some_tagged, most}
 use Rattle.c_types.specs.Functions.{parameter_part, parameter_target, parameter_refused, rest_part}
 use Rattle.c_types.specs.Functions.{rest_target, function_parts, function_targets, function_row}
 use Rattle.c_types.proofs.Formed.Refused.{second_empty, not_refused}
@@ -78,11 +78,11 @@ function_row_formed c e children clean none =
     let row : PartRow = record { named = true; refers = true; value = 1 } in
     function_formed parts (suc (length (function_targets c children)))
     (omega (arith, target_count c children))
-    (few_parts e.at (length parts) (second_empty (refused_by (parameter_refused c) ps) _
-    (second_empty (target_asked c e).refused _ none)))
+    (few_parts e.at (length parts) (second_empty (refusals_by (parameter_refused c) ps) _
+    (second_empty (target_attr c e).refused _ none)))
     (All-append (FitsPart row) (map (parameter_part c) ps)
     (rest_part (some_tagged DW_TAG_unspecified_parameters children))
     (parts_fit row (parameter_part c) ps (λ (p : Given) (h : IsNamedCleanly p).
-    named_part true 1 (name_in_full (name_asked c p)) 0 (name_clean c p h) (omega arith))
+    named_part true 1 (name_in_full (name_attr c p)) 0 (name_clean c p h) (omega arith))
     (tagged_all IsNamedCleanly DW_TAG_formal_parameter children clean))
     (rest_fits (some_tagged DW_TAG_unspecified_parameters children)))

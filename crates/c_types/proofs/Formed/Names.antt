@@ -15,7 +15,7 @@ use Rattle.dwarf_forms.specs.Meanings.{Sections, or_out, string_at, through, num
 use Rattle.dwarf_forms.specs.Meanings.{plain_name, name_in}
 use Rattle.entry_tree.specs.Items.{Given}
 use Rattle.entry_tree.specs.Reads.{value_with}
-use Rattle.type_attributes.specs.Attributes.{asked, text_asked, name_asked, name_in_full}
+use Rattle.type_attributes.specs.Attributes.{attr_of, text_attr, name_attr, name_in_full}
 use Rattle.dwarf_abbrev.specs.declared.constants.TheConstants.{DW_AT_name}
 use Rattle.dw_base.proofs.Texts.{text_of_no_nul}
 
@@ -54,13 +54,13 @@ plain_clean c attribute form (number kind k) n clean e = number_clean c attribut
 plain_clean c attribute form other n clean e = cc
 
 said_clean : (at : ℕ) (r : Result (List ℕ) FormFault) → ((n : List ℕ) → r ≡ Ok n → HasNoNul n)
-    → HasNoNul (name_in_full (asked at (Some r)))
+    → HasNoNul (name_in_full (attr_of at (Some r)))
 said_clean at (Ok n) clean = clean n refl
 said_clean at (Err f) clean = All-nil (λ (byte : ℕ). byte ≢ 0)
 
 value_clean : (c : Sections) (attribute at : ℕ) (o : Option Shown)
     → ((v : Shown) (t : List ℕ) → o ≡ Some v → v.value ≡ text t → HasNoNul t)
-    → HasNoNul (name_in_full (asked at (option_map (name_in c attribute) o)))
+    → HasNoNul (name_in_full (attr_of at (option_map (name_in c attribute) o)))
 value_clean c attribute at None clean = All-nil (λ (byte : ℕ). byte ≢ 0)
 value_clean c attribute at (Some v) clean =
     said_clean at (name_in c attribute v)
@@ -68,12 +68,12 @@ value_clean c attribute at (Some v) clean =
     (λ (t : List ℕ) (is : v.value ≡ text t). clean v t refl is) h)
 
 pub text_clean_of : (attribute : ℕ) (c : Sections) (e : Given) → IsNamedCleanly e
-    → HasNoNul (name_in_full (text_asked attribute c e))
+    → HasNoNul (name_in_full (text_attr attribute c e))
 text_clean_of attribute c e clean =
     value_clean c attribute e.at (value_with attribute e.values) (clean attribute)
 
 pub name_clean : (c : Sections) (e : Given) → IsNamedCleanly e
-    → HasNoNul (name_in_full (name_asked c e))
+    → HasNoNul (name_in_full (name_attr c e))
 name_clean c e clean = text_clean_of DW_AT_name c e clean
 
 -- a name that is spelled out

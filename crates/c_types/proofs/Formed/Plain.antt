@@ -13,13 +13,13 @@ use Rattle.entry_tree.specs.Items.{Given}
 use Rattle.type_attributes.specs.declared.number.Number.{Number}
 use Rattle.type_attributes.specs.declared.base.Base.{Base}
 use Rattle.type_attributes.specs.declared.base.Base.TheVariants.{Int, Float, Opaque}
-use Rattle.type_attributes.specs.Attributes.{name_asked, name_in_full, constant_asked, number_said}
+use Rattle.type_attributes.specs.Attributes.{name_attr, name_in_full, constant_attr, number_value}
 use Rattle.type_attributes.specs.Labels.{Row, plain_label, word_of, size_in}
 use Rattle.type_attributes.specs.BaseTypes.{int_word, is_integer, is_float, base_of, code_in}
 use Rattle.type_attributes.specs.BaseTypes.{is_whole, base_with, base_label, base_row}
 use Rattle.type_attributes.specs.BaseTypes.{unspecified_row}
 use Rattle.type_attributes.specs.References.{atomic_name, reference_row, typedef_row}
-use Rattle.c_types.specs.Pointers.{pointer_row, tag_asked}
+use Rattle.c_types.specs.Pointers.{pointer_row, tag_attr}
 use Rattle.c_types.specs.Types.{plain_row_of}
 use Rattle.c_types.specs.Arrays.{elements_of, elements_in, some_long, lengths_of, array_row}
 use Rattle.c_types.specs.Formed.{IsFormed}
@@ -91,20 +91,20 @@ label_formed name size Opaque clean s x = opaque_formed name size clean s
 
 base_formed : (c : Sections) (e : Given) → IsNamedCleanly e → HasFormed (base_row c e)
 base_formed c e clean =
-    let size = size_in (constant_asked DW_AT_byte_size e).said in
-    label_formed (name_in_full (name_asked c e)) size
-    (base_with size (number_said (constant_asked DW_AT_encoding e))
-    (number_said (constant_asked DW_AT_bit_size e)))
-    (name_clean c e clean) (size_fits (constant_asked DW_AT_byte_size e).said) (with_small size
-    (number_said (constant_asked DW_AT_encoding e)) (number_said (constant_asked DW_AT_bit_size e)))
+    let size = size_in (constant_attr DW_AT_byte_size e).value in
+    label_formed (name_in_full (name_attr c e)) size
+    (base_with size (number_value (constant_attr DW_AT_encoding e))
+    (number_value (constant_attr DW_AT_bit_size e)))
+    (name_clean c e clean) (size_fits (constant_attr DW_AT_byte_size e).value) (with_small size
+    (number_value (constant_attr DW_AT_encoding e)) (number_value (constant_attr DW_AT_bit_size e)))
 
 unspecified_formed : (c : Sections) (e : Given) → IsNamedCleanly e → HasFormed (unspecified_row c e)
 unspecified_formed c e clean =
-    opaque_formed (name_in_full (name_asked c e)) 0 (name_clean c e clean) (omega arith)
+    opaque_formed (name_in_full (name_attr c e)) 0 (name_clean c e clean) (omega arith)
 
 typedef_formed : (c : Sections) (e : Given) → IsNamedCleanly e → HasFormed (typedef_row c e)
-typedef_formed c e clean = linked_formed 8 (name_in_full (name_asked c e)) false refl
-    (λ (tag : Tag) (h : declared_tag (plain_label 8 (name_in_full (name_asked c e)) 0) ≡ Some tag).
+typedef_formed c e clean = linked_formed 8 (name_in_full (name_attr c e)) false refl
+    (λ (tag : Tag) (h : declared_tag (plain_label 8 (name_in_full (name_attr c e)) 0) ≡ Some tag).
     none-some tag h) (name_clean c e clean)
 
 reference_formed : (kind : ℕ) (name : List ℕ) (c : Sections) (e : Given) → row_of kind ≡ Some
@@ -155,10 +155,10 @@ pointer_row_formed c e children n = linked_formed 2 [] false refl
     (λ (tag : Tag) (h : declared_tag (plain_label 2 [] 0) ≡ Some tag). none-some tag h) no_name
 
 pub tag_formed : (c : Sections) (e : Given) → IsNamedCleanly e
-    → IsFormed (plain_label 18 (name_in_full (tag_asked c e)) 0) 1
+    → IsFormed (plain_label 18 (name_in_full (tag_attr c e)) 0) 1
 tag_formed c e clean =
-    linked_formed 18 (name_in_full (tag_asked c e)) true refl (λ (tag : Tag)
-    (h : declared_tag (plain_label 18 (name_in_full (tag_asked c e)) 0) ≡ Some tag).
+    linked_formed 18 (name_in_full (tag_attr c e)) true refl (λ (tag : Tag)
+    (h : declared_tag (plain_label 18 (name_in_full (tag_attr c e)) 0) ≡ Some tag).
     none-some tag h) (text_clean_of DW_AT_const_value c e clean)
 
 -- arrays

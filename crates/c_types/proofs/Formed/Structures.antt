@@ -11,11 +11,11 @@ use Rattle.type_attributes.specs.declared.number.Number.TheVariants.{Natural, Ne
 use Rattle.type_attributes.specs.declared.fault.TypeFault.{TypeFault}
 use Rattle.type_attributes.specs.Scopes.{Scope}
 use Rattle.type_attributes.specs.Numbers.{number_from}
-use Rattle.type_attributes.specs.Attributes.{name_asked, name_in_full, constant_asked, flag_asked}
+use Rattle.type_attributes.specs.Attributes.{name_attr, name_in_full, constant_attr, flag_attr}
 use Rattle.type_attributes.specs.Attributes.{is_set}
 use Rattle.type_attributes.specs.Children.{tagged}
-use Rattle.type_attributes.specs.Labels.{Row, size_in, size_refused}
-use Rattle.type_attributes.specs.Parts.{refused_by}
+use Rattle.type_attributes.specs.Labels.{Row, size_in, size_refusals}
+use Rattle.type_attributes.specs.Parts.{refusals_by}
 use Rattle.type_attributes.specs.Positions.{position_of}
 use Rattle.c_types.specs.Structures.{or_zero, bits_of, bits_in, near, word_of, member_word}
 use Rattle.c_types.specs.Structures.{member_part, member_target, member_refused, has_fields}
@@ -53,31 +53,31 @@ word_small false position bits le =
     near_if position (2 ^ 32) (nat_lt position (2 ^ 32)) (omega arith) refl
 
 member_small : (c : Scope) (fields : Bool) (m : Given) → member_word c fields m < 2 ^ 32
-member_small c fields m = word_small fields (or_zero (position_of c m).said)
-    (bits_in (constant_asked DW_AT_bit_size m).said)
-    (few_bits (constant_asked DW_AT_bit_size m).said)
+member_small c fields m = word_small fields (or_zero (position_of c m).value)
+    (bits_in (constant_attr DW_AT_bit_size m).value)
+    (few_bits (constant_attr DW_AT_bit_size m).value)
 
 forward_row_formed : (c : Scope) (union : Bool) (e : Given) → IsNamedCleanly e
     → IsFormedRow (forward_row c union e)
 forward_row_formed c union e clean none =
-    forward_formed union (name_in_full (name_asked c.sections e)) (name_clean c.sections e clean)
+    forward_formed union (name_in_full (name_attr c.sections e)) (name_clean c.sections e clean)
 
 defined_row_formed : (c : Scope) (union : Bool) (e : Given) (members : List Given)
     → IsNamedCleanly e → All IsNamedCleanly members → IsFormedRow (defined_row c union e members)
 defined_row_formed c union e members clean all none =
     let fields = has_fields members in
-    let size = constant_asked DW_AT_byte_size e in
+    let size = constant_attr DW_AT_byte_size e in
     let row : PartRow = record { named = true; refers = true; value = 2 ^ 32 } in
     let few : length members ≤ 65535 = few_parts e.at (length members) (second_empty
-    (refused_by (member_refused c fields) members) _ (second_empty (size_refused e.at size.said)
-    _ (second_empty size.refused _ (second_empty (name_asked c.sections e).refused _ none)))) in
-    structure_formed union (name_in_full (name_asked c.sections e)) (size_in size.said) fields
+    (refusals_by (member_refused c fields) members) _ (second_empty (size_refusals e.at size.value)
+    _ (second_empty size.refused _ (second_empty (name_attr c.sections e).refused _ none)))) in
+    structure_formed union (name_in_full (name_attr c.sections e)) (size_in size.value) fields
     (map (member_part c fields) members) (length (map (member_target c) members))
-    (name_clean c.sections e clean) (size_fits size.said)
+    (name_clean c.sections e clean) (size_fits size.value)
     (omega (arith, length-map members (member_target c), length-map members (member_part c fields)))
     (omega (arith, length-map members (member_part c fields)))
     (parts_fit row (member_part c fields) members (λ (m : Given) (h : IsNamedCleanly m).
-    named_part true (2 ^ 32) (name_in_full (name_asked c.sections m)) (member_word c fields m)
+    named_part true (2 ^ 32) (name_in_full (name_attr c.sections m)) (member_word c fields m)
     (name_clean c.sections m h) (member_small c fields m)) all)
 
 -- one row or another, and one with more refusals
@@ -93,10 +93,10 @@ pub structure_row_formed : (c : Scope) (union : Bool) (e : Given) (children : Li
     → IsNamedCleanly e → All IsNamedCleanly children
     → IsFormedRow (structure_row c union e children)
 structure_row_formed c union e children clean all =
-    more_refused (flag_asked DW_AT_declaration e).refused
-    (if is_set (flag_asked DW_AT_declaration e)
+    more_refused (flag_attr DW_AT_declaration e).refused
+    (if is_set (flag_attr DW_AT_declaration e)
     then forward_row c union e else defined_row c union e (tagged DW_TAG_member children))
-    (if_row (is_set (flag_asked DW_AT_declaration e)) (forward_row c union e)
+    (if_row (is_set (flag_attr DW_AT_declaration e)) (forward_row c union e)
     (defined_row c union e (tagged DW_TAG_member children)) (forward_row_formed c union e clean)
     (defined_row_formed c union e (tagged DW_TAG_member children) clean
     (tagged_all IsNamedCleanly DW_TAG_member children all)))

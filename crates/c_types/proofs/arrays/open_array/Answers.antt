@@ -9,7 +9,7 @@ returns c =
     array_comes (scope c.args.ctx.now) c.args.entry.now c.in_ok-new.field-0
     (rw c.in_ok-new.ensures.ok (record {
       at = c.at-at.ensures;
-      target = c.type_target-target.ensures.said;
+      target = c.type_target-target.ensures.value;
       lengths = refl;
       least = c.note_if.ensures
           ∙ rw (c.at-at.ensures, c.type_target-target.ensures.noted, c.is_given.ensures)

@@ -1,20 +1,20 @@
 use Rattle.std.proofs.Common.{◌≡◌, ◌∙◌, ℤ, Option, refl, ap}
 use Rattle.type_attributes.specs.Scopes.{scope}
 use Rattle.type_attributes.specs.Labels.{size_in}
-use Rattle.type_attributes.specs.Attributes.{constant_asked}
+use Rattle.type_attributes.specs.Attributes.{constant_attr}
 use Rattle.c_types.proofs.OpenEnumerations.{enumeration_comes}
 use Rattle.c_types.proofs.enumerations.open_enumeration.Goals as goal
 use Rattle.dwarf_abbrev.specs.declared.constants.TheConstants.{DW_AT_byte_size}
 
 pub returns : goal.returns
 returns c =
-    let size : c.given_size-size.result
-    ≡ size_in (constant_asked DW_AT_byte_size c.args.entry.now).said =
-    c.given_size-size.ensures ∙ ap (λ (o : Option ℤ). size_in o) c.constant-size.ensures.said in
+    let size : c.size_or_zero-size.result
+    ≡ size_in (constant_attr DW_AT_byte_size c.args.entry.now).value =
+    c.size_or_zero-size.ensures ∙ ap (λ (o : Option ℤ). size_in o) c.constant-size.ensures.value in
     enumeration_comes (scope c.args.ctx.now) c.args.entry.now c.in_ok-new.field-0
     (rw c.in_ok-new.ensures.ok (record {
       at = c.at-at.ensures;
-      name = c.name-name.ensures.said;
+      name = c.name-name.ensures.value;
       size = size;
       wide = rw size refl;
       has_some = refl;
@@ -22,8 +22,8 @@ returns c =
       parts = c.parts.ensures;
       bare = c.name-name.ensures.noted ∙ rw c.requires.declared refl;
       unsigned = c.note_enum_size.ensures
-          ∙ rw (c.at-at.ensures, c.constant-size.ensures.said, c.constant-size.ensures.noted) refl;
+          ∙ rw (c.at-at.ensures, c.constant-size.ensures.value, c.constant-size.ensures.noted) refl;
       signed = c.note_enum_size.ensures
-          ∙ rw (c.at-at.ensures, c.constant-size.ensures.said, c.constant-size.ensures.noted) refl;
+          ∙ rw (c.at-at.ensures, c.constant-size.ensures.value, c.constant-size.ensures.noted) refl;
     }))
     c.requires.defined

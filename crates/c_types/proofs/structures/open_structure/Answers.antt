@@ -10,7 +10,7 @@ returns c =
     c.args.declared c.note_size.new.least c.in_ok-new.field-0 c.requires.defined c.requires.declared
     (c.note_size.ensures ∙ rw (
       c.at-at.ensures,
-      c.constant-size.ensures.said,
+      c.constant-size.ensures.value,
       c.constant-size.ensures.noted,
       c.name-name.ensures.noted,
     ) refl)
@@ -20,8 +20,9 @@ returns c =
       fields = refl;
       at = c.at-at.ensures;
       is_union = refl;
-      name = c.name-name.ensures.said;
-      size = c.given_size.ensures ∙ ap (λ (o : Option ℤ). size_in o) c.constant-size.ensures.said;
+      name = c.name-name.ensures.value;
+      size = c.size_or_zero.ensures
+          ∙ ap (λ (o : Option ℤ). size_in o) c.constant-size.ensures.value;
       plain = refl;
       packed = refl;
     }))

@@ -14,4 +14,4 @@ returns c =
     sym (tag_by (sections c.args.ctx.now) c.args.entry.now c.is_of_type_tags.result
     (rw c.tag.ensures at c.if-tag-ne-DW_TAG_GNU_annotation.false)
     (c.is_of_type_tags.ensures
-    ∙ ap (λ (n : List ℕ). bytes_eq n (codes "btf_type_tag")) c.name-name.ensures.said))
+    ∙ ap (λ (n : List ℕ). bytes_eq n (codes "btf_type_tag")) c.name-name.ensures.value))

@@ -2,7 +2,7 @@ use Rattle.std.proofs.Common.{◌≡◌, ◌++◌, ◌∙◌, ℕ, [], Bool, tru
 use Rattle.std.proofs.Common.{if◌then◌else◌, sym, ap}
 use Rattle.std.proofs.lemmas.Bool.{eq-eqb}
 use Rattle.dwarf_forms.specs.Meanings.{sections}
-use Rattle.type_attributes.specs.Attributes.{name_asked, flag_asked}
+use Rattle.type_attributes.specs.Attributes.{name_attr, flag_attr}
 use Rattle.type_attributes.specs.Faults.{noted}
 use Rattle.type_attributes.specs.Labels.{is_empty}
 use Rattle.func_entries.specs.Functions.{has_name, is_function}
@@ -17,15 +17,16 @@ pub returns-clause-noted : goal.returns-clause-noted
 returns-clause-noted c =
     let s = sections c.args.ctx.now in
     let e = c.args.entry.now in
-    let name = name_asked s e in
+    let name = name_attr s e in
     let names = name.refused in
-    let declarations = (flag_asked DW_AT_declaration e).refused in
-    let externals = (flag_asked DW_AT_external e).refused in
+    let declarations = (flag_attr DW_AT_declaration e).refused in
+    let externals = (flag_attr DW_AT_external e).refused in
     let named : has_name
-    (name_asked (sections c.args.ctx.now) c.args.entry.now) ≡ true =
+    (name_attr (sections c.args.ctx.now) c.args.entry.now) ≡ true =
     elim c.else-is_none.branch [
       | else-is_none-via-then-is_none+else-is_unnamed w ↦ named_by_name name
-          (ap (λ (n : List ℕ). is_empty n) (sym c.name-name.ensures.said) ∙ sym w.is_unnamed.ensures
+          (ap (λ (n : List ℕ). is_empty n) (sym c.name-name.ensures.value)
+          ∙ sym w.is_unnamed.ensures
           ∙ w.if-is_unnamed.false)
       | else-is_none-via-else-is_none w ↦ named_by_refusal name c.name-name.new.least
           c.name-name.ensures.noted
@@ -35,7 +36,7 @@ returns-clause-noted c =
     function_by s e true true false
     (eq-eqb e.tag DW_TAG_subprogram
     (rw c.tag.ensures at c.if-tag-ne-DW_TAG_subprogram.false))
-    named (sym c.if-flag.ensures.said) in
+    named (sym c.if-flag.ensures.value) in
     c.join.ensures
     ∙ values_noted c.args.least.now c.name-name.new.least c.flag.new.least
     c.flag-external.new.least names declarations externals c.name-name.ensures.noted
