@@ -36,10 +36,25 @@ def blocks(text):
 CRATES = re.findall(r"^([^#\s:]+)", read("crates.txt"), re.M)
 
 
+def wrong_links(page):
+    """Links of a page that lead to no file or to no heading of it, and options of no table."""
+    table = read("crates/command_line/specs/Options.antt") + '"--help" "--version" "--explain="'
+    for command in re.findall(r"^    (?:\$ )?pahole ([^|<>&\n]*)", read(page), re.M):
+        for option in re.findall(r"(?<!\S)(?:--\w+=?|-\w)", command):
+            if f'"{option}"' not in table:
+                yield f"no option {option}"
+    for path, anchor in re.findall(r"\]\(([^)#]*)#?([^)]*)\)", read(page)):
+        file = os.path.normpath(os.path.join(os.path.dirname(page), path)) if path else page
+        heads = re.findall(r"^#+ (.*)", read(file), re.M) if found(file) else []
+        names = {re.sub(r"[^\w -]", "", head.lower()).replace(" ", "-") for head in heads}
+        if not found(file) or anchor and anchor not in names:
+            yield f"no {path}#{anchor}"
+
+
 def check_paths(page):
     """Each path is one from the repository's top, from crates/, from a crate that its block, its
     heading or the last block on one crate names, or a folder that each crate has."""
-    faults, heading, number = [], "", 0
+    faults, heading, number = list(wrong_links(page)), "", 0
     for block in blocks(read(page)):
         if re.match(r"#|\*\*\w+\*\*", block):
             heading = block if block.startswith("#") else block.split(" ")[0]
