@@ -16,7 +16,7 @@ use Rattle.c_model.specs.Graph.{RefersWithin}
 use Rattle.c_model.specs.declared.graph.CType.{CType}
 use Rattle.btf_codec.specs.Fields.{fields_of}
 use Rattle.btf_codec.specs.Gives.{EndsWithNul, base_seen}
-use Rattle.btf_codec.specs.Reading.{◌>>=◌, Before, File, Decoded, accepted, file_of, is_begun}
+use Rattle.btf_codec.specs.Reading.{◌>>=◌, Before, File, Decoded, file_of, file_unless, is_begun}
 use Rattle.btf_codec.specs.Reading.{is_ended, is_header, is_wanted, magic_order, names_before}
 use Rattle.btf_codec.specs.Reading.{order_in, pieces_fault, pieces_of, places, sections_of}
 use Rattle.btf_codec.specs.Reading.{table_of, decoded_type, types_before, types_of, wanted_order}
@@ -44,7 +44,7 @@ bound (Err e) f y h = cc
 abbrev rest_pieces : ℕ → ℕ → Order → List ℕ × List ℕ → Result File BtfFault
 rest_pieces types limit order t =
     pieces_of order (length t.0) 24 (types + 1) t.0 >>= λ (pieces : List (List ℕ)).
-    accepted order pieces t.1
+    file_unless order pieces t.1
     (pieces_fault order 24 (types + 1) (limit + length t.1) (types + length pieces) pieces)
 
 abbrev rest_strings : Bool → ℕ → ℕ → Order → List ℕ × List ℕ → Result File BtfFault
@@ -77,7 +77,7 @@ strings_ok true s e g f h = (refl, h)
 strings_ok false s e g f h = cc
 
 accepted_ok : (order : Order) (pieces : List (List ℕ)) (names : List ℕ) (o : Option BtfFault)
-    (f : File) → accepted order pieces names o ≡ Ok f
+    (f : File) → file_unless order pieces names o ≡ Ok f
     → (o ≡ None) × (◌≡◌ {A = File} (record { order = order; pieces = pieces; names = names }) f)
 accepted_ok order pieces names None f h = (refl, cc)
 accepted_ok order pieces names (Some fault) f h = cc
@@ -94,7 +94,7 @@ file_parts based types limit want bytes f h =
     (BtfStrings (24 + length b.value.0))
     (λ (t : List ℕ × List ℕ). rest_pieces types limit a.value t) f b.rest in
     let d = bound (pieces_of a.value (length b.value.0) 24 (types + 1) b.value.0)
-    (λ (pieces : List (List ℕ)). accepted a.value pieces b.value.1 (pieces_fault a.value 24
+    (λ (pieces : List (List ℕ)). file_unless a.value pieces b.value.1 (pieces_fault a.value 24
     (types + 1) (limit + length b.value.1) (types + length pieces) pieces)) f c.1 in
     let e = accepted_ok a.value d.value b.value.1 (pieces_fault a.value 24 (types + 1)
     (limit + length b.value.1) (types + length d.value) d.value) f d.rest in

@@ -17,7 +17,7 @@ use Rattle.btf_codec.specs.Fields.{layout_of, low_of, parts_fields, rest_by, res
 use Rattle.btf_codec.specs.Reading.{first_past, flag_in, ids_by, is_clean, is_info, is_third}
 use Rattle.btf_codec.specs.Reading.{is_vlen, kind_in, may_flag, name_at, names_by, decoded_part}
 use Rattle.btf_codec.specs.Reading.{part_width, decoded_parts, places, ref_of, type_by, type_width}
-use Rattle.btf_codec.specs.Reading.{vlen_in, words_at}
+use Rattle.btf_codec.specs.Reading.{part_ids, part_names, vlen_in, words_at}
 use Rattle.btf_codec.specs.Spells.{StandsFor}
 use Rattle.btf_codec.specs.declared.layout.KindLayout.{KindLayout}
 use Rattle.btf_codec.specs.declared.layout.KindLayout.TheVariants.{Int, Link, Array, Forward}
@@ -54,21 +54,6 @@ pub length_places : (at width n : ℕ) → length (places at width n) ≡ n
 unfolding places
 length_places at width zero = refl
 length_places at width (suc n) = ap (λ (k : ℕ). suc k) (length_places (at + width) width n)
-
--- the ids and the offsets of names in parts
-abbrev pub part_ids : PartLayout → (ℕ → ℕ) → ℕ → ℕ → List ℕ
-part_ids Member w at n = words_at w (at + 1) 3 n
-part_ids Enumerator w at n = []
-part_ids WideEnumerator w at n = []
-part_ids Parameter w at n = words_at w (at + 1) 2 n
-part_ids Variable w at n = words_at w at 3 n
-
-abbrev pub part_names : PartLayout → (ℕ → ℕ) → ℕ → ℕ → List ℕ
-part_names Member w at n = words_at w at 3 n
-part_names Enumerator w at n = words_at w at 2 n
-part_names WideEnumerator w at n = words_at w at 3 n
-part_names Parameter w at n = words_at w at 2 n
-part_names Variable w at n = []
 
 -- what the check of an info word found
 pub record Info (layout : KindLayout) (y word : ℕ) : Type 0 where

@@ -14,7 +14,8 @@ use Rattle.c_model.specs.declared.graph.Ref.TheVariants.{Void}
 use Rattle.c_model.specs.declared.kinds.TheConstants.{BTF_KIND_FUNC}
 use Rattle.btf_codec.specs.Fields.{Field, Named, Number, bit_of, fields_of, id_of, info_of}
 use Rattle.btf_codec.specs.Fields.{layout_of, parts_fields, rest_fields, target_at, vlen_of}
-use Rattle.btf_codec.specs.Reading.{checked, first_past, flag_in, head_of, ids_by, is_clean}
+use Rattle.btf_codec.specs.Reading.{part_ids, part_names}
+use Rattle.btf_codec.specs.Reading.{checked_width, first_past, flag_in, head_of, ids_by, is_clean}
 use Rattle.btf_codec.specs.Reading.{is_info, is_third, is_vlen, kind_in, may_flag, names_by}
 use Rattle.btf_codec.specs.Reading.{part_width, places, type_width, vlen_in, words_at}
 use Rattle.btf_codec.specs.Spells.{StandsFor}
@@ -30,7 +31,7 @@ use Rattle.btf_codec.specs.declared.layout.PartLayout.TheVariants.{Variable}
 use Rattle.btf_codec.proofs.Below.{id_below, offset_below, past_join}
 use Rattle.btf_codec.proofs.KindTable.{kind_known, vlen_few}
 use Rattle.btf_codec.proofs.Rows.{never_sized, row_by, well_laid}
-use Rattle.btf_codec.proofs.DecodedTypes.{fields_with, ids_sized, part_ids, part_names, shape_there}
+use Rattle.btf_codec.proofs.DecodedTypes.{fields_with, ids_sized, shape_there}
 use Rattle.btf_codec.proofs.DecodedTypes.{vlen_none}
 use Rattle.btf_codec.proofs.Splitting.{width_some}
 
@@ -420,6 +421,7 @@ module _ (s : List ℕ) (w : ℕ → ℕ) (count : ℕ) where
       let a : nat_lt left 3 ≡ false = le-ltb left 3 (omega (arith, some, width)) in
       let b : nat_lt left (type_width r.layout (vlen_in (w 1))) ≡ false =
       le-ltb left (type_width r.layout (vlen_in (w 1))) (omega (arith, width)) in
-      (λ i. if a i then Err (BtfTruncated place) else checked place id (w 1) (w 2) left (r.laid i))
+      (λ i. if a i then Err (BtfTruncated place)
+      else checked_width place id (w 1) (w 2) left (r.laid i))
       ∙ (λ i. if r.info i then (if b i then Err (BtfTruncated place) else Ok (width i))
       else Err (BtfInfo place id))

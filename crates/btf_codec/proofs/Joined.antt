@@ -15,7 +15,8 @@ use Rattle.c_model.specs.Graph.{IsBelow, RefersWithin}
 use Rattle.c_model.specs.Kinds.{IsWellFormed}
 use Rattle.c_model.specs.declared.graph.CType.{CType}
 use Rattle.btf_codec.specs.Fields.{fields_of, layout_of}
-use Rattle.btf_codec.specs.Reading.{◌>>=◌, checked, first_past, head_of, ids_by, is_info, kind_in}
+use Rattle.btf_codec.specs.Reading.{◌>>=◌, checked_width, first_past, head_of, ids_by, is_info}
+use Rattle.btf_codec.specs.Reading.{kind_in}
 use Rattle.btf_codec.specs.Reading.{name_at, names_by, pieces_fault, pieces_of, places, type_by}
 use Rattle.btf_codec.specs.Reading.{decoded_type, type_width, types_of, vlen_in, word_in, words_at}
 use Rattle.btf_codec.specs.Reading.{words_fault}
@@ -53,13 +54,14 @@ sized place id left size w layout false b l h f e = cc
 
 passed_by : (place id left size : ℕ) (w : ℕ → ℕ) (o : Option KindLayout)
     → layout_of (kind_in (w 1)) ≡ o
-    → checked place id (w 1) (w 2) left o ≡ Ok size → Passed w size left
+    → checked_width place id (w 1) (w 2) left o ≡ Ok size → Passed w size left
 passed_by place id left size w None l e = cc
 passed_by place id left size w (Some layout) l e = sized place id left size w layout
     (is_info layout (w 1) (w 2)) (nat_lt left (type_width layout (vlen_in (w 1)))) l refl refl e
 
 headed : (place id left size : ℕ) (w : ℕ → ℕ) (b : Bool)
-    → ◌≡◌ {A = Result ℕ BtfFault} (if b then Err (BtfTruncated place) else checked place id (w 1)
+    → ◌≡◌ {A = Result ℕ BtfFault} (if b then Err (BtfTruncated place)
+    else checked_width place id (w 1)
     (w 2) left (layout_of (kind_in (w 1)))) (Ok size) → Passed w size left
 headed place id left size w true e = cc
 headed place id left size w false e =

@@ -8,7 +8,8 @@ use Rattle.std.proofs.lemmas.List.{drop-drop}
 use Rattle.dw_base.specs.declared.numbers.Order.{Order}
 use Rattle.btf_codec.specs.Fields.{layout_of}
 use Rattle.btf_codec.specs.Gives.{Fails, Gives}
-use Rattle.btf_codec.specs.Reading.{◌>>=◌, checked, head_of, is_header, is_info, kind_in, pieces_of}
+use Rattle.btf_codec.specs.Reading.{◌>>=◌, checked_width, head_of, is_header, is_info, kind_in}
+use Rattle.btf_codec.specs.Reading.{pieces_of}
 use Rattle.btf_codec.specs.Reading.{sections_of, type_width, vlen_in, word_in}
 use Rattle.btf_codec.specs.declared.fault.BtfFault.{BtfFault}
 use Rattle.btf_codec.specs.declared.fault.BtfFault.TheVariants.{BtfMagic, BtfHeader, BtfTruncated}
@@ -85,14 +86,14 @@ sized place id left size v layout true false f e =
 sized place id left size v layout false b f e = cc
 
 checked_fits : (place id y third left size : ℕ) (o : Option KindLayout)
-    → checked place id y third left o ≡ Ok size → Fit o size left (vlen_in y)
+    → checked_width place id y third left o ≡ Ok size → Fit o size left (vlen_in y)
 checked_fits place id y third left size None e = cc
 checked_fits place id y third left size (Some layout) e = sized place id left size
     (vlen_in y) layout (is_info layout y third) (nat_lt left (type_width layout (vlen_in y))) refl e
 
 headed : (place id left size : ℕ) (w : ℕ → ℕ) (b : Bool)
     → ◌≡◌ {A = Result ℕ BtfFault} (if b then Err (BtfTruncated place)
-    else checked place id (w 1) (w 2) left (layout_of (kind_in (w 1)))) (Ok size)
+    else checked_width place id (w 1) (w 2) left (layout_of (kind_in (w 1)))) (Ok size)
     → Fit (layout_of (kind_in (w 1))) size left (vlen_in (w 1))
 headed place id left size w true e = cc
 headed place id left size w false e =

@@ -17,10 +17,14 @@ use Rattle.c_model.specs.declared.label.Part.{Part}
 use Rattle.c_model.specs.declared.graph.CType.{CType}
 use Rattle.c_model.specs.declared.graph.Ref.{Ref}
 use Rattle.c_model.specs.declared.graph.Ref.TheVariants.{Void, Node}
+use Rattle.btf_codec.specs.declared.format.TheConstants.{KIND_SHIFT, KIND_FLAG_BIT}
 use Rattle.btf_codec.specs.declared.layout.KindLayout.{KindLayout}
 use Rattle.btf_codec.specs.declared.layout.KindLayout.TheVariants.{Int, Link, Array, Forward}
 use Rattle.btf_codec.specs.declared.layout.KindLayout.TheVariants.{TaggedLink, Float, Sized}
 use Rattle.btf_codec.specs.declared.layout.KindLayout.TheVariants.{Prototype}
+use Rattle.btf_codec.specs.declared.layout.OwnTargets.{OwnTargets}
+use Rattle.btf_codec.specs.declared.layout.OwnTargets.TheVariants.{NoTarget, OneTarget}
+use Rattle.btf_codec.specs.declared.layout.OwnTargets.TheVariants.{ArrayTargets}
 use Rattle.btf_codec.specs.declared.layout.PartLayout.{PartLayout}
 use Rattle.btf_codec.specs.declared.layout.PartLayout.TheVariants.{Member, Enumerator}
 use Rattle.btf_codec.specs.declared.layout.PartLayout.TheVariants.{WideEnumerator, Parameter}
@@ -61,6 +65,27 @@ layout_of k =
     else if k == BTF_KIND_ENUM64 then Some (Sized WideEnumerator)
     else None
 
+-- the third word is the size
+abbrev pub has_size : KindLayout → Bool
+has_size Int = true
+has_size Float = true
+has_size (Sized parts) = true
+has_size layout = false
+
+-- which words outside of parts are ids
+abbrev pub own_targets : KindLayout → OwnTargets
+own_targets Link = OneTarget
+own_targets TaggedLink = OneTarget
+own_targets Prototype = OneTarget
+own_targets Array = ArrayTargets
+own_targets layout = NoTarget
+
+-- the layout of the parts of a kind that has parts
+abbrev pub part_layout : KindLayout → Option PartLayout
+part_layout (Sized parts) = Some parts
+part_layout Prototype = Some Parameter
+part_layout layout = None
+
 -- bits 0 to 15: the number of parts, but of a FUNC its linkage
 abbrev pub vlen_of : Label → ℕ
 vlen_of l = if l.kind == BTF_KIND_FUNC then l.extra else length l.parts
@@ -71,7 +96,7 @@ bit_of false = 0
 
 -- the info word: vlen in bits 0 to 15, the kind in 24 to 28, kind_flag in 31
 abbrev pub info_of : Label → ℕ
-info_of l = vlen_of l + 2 ^ 24 * l.kind + 2 ^ 31 * bit_of l.flag
+info_of l = vlen_of l + 2 ^ KIND_SHIFT * l.kind + 2 ^ KIND_FLAG_BIT * bit_of l.flag
 
 -- the low and the high 32 bits
 abbrev pub low_of : ℕ → ℕ

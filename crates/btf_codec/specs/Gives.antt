@@ -5,6 +5,7 @@ use Rattle.btf_codec.specs.Reading.{Before, Decoded, types_before, layout_in, ty
 use Rattle.btf_codec.specs.Reading.{word_in}
 use Rattle.btf_codec.specs.declared.fault.BtfFault.{BtfFault}
 use Rattle.btf_codec.specs.declared.fault.BtfFault.TheVariants.{Memory}
+use Rattle.btf_codec.specs.declared.format.TheConstants.{INFO}
 use Rattle.btf_codec.specs.declared.layout.KindLayout.{KindLayout}
 use Rattle.c_model.specs.Graph.{RefersWithin}
 use Rattle.c_model.specs.declared.graph.CType.{CType}
@@ -13,9 +14,9 @@ use Rattle.btf_codec.specs.Spells.{Base}
 use Rattle.dw_base.specs.declared.numbers.Order.{Order}
 
 -- the answer, seen by a view
-abbrev pub seen : {A B : Type 0} → (A → B) → Result A BtfFault → Result B BtfFault
-seen view (Ok x) = Ok (view x)
-seen view (Err e) = Err e
+abbrev pub map_ok : {A B : Type 0} → (A → B) → Result A BtfFault → Result B BtfFault
+map_ok view (Ok x) = Ok (view x)
+map_ok view (Err e) = Err e
 
 -- the same where memory can run out
 abbrev pub Fails : {Y : Type 0} → BtfFault → Result Y BtfFault → Type 0
@@ -35,7 +36,7 @@ unless (Some fault) = Err fault
 pub record IsPiece (order : Order) (piece : List ℕ) : Type 0 where
   pub layout : KindLayout
   pub laid : layout_in (word_in order piece) ≡ Some layout
-  pub long : length piece ≡ 4 * type_width layout (vlen_in (word_in order piece 1))
+  pub long : length piece ≡ 4 * type_width layout (vlen_in (word_in order piece INFO))
 
 -- a string section that isn't empty ends with NUL
 abbrev pub EndsWithNul : List ℕ → Type 0

@@ -18,7 +18,17 @@ use Rattle.c_model.specs.declared.label.Part.{Part}
 use Rattle.c_model.specs.declared.graph.CType.{CType}
 use Rattle.c_model.specs.declared.graph.Ref.{Ref}
 use Rattle.c_model.specs.declared.graph.Ref.TheVariants.{Void, Node}
-use Rattle.btf_codec.specs.Fields.{bit_of, layout_of}
+use Rattle.btf_codec.specs.Fields.{bit_of, has_size, layout_of, own_targets, part_layout}
+use Rattle.btf_codec.specs.declared.format.TheConstants.{BTF_VERSION, HEADER_LEN, VERSION, FLAGS}
+use Rattle.btf_codec.specs.declared.format.TheConstants.{HDR_LEN, TYPE_OFF, TYPE_LEN, STR_OFF}
+use Rattle.btf_codec.specs.declared.format.TheConstants.{STR_LEN, NAME_OFF, INFO, SIZE, TYPE}
+use Rattle.btf_codec.specs.declared.format.TheConstants.{TAIL, TYPE_HEAD, ARRAY_TYPE}
+use Rattle.btf_codec.specs.declared.format.TheConstants.{ARRAY_INDEX_TYPE, ARRAY_NELEMS}
+use Rattle.btf_codec.specs.declared.format.TheConstants.{BTF_MAX_VLEN, KIND_SHIFT, KINDS}
+use Rattle.btf_codec.specs.declared.format.TheConstants.{KIND_FLAG_BIT}
+use Rattle.btf_codec.specs.declared.layout.OwnTargets.{OwnTargets}
+use Rattle.btf_codec.specs.declared.layout.OwnTargets.TheVariants.{NoTarget, OneTarget}
+use Rattle.btf_codec.specs.declared.layout.OwnTargets.TheVariants.{ArrayTargets}
 use Rattle.btf_codec.specs.declared.fault.BtfFault.{BtfFault}
 use Rattle.btf_codec.specs.declared.fault.BtfFault.TheVariants.{BtfMagic, BtfHeader, BtfTruncated}
 use Rattle.btf_codec.specs.declared.fault.BtfFault.TheVariants.{BtfKind, BtfInfo, BtfName, BtfRef}
@@ -48,17 +58,18 @@ word_in Big bytes i = from_be_bytes w32 (four bytes (4 * i))
 
 -- the parts of an info word
 abbrev pub kind_in : ℕ → ℕ
-kind_in y = y / 2 ^ 24 % 32
+kind_in y = y / 2 ^ KIND_SHIFT % KINDS
 
 abbrev pub flag_in : ℕ → Bool
-flag_in y = nat_le (2 ^ 31) y
+flag_in y = nat_le (2 ^ KIND_FLAG_BIT) y
 
 abbrev pub vlen_in : ℕ → ℕ
-vlen_in y = y % 2 ^ 16
+vlen_in y = y % (BTF_MAX_VLEN + 1)
 
 -- bits 16 to 23, 29 and 30 are clear
 abbrev pub is_clean : ℕ → Bool
-is_clean y = y == vlen_in y + 2 ^ 24 * kind_in y + 2 ^ 31 * bit_of (flag_in y)
+is_clean y =
+    y == vlen_in y + 2 ^ KIND_SHIFT * kind_in y + 2 ^ KIND_FLAG_BIT * bit_of (flag_in y)
 
 -- kind_flag may be set on this kind
 abbrev pub may_flag : ℕ → Bool
@@ -99,21 +110,21 @@ type_width Array v = 6
 type_width Forward v = 3
 type_width TaggedLink v = 4
 type_width Float v = 3
-type_width (Sized parts) v = 3 + part_width parts * v
-type_width Prototype v = 3 + 2 * v
+type_width (Sized parts) v = TYPE_HEAD + part_width parts * v
+type_width Prototype v = TYPE_HEAD + 2 * v
 
 -- the checks of a type at a place, of whose words so many are left: how many of them it has
-abbrev pub checked : ℕ → ℕ → ℕ → ℕ → ℕ → Option KindLayout → Result ℕ BtfFault
-checked place id y third left None = Err (BtfKind place id (kind_in y))
-checked place id y third left (Some layout) =
+abbrev pub checked_width : ℕ → ℕ → ℕ → ℕ → ℕ → Option KindLayout → Result ℕ BtfFault
+checked_width place id y third left None = Err (BtfKind place id (kind_in y))
+checked_width place id y third left (Some layout) =
     if is_info layout y third
     then (if nat_lt left (type_width layout (vlen_in y)) then Err (BtfTruncated place)
     else Ok (type_width layout (vlen_in y)))
     else Err (BtfInfo place id)
 
 abbrev pub head_of : ℕ → ℕ → (ℕ → ℕ) → ℕ → Result ℕ BtfFault
-head_of place id w left = if nat_lt left 3 then Err (BtfTruncated place)
-    else checked place id (w 1) (w 2) left (layout_of (kind_in (w 1)))
+head_of place id w left = if nat_lt left TYPE_HEAD then Err (BtfTruncated place)
+    else checked_width place id (w INFO) (w SIZE) left (layout_of (kind_in (w INFO)))
 
 -- the bytes of each type, from a place on
 unfoldable pub pieces_of : Order → ℕ → ℕ → ℕ → List ℕ → Result (List (List ℕ)) BtfFault
@@ -138,31 +149,49 @@ words_at w at width n = map w (places at width n)
 abbrev pub first_past : ℕ → List ℕ → Option ℕ
 first_past limit ws = find (λ (x : ℕ). nat_le limit x) ws
 
+-- the words of parts from a word on that are offsets of names, and those that are ids
+abbrev pub part_names : PartLayout → (ℕ → ℕ) → ℕ → ℕ → List ℕ
+part_names Variable w at n = []
+part_names parts w at n = words_at w at (part_width parts) n
+
+abbrev pub part_ids : PartLayout → (ℕ → ℕ) → ℕ → ℕ → List ℕ
+part_ids Member w at n = words_at w (at + 1) 3 n
+part_ids Parameter w at n = words_at w (at + 1) 2 n
+part_ids Variable w at n = words_at w at 3 n
+part_ids parts w at n = []
+
+abbrev pub names_over : Option PartLayout → (ℕ → ℕ) → ℕ → List ℕ
+names_over None w v = []
+names_over (Some parts) w v = part_names parts w TYPE_HEAD v
+
+abbrev pub ids_over : Option PartLayout → (ℕ → ℕ) → ℕ → List ℕ
+ids_over None w v = []
+ids_over (Some parts) w v = part_ids parts w TYPE_HEAD v
+
+-- the words outside of parts that are ids
+abbrev pub own_ids : OwnTargets → (ℕ → ℕ) → List ℕ
+own_ids NoTarget w = []
+own_ids OneTarget w = w TYPE ∷ []
+own_ids ArrayTargets w = w ARRAY_TYPE ∷ w ARRAY_INDEX_TYPE ∷ []
+
 -- the words of a type that are offsets of names
 abbrev pub names_by : Option KindLayout → (ℕ → ℕ) → ℕ → List ℕ
-names_by (Some (Sized Variable)) w v = w 0 ∷ []
-names_by (Some (Sized parts)) w v = w 0 ∷ words_at w 3 (part_width parts) v
-names_by (Some Prototype) w v = w 0 ∷ words_at w 3 2 v
-names_by layout w v = w 0 ∷ []
+names_by None w v = w NAME_OFF ∷ []
+names_by (Some layout) w v = w NAME_OFF ∷ names_over (part_layout layout) w v
 
 -- the words of a type that are ids
 abbrev pub ids_by : Option KindLayout → (ℕ → ℕ) → ℕ → List ℕ
-ids_by (Some Link) w v = w 2 ∷ []
-ids_by (Some Array) w v = w 3 ∷ w 4 ∷ []
-ids_by (Some TaggedLink) w v = w 2 ∷ []
-ids_by (Some (Sized Member)) w v = words_at w 4 3 v
-ids_by (Some (Sized Variable)) w v = words_at w 3 3 v
-ids_by (Some Prototype) w v = w 2 ∷ words_at w 4 2 v
-ids_by layout w v = []
+ids_by None w v = []
+ids_by (Some layout) w v = own_ids (own_targets layout) w ++ ids_over (part_layout layout) w v
 
 abbrev pub layout_in : (ℕ → ℕ) → Option KindLayout
-layout_in w = layout_of (kind_in (w 1))
+layout_in w = layout_of (kind_in (w INFO))
 
 abbrev pub names_in : (ℕ → ℕ) → List ℕ
-names_in w = names_by (layout_in w) w (vlen_in (w 1))
+names_in w = names_by (layout_in w) w (vlen_in (w INFO))
 
 abbrev pub ids_in : (ℕ → ℕ) → List ℕ
-ids_in w = ids_by (layout_in w) w (vlen_in (w 1))
+ids_in w = ids_by (layout_in w) w (vlen_in (w INFO))
 
 -- the first word of a type that is no offset in the strings, and after it the first that is no id
 -- of the table
@@ -198,38 +227,39 @@ decoded_part Variable strings w at = record { name = []; value = whole_value w a
 
 abbrev pub decoded_parts : PartLayout → List ℕ → (ℕ → ℕ) → ℕ → List Part
 decoded_parts layout strings w n = map (decoded_part layout strings w)
-    (places 3 (part_width layout) n)
+    (places TYPE_HEAD (part_width layout) n)
+
+abbrev pub parts_over : Option PartLayout → List ℕ → (ℕ → ℕ) → ℕ → List Part
+parts_over None strings w v = []
+parts_over (Some layout) strings w v = decoded_parts layout strings w v
 
 abbrev pub parts_by : Option KindLayout → List ℕ → (ℕ → ℕ) → ℕ → List Part
-parts_by (Some (Sized layout)) strings w v = decoded_parts layout strings w v
-parts_by (Some Prototype) strings w v = decoded_parts Parameter strings w v
-parts_by layout strings w v = []
+parts_by None strings w v = []
+parts_by (Some layout) strings w v = parts_over (part_layout layout) strings w v
 
 abbrev pub size_by : Option KindLayout → (ℕ → ℕ) → ℕ
-size_by (Some Int) w = w 2
-size_by (Some Float) w = w 2
-size_by (Some (Sized parts)) w = w 2
-size_by layout w = 0
+size_by None w = 0
+size_by (Some layout) w = if has_size layout then w SIZE else 0
 
 abbrev pub extra_by : Option KindLayout → (ℕ → ℕ) → ℕ
-extra_by (Some Int) w = w 3
-extra_by (Some Link) w = if kind_in (w 1) == BTF_KIND_FUNC then vlen_in (w 1) else 0
-extra_by (Some Array) w = w 5
-extra_by (Some TaggedLink) w = w 3
+extra_by (Some Int) w = w TAIL
+extra_by (Some Link) w = if kind_in (w INFO) == BTF_KIND_FUNC then vlen_in (w INFO) else 0
+extra_by (Some Array) w = w ARRAY_NELEMS
+extra_by (Some TaggedLink) w = w TAIL
 extra_by layout w = 0
 
 abbrev pub type_by : Option KindLayout → List ℕ → (ℕ → ℕ) → CType
 type_by layout strings w =
     record {
       label = record {
-        kind = kind_in (w 1);
-        name = name_at strings (w 0);
-        flag = flag_in (w 1);
+        kind = kind_in (w INFO);
+        name = name_at strings (w NAME_OFF);
+        flag = flag_in (w INFO);
         size = size_by layout w;
         extra = extra_by layout w;
-        parts = parts_by layout strings w (vlen_in (w 1));
+        parts = parts_by layout strings w (vlen_in (w INFO));
       };
-      targets = map ref_of (ids_by layout w (vlen_in (w 1)));
+      targets = map ref_of (ids_by layout w (vlen_in (w INFO)));
     }
 
 unfoldable pub decoded_type : List ℕ → (ℕ → ℕ) → CType
@@ -257,23 +287,24 @@ wanted_order want (Some order) = if is_wanted want order then Ok order else Err 
 abbrev pub order_in : Option Order → List ℕ → Result Order BtfFault
 order_in want bytes = wanted_order want (magic_order (slice_index bytes 0) (slice_index bytes 1))
 
--- version 1, no flags, a header of 24 bytes, types first and in whole words, then the strings and
--- nothing more
+-- the known version, no flags, the header's length, types first and in whole words, then the
+-- strings and nothing more
 abbrev pub is_header : Order → List ℕ → Bool
 is_header order bytes =
-    slice_index bytes 2 == 1 && slice_index bytes 3 == 0 && word_in order bytes 1 == 24
-    && word_in order bytes 2 == 0 && word_in order bytes 3 % 4 == 0
-    && word_in order bytes 4 == word_in order bytes 3 && length bytes
-    == 24 + word_in order bytes 3 + word_in order bytes 5
+    slice_index bytes VERSION == BTF_VERSION && slice_index bytes FLAGS == 0
+    && word_in order bytes HDR_LEN == HEADER_LEN && word_in order bytes TYPE_OFF == 0
+    && word_in order bytes TYPE_LEN % 4 == 0
+    && word_in order bytes STR_OFF == word_in order bytes TYPE_LEN
+    && length bytes == HEADER_LEN + word_in order bytes TYPE_LEN + word_in order bytes STR_LEN
 
 -- the bytes of the types and those of the strings
 abbrev pub sections_of : Order → List ℕ → Result (List ℕ × List ℕ) BtfFault
 sections_of order bytes =
-    if nat_lt (length bytes) 24
+    if nat_lt (length bytes) HEADER_LEN
     then Err BtfHeader
     else if is_header order bytes then Ok (
-      take (word_in order bytes 3) (drop 24 bytes),
-      drop (24 + word_in order bytes 3) bytes,
+      take (word_in order bytes TYPE_LEN) (drop HEADER_LEN bytes),
+      drop (HEADER_LEN + word_in order bytes TYPE_LEN) bytes,
     ) else Err BtfHeader
 
 -- the own strings end with NUL, and without a base they begin with one
@@ -290,19 +321,20 @@ pub record File : Type 0 where
   pub pieces : List (List ℕ)
   pub names : List ℕ
 
-abbrev pub accepted : Order → List (List ℕ) → List ℕ → Option BtfFault → Result File BtfFault
-accepted order pieces names None = Ok (record { order = order; pieces = pieces; names = names })
-accepted order pieces names (Some fault) = Err fault
+abbrev pub file_unless : Order → List (List ℕ) → List ℕ → Option BtfFault → Result File BtfFault
+file_unless order pieces names None = Ok (record { order = order; pieces = pieces; names = names })
+file_unless order pieces names (Some fault) = Err fault
 
 unfoldable pub file_of : Bool → ℕ → ℕ → Option Order → List ℕ → Result File BtfFault
 file_of based types limit want bytes =
     order_in want bytes >>= λ (order : Order).
     sections_of order bytes >>= λ (s : List ℕ × List ℕ).
-    (if is_begun based s.1 && is_ended s.1 then Ok s else Err (BtfStrings (24 + length s.0)))
+    (if is_begun based s.1 && is_ended s.1 then Ok s
+    else Err (BtfStrings (HEADER_LEN + length s.0)))
     >>= λ (t : List ℕ × List ℕ).
-    pieces_of order (length t.0) 24 (types + 1) t.0 >>= λ (pieces : List (List ℕ)).
-    accepted order pieces t.1
-    (pieces_fault order 24 (types + 1) (limit + length t.1) (types + length pieces) pieces)
+    pieces_of order (length t.0) HEADER_LEN (types + 1) t.0 >>= λ (pieces : List (List ℕ)).
+    file_unless order pieces t.1
+    (pieces_fault order HEADER_LEN (types + 1) (limit + length t.1) (types + length pieces) pieces)
 
 -- the table that comes before the own types: its types and its strings
 pub record Before : Type 0 where

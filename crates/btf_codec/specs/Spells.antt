@@ -10,6 +10,7 @@ use Rattle.dw_base.specs.declared.numbers.Order.TheVariants.{Little, Big}
 use Rattle.c_model.specs.Graph.{RefersWithin}
 use Rattle.c_model.specs.Kinds.{IsWellFormed}
 use Rattle.c_model.specs.declared.graph.CType.{CType}
+use Rattle.btf_codec.specs.declared.format.TheConstants.{BTF_MAGIC, BTF_VERSION, HEADER_LEN}
 use Rattle.btf_codec.specs.Fields.{Field, Named, Refers, Number, fields_of, id_of}
 
 -- the table that another one goes on from: how many types it has, and its string section
@@ -38,11 +39,12 @@ word_bytes Big n = to_be_bytes w32 n
 abbrev pub words_bytes : Order → List ℕ → List ℕ
 words_bytes order words = flat_map (word_bytes order) words
 
--- magic, version 1, no flags, the header's length, and the offsets and lengths of the types and the
+-- magic, version, no flags, the header's length, and the offsets and lengths of the types and the
 -- strings, from the header's end
 abbrev pub header_bytes : Order → ℕ → ℕ → List ℕ
 header_bytes order types names =
-    half_bytes order 0xeb9f ++ 1 ∷ 0 ∷ words_bytes order (24 ∷ 0 ∷ types ∷ types ∷ names ∷ [])
+    half_bytes order BTF_MAGIC ++ BTF_VERSION ∷ 0
+    ∷ words_bytes order (HEADER_LEN ∷ 0 ∷ types ∷ types ∷ names ∷ [])
 
 -- a word stands for a field: at a name's offset in the strings is the name
 abbrev pub StandsFor : List ℕ → Field → ℕ → Type 0

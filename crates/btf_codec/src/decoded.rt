@@ -2,14 +2,21 @@
 ghost use Rattle.std.specs.Prelude.{◌≡◌, ◌+◌, ◌*◌, ◌-◌, ◌<◌, ◌≤◌, ◌^◌, ◌++◌, ℕ, List, [], ◌∷◌};
 ghost use Rattle.std.specs.Prelude.{Some, length, map, OnOk, IfOk, slice_index};
 ghost use Rattle.dw_base.specs.Texts.{text_of};
+ghost use Rattle.btf_codec.specs.Fields.{own_targets};
 ghost use Rattle.btf_codec.specs.Gives.{EndsWithNul, IsPiece};
-ghost use Rattle.btf_codec.specs.Reading.{extra_by, ids_by, ids_in, name_at, decoded_part};
-ghost use Rattle.btf_codec.specs.Reading.{parts_by};
+ghost use Rattle.btf_codec.specs.Reading.{decoded_part, extra_by, ids_by, name_at, own_ids};
+ghost use Rattle.btf_codec.specs.Reading.{part_ids, parts_by};
 ghost use Rattle.btf_codec.specs.Reading.{decoded_parts, part_width, places, ref_of, size_by};
 ghost use Rattle.btf_codec.specs.Reading.{type_by, decoded_type, type_width, vlen_in, whole_value};
 ghost use Rattle.btf_codec.specs.Reading.{word_in, words_at};
 
-use crate::layout::{KindLayout, PartLayout, layout_of};
+use crate::format::{
+    ARRAY_INDEX_TYPE, ARRAY_NELEMS, ARRAY_TYPE, BTF_MAX_VLEN, INFO, NAME_OFF, SIZE, TAIL, TYPE,
+    TYPE_HEAD,
+};
+use crate::layout::{
+    KindLayout, OwnTargets, PartLayout, has_size, layout_of, own_targets, part_layout,
+};
 use crate::pieces::{flag_in, kind_in, part_width, vlen_in, word_in};
 use c_model::kinds::BTF_KIND_FUNC;
 use c_model::{CType, Label, Part, Parts, Ref, Refs};
@@ -114,15 +121,15 @@ fn decoded_parts<'a>(
     n: u32,
 ) -> Result<Vec<Part<'a>>, AllocError>
     requires ends { EndsWithNul texts.base.now }
-    requires few { n < 65536 }
-    requires room { 4 * (3 + part_width layout * n) ≤ length piece.now }
+    requires few { n ≤ BTF_MAX_VLEN }
+    requires room { 4 * (TYPE_HEAD + part_width layout * n) ≤ length piece.now }
     ensures { IfOk result (λ v. v.items ≡ decoded_parts layout
         (texts.entry.base.now ++ texts.entry.own.now) (word_in order piece.now) n) }
 {
     let width = part_width(layout);
     let mut parts = Vec::new(alloc);
     for i in 0..n {
-        let at = (3 + width * i) as usize;
+        let at = TYPE_HEAD + width * i as usize;
         parts.push(decoded_part(layout, texts, order, piece, at))?;
     }
     Ok(parts)
@@ -133,11 +140,11 @@ fn push_refs(
     out: &mut Vec<Ref>,
     order: Order,
     piece: &[u8],
-    at: u32,
-    width: u32,
+    at: usize,
+    width: usize,
     n: u32,
 ) -> Result<(), AllocError>
-    requires few { n < 65536 }
+    requires few { n ≤ BTF_MAX_VLEN }
     requires near { at ≤ 4 }
     requires width { width ≤ 3 }
     requires some { 1 ≤ width }
@@ -146,38 +153,54 @@ fn push_refs(
         ≡ out.old.items ++ map ref_of (words_at (word_in order piece.now) at width n)) }
 {
     for i in 0..n {
-        out.push(ref_of(word_in(order, piece, (at + width * i) as usize)))?;
+        out.push(ref_of(word_in(order, piece, at + width * i as usize)))?;
     }
     Ok(())
 }
 
-/// The references of some ids.
-fn listed(alloc: Global, ids: &[u32]) -> Result<Vec<Ref>, AllocError>
-    ensures { IfOk result (λ v. v.items ≡ map ref_of ids.now) }
-{
-    ids.iter().map(|id| ref_of(*id)).collect(alloc)
-}
-
-/// So many references, each `width` words behind the one before.
-fn listed_at(
+/// The references of a type that stand in no part.
+fn own_refs(
     alloc: Global,
+    layout: KindLayout,
     order: Order,
     piece: &[u8],
-    at: u32,
-    width: u32,
-    n: u32,
+    vlen: u32,
 ) -> Result<Vec<Ref>, AllocError>
-    requires few { n < 65536 }
-    requires near { at ≤ 4 }
-    requires width { width ≤ 3 }
-    requires some { 1 ≤ width }
-    requires room { 4 * (at + width * n) ≤ length piece.now + 4 * (width - 1) }
-    ensures { IfOk result (λ v. v.items ≡ map ref_of
-        (words_at (word_in order piece.now) at width n)) }
+    requires { length piece.now ≡ 4 * type_width layout vlen }
+    ensures { IfOk result
+        (λ v. v.items ≡ map ref_of (own_ids (own_targets layout) (word_in order piece.now))) }
 {
     let mut refs = Vec::new(alloc);
-    push_refs(&mut refs, order, piece, at, width, n)?;
+    match own_targets(layout) {
+        OwnTargets::NoTarget => {}
+        OwnTargets::OneTarget => refs.push(ref_of(word_in(order, piece, TYPE)))?,
+        OwnTargets::ArrayTargets => {
+            refs.push(ref_of(word_in(order, piece, ARRAY_TYPE)))?;
+            refs.push(ref_of(word_in(order, piece, ARRAY_INDEX_TYPE)))?;
+        }
+    }
     Ok(refs)
+}
+
+/// Appends the references of parts.
+fn push_part_refs(
+    out: &mut Vec<Ref>,
+    layout: PartLayout,
+    order: Order,
+    piece: &[u8],
+    vlen: u32,
+) -> Result<(), AllocError>
+    requires few { vlen ≤ BTF_MAX_VLEN }
+    requires room { 4 * (TYPE_HEAD + part_width layout * vlen) ≤ length piece.now }
+    ensures { OnOk result (out.new.items ≡ out.old.items
+        ++ map ref_of (part_ids layout (word_in order piece.now) TYPE_HEAD vlen)) }
+{
+    match layout {
+        PartLayout::Member => push_refs(out, order, piece, TYPE_HEAD + 1, 3, vlen),
+        PartLayout::Parameter => push_refs(out, order, piece, TYPE_HEAD + 1, 2, vlen),
+        PartLayout::Variable => push_refs(out, order, piece, TYPE_HEAD, 3, vlen),
+        PartLayout::Enumerator | PartLayout::WideEnumerator => Ok(()),
+    }
 }
 
 /// The references of a type.
@@ -188,32 +211,16 @@ fn refs_by(
     piece: &[u8],
     vlen: u32,
 ) -> Result<Vec<Ref>, AllocError>
-    requires few { vlen < 65536 }
+    requires few { vlen ≤ BTF_MAX_VLEN }
     requires long { length piece.now ≡ 4 * type_width layout vlen }
     ensures { IfOk result
         (λ v. v.items ≡ map ref_of (ids_by (Some layout) (word_in order piece.now) vlen)) }
 {
-    match layout {
-        KindLayout::Int => listed(alloc, &[]),
-        KindLayout::Link => listed(alloc, &[word_in(order, piece, 2)]),
-        KindLayout::Array => {
-            let element = word_in(order, piece, 3);
-            listed(alloc, &[element, word_in(order, piece, 4)])
-        }
-        KindLayout::Forward => listed(alloc, &[]),
-        KindLayout::TaggedLink => listed(alloc, &[word_in(order, piece, 2)]),
-        KindLayout::Float => listed(alloc, &[]),
-        KindLayout::Sized(PartLayout::Member) => listed_at(alloc, order, piece, 4, 3, vlen),
-        KindLayout::Sized(PartLayout::Enumerator) => listed(alloc, &[]),
-        KindLayout::Sized(PartLayout::WideEnumerator) => listed(alloc, &[]),
-        KindLayout::Sized(PartLayout::Parameter) => listed(alloc, &[]),
-        KindLayout::Sized(PartLayout::Variable) => listed_at(alloc, order, piece, 3, 3, vlen),
-        KindLayout::Prototype => {
-            let mut refs = listed(alloc, &[word_in(order, piece, 2)])?;
-            push_refs(&mut refs, order, piece, 4, 2, vlen)?;
-            Ok(refs)
-        }
+    let mut refs = own_refs(alloc, layout, order, piece, vlen)?;
+    if let Some(part) = part_layout(layout) {
+        push_part_refs(&mut refs, part, order, piece, vlen)?;
     }
+    Ok(refs)
 }
 
 /// The parts of a type.
@@ -226,39 +233,26 @@ fn parts_by<'a>(
     vlen: u32,
 ) -> Result<Vec<Part<'a>>, AllocError>
     requires ends { EndsWithNul texts.base.now }
-    requires few { vlen < 65536 }
+    requires few { vlen ≤ BTF_MAX_VLEN }
     requires long { length piece.now ≡ 4 * type_width layout vlen }
     ensures { IfOk result (λ v. v.items ≡ parts_by (Some layout)
         (texts.entry.base.now ++ texts.entry.own.now) (word_in order piece.now) vlen) }
 {
-    match layout {
-        KindLayout::Int => Ok(Vec::new(alloc)),
-        KindLayout::Link => Ok(Vec::new(alloc)),
-        KindLayout::Array => Ok(Vec::new(alloc)),
-        KindLayout::Forward => Ok(Vec::new(alloc)),
-        KindLayout::TaggedLink => Ok(Vec::new(alloc)),
-        KindLayout::Float => Ok(Vec::new(alloc)),
-        KindLayout::Sized(parts) => decoded_parts(alloc, parts, texts, order, piece, vlen),
-        KindLayout::Prototype => {
-            decoded_parts(alloc, PartLayout::Parameter, texts, order, piece, vlen)
-        }
+    match part_layout(layout) {
+        Some(part) => decoded_parts(alloc, part, texts, order, piece, vlen),
+        None => Ok(Vec::new(alloc)),
     }
 }
 
 /// The size of a type; 0 where its kind has none.
 fn size_by(layout: KindLayout, order: Order, piece: &[u8]) -> u32
-    requires { 12 ≤ length piece.now }
+    requires { 4 * TYPE_HEAD ≤ length piece.now }
     ensures { result ≡ size_by (Some layout) (word_in order piece.now) }
 {
-    match layout {
-        KindLayout::Int => word_in(order, piece, 2),
-        KindLayout::Link => 0,
-        KindLayout::Array => 0,
-        KindLayout::Forward => 0,
-        KindLayout::TaggedLink => 0,
-        KindLayout::Float => word_in(order, piece, 2),
-        KindLayout::Sized(_) => word_in(order, piece, 2),
-        KindLayout::Prototype => 0,
+    if has_size(layout) {
+        word_in(order, piece, SIZE)
+    } else {
+        0
     }
 }
 
@@ -266,24 +260,14 @@ fn size_by(layout: KindLayout, order: Order, piece: &[u8]) -> u32
 /// ARRAY, the index of a DECL_TAG; else 0.
 fn extra_by(layout: KindLayout, order: Order, piece: &[u8], vlen: u32) -> u32
     requires { length piece.now ≡ 4 * type_width layout vlen }
-    ensures { vlen ≡ vlen_in (word_in order piece.now 1)
+    ensures { vlen ≡ vlen_in (word_in order piece.now INFO)
         → result ≡ extra_by (Some layout) (word_in order piece.now) }
 {
     match layout {
-        KindLayout::Int => word_in(order, piece, 3),
-        KindLayout::Link => {
-            if kind_in(word_in(order, piece, 1)) == BTF_KIND_FUNC {
-                vlen
-            } else {
-                0
-            }
-        }
-        KindLayout::Array => word_in(order, piece, 5),
-        KindLayout::Forward => 0,
-        KindLayout::TaggedLink => word_in(order, piece, 3),
-        KindLayout::Float => 0,
-        KindLayout::Sized(_) => 0,
-        KindLayout::Prototype => 0,
+        KindLayout::Int | KindLayout::TaggedLink => word_in(order, piece, TAIL),
+        KindLayout::Array => word_in(order, piece, ARRAY_NELEMS),
+        KindLayout::Link if kind_in(word_in(order, piece, INFO)) == BTF_KIND_FUNC => vlen,
+        _ => 0,
     }
 }
 
@@ -296,18 +280,19 @@ fn type_by<'a>(
     piece: &[u8],
 ) -> Result<CType<'a>, AllocError>
     requires ends { EndsWithNul texts.base.now }
-    requires long { length piece.now ≡ 4 * type_width layout (vlen_in (word_in order piece.now 1)) }
-    requires head { 12 ≤ length piece.now }
+    requires long { length piece.now
+        ≡ 4 * type_width layout (vlen_in (word_in order piece.now INFO)) }
+    requires head { 4 * TYPE_HEAD ≤ length piece.now }
     ensures { IfOk result (λ t. t ≡ type_by (Some layout)
         (texts.entry.base.now ++ texts.entry.own.now) (word_in order piece.now)) }
 {
-    let info = word_in(order, piece, 1);
+    let info = word_in(order, piece, INFO);
     let vlen = vlen_in(info);
     let parts = parts_by(alloc, layout, texts, order, piece, vlen)?;
     let refs = refs_by(alloc, layout, order, piece, vlen)?;
     let label = Label {
         kind: kind_in(info),
-        name: name_at(texts, word_in(order, piece, 0)),
+        name: name_at(texts, word_in(order, piece, NAME_OFF)),
         flag: flag_in(info),
         size: size_by(layout, order, piece),
         extra: extra_by(layout, order, piece, vlen),
@@ -331,7 +316,7 @@ pub fn decoded_type<'a>(
     ensures { IfOk result (λ t.
         t ≡ decoded_type (texts.entry.base.now ++ texts.entry.own.now) (word_in order piece.now)) }
 {
-    match layout_of(kind_in(word_in(order, piece, 1))) {
+    match layout_of(kind_in(word_in(order, piece, INFO))) {
         Some(layout) => type_by(alloc, layout, texts, order, piece),
         None => unreachable!(),
     }

@@ -1,12 +1,15 @@
 //! The parts of a file: header, types and strings.
 ghost use Rattle.std.specs.Prelude.{◌≡◌, ◌+◌, ◌*◌, ◌-◌, ◌/◌, ◌<◌, ◌≤◌, ◌^◌, ◌&&◌, ℕ, List, Ok, Err};
 ghost use Rattle.std.specs.Prelude.{length, map, slice_index, IfOk};
-ghost use Rattle.btf_codec.specs.Gives.{Gives, IsPiece, seen, unless};
+ghost use Rattle.btf_codec.specs.Gives.{Gives, IsPiece, map_ok, unless};
 ghost use Rattle.btf_codec.specs.Reading.{is_begun, is_ended, is_header, is_same_order, is_wanted};
 ghost use Rattle.btf_codec.specs.Reading.{magic_order, order_in, pieces_fault, pieces_of};
 ghost use Rattle.btf_codec.specs.Reading.{sections_of, word_in};
 
 use crate::fault::BtfFault;
+use crate::format::{
+    BTF_VERSION, FLAGS, HDR_LEN, HEADER_LEN, STR_LEN, STR_OFF, TYPE_LEN, TYPE_OFF, VERSION,
+};
 use crate::pieces::{head_of, word_in};
 use dw_base::Order;
 use std::alloc::Global;
@@ -73,37 +76,37 @@ pub fn order_in(want: Option<Order>, bytes: &[u8]) -> Result<Order, BtfFault>
     }
 }
 
-/// Whether the first 24 bytes are a header: version 1, no flags, its own length, types first and
-/// in whole words, then the strings and nothing more.
+/// Whether the bytes begin with a header: the known version, no flags, its own length, types first
+/// and in whole words, then the strings and nothing more.
 fn is_header(order: Order, bytes: &[u8]) -> bool
-    requires { 24 ≤ length bytes.now }
+    requires { HEADER_LEN ≤ length bytes.now }
     ensures { result ≡ is_header order bytes.now }
 {
-    let types = word_in(order, bytes, 3);
-    let names = word_in(order, bytes, 5);
-    byte_at(bytes, 2) == 1
-        && byte_at(bytes, 3) == 0
-        && word_in(order, bytes, 1) == 24
-        && word_in(order, bytes, 2) == 0
+    let types = word_in(order, bytes, TYPE_LEN);
+    let names = word_in(order, bytes, STR_LEN);
+    byte_at(bytes, VERSION) == BTF_VERSION
+        && byte_at(bytes, FLAGS) == 0
+        && word_in(order, bytes, HDR_LEN) == HEADER_LEN as u32
+        && word_in(order, bytes, TYPE_OFF) == 0
         && types % 4 == 0
-        && word_in(order, bytes, 4) == types
-        && bytes.len() == 24 + types as usize + names as usize
+        && word_in(order, bytes, STR_OFF) == types
+        && bytes.len() == HEADER_LEN + types as usize + names as usize
 }
 
 /// The bytes of the types and those of the strings. Refused where the header is too short or has
 /// another value than it should.
 pub fn sections_of(order: Order, bytes: &[u8]) -> Result<(&[u8], &[u8]), BtfFault>
-    ensures sections { seen (λ x. (x.0.now, x.1.now)) result ≡ sections_of order bytes.now }
+    ensures sections { map_ok (λ x. (x.0.now, x.1.now)) result ≡ sections_of order bytes.now }
     ensures few { IfOk result (λ x. length x.0.now < 2 ^ 32) }
 {
-    if bytes.len() < 24 {
+    if bytes.len() < HEADER_LEN {
         return Err(BtfFault::BtfHeader);
     }
     if !is_header(order, bytes) {
         return Err(BtfFault::BtfHeader);
     }
-    let rest = &bytes[24..];
-    Ok(rest.split_at(word_in(order, bytes, 3) as usize))
+    let rest = &bytes[HEADER_LEN..];
+    Ok(rest.split_at(word_in(order, bytes, TYPE_LEN) as usize))
 }
 
 /// Whether strings begin and end as they should.
@@ -127,11 +130,11 @@ pub fn pieces_of<'a>(
     requires first { first ≤ 2 ^ 31 }
     requires few { length types.now < 2 ^ 32 }
     ensures { Gives (λ v. map (λ p. p.now) v.items) result
-        (pieces_of order (length types.now) 24 first types.now) }
+        (pieces_of order (length types.now) HEADER_LEN first types.now) }
 {
     let mut pieces = Vec::new(alloc);
     let mut rest = types;
-    let mut place = 24;
+    let mut place = HEADER_LEN as u64;
     let mut id = first;
     for _ in 0..types.len() {
         if rest.is_empty() {

@@ -1,6 +1,6 @@
 //! How the kinds of types are laid out.
 ghost use Rattle.std.specs.Prelude.{◌≡◌};
-ghost use Rattle.btf_codec.specs.Fields.{layout_of};
+ghost use Rattle.btf_codec.specs.Fields.{has_size, layout_of, own_targets, part_layout};
 
 use c_model::kinds::{
     BTF_KIND_ARRAY, BTF_KIND_CONST, BTF_KIND_DATASEC, BTF_KIND_DECL_TAG, BTF_KIND_ENUM,
@@ -10,7 +10,7 @@ use c_model::kinds::{
 };
 
 /// What follows the name and the info word of a type.
-#[derive(Clone, Copy, PartialEq, Eq)]
+#[derive(Clone, Copy)]
 pub enum KindLayout {
     /// The size and the encoding word.
     Int,
@@ -31,7 +31,7 @@ pub enum KindLayout {
 }
 
 /// The words of a part.
-#[derive(Clone, Copy, PartialEq, Eq)]
+#[derive(Clone, Copy)]
 pub enum PartLayout {
     /// The name, the type and the offset word.
     Member,
@@ -64,6 +64,49 @@ pub fn layout_of(kind: u8) -> Option<KindLayout>
         BTF_KIND_DATASEC => Some(KindLayout::Sized(PartLayout::Variable)),
         BTF_KIND_FLOAT => Some(KindLayout::Float),
         BTF_KIND_ENUM64 => Some(KindLayout::Sized(PartLayout::WideEnumerator)),
+        _ => None,
+    }
+}
+
+/// Which words of a type are ids, besides those of its parts.
+#[derive(Clone, Copy)]
+pub enum OwnTargets {
+    /// None.
+    NoTarget,
+    /// The third word.
+    OneTarget,
+    /// The element's type and the index type of an ARRAY.
+    ArrayTargets,
+}
+
+/// Whether the third word of a type is its size.
+pub fn has_size(layout: KindLayout) -> bool
+    ensures { result ≡ has_size layout }
+{
+    matches!(
+        layout,
+        KindLayout::Int | KindLayout::Float | KindLayout::Sized(_)
+    )
+}
+
+/// Which words of a type are ids, besides those of its parts.
+pub fn own_targets(layout: KindLayout) -> OwnTargets
+    ensures { result ≡ own_targets layout }
+{
+    match layout {
+        KindLayout::Link | KindLayout::TaggedLink | KindLayout::Prototype => OwnTargets::OneTarget,
+        KindLayout::Array => OwnTargets::ArrayTargets,
+        _ => OwnTargets::NoTarget,
+    }
+}
+
+/// The layout of a type's parts, where its kind has parts.
+pub fn part_layout(layout: KindLayout) -> Option<PartLayout>
+    ensures { result ≡ part_layout layout }
+{
+    match layout {
+        KindLayout::Sized(part) => Some(part),
+        KindLayout::Prototype => Some(PartLayout::Parameter),
         _ => None,
     }
 }

@@ -13,6 +13,7 @@
 mod decoded;
 pub mod fault;
 mod file;
+mod format;
 pub mod laws;
 mod layout;
 mod offsets;

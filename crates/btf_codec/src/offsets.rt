@@ -2,13 +2,16 @@
 ghost use Rattle.std.specs.Prelude.{◌≡◌, ◌+◌, ◌*◌, ◌-◌, ◌<◌, ◌≤◌, ◌^◌, ℕ, List, Some, [], ◌∷◌};
 ghost use Rattle.std.specs.Prelude.{length, map, find, nat_le};
 ghost use Rattle.std.specs.Option.{option_map, option_or};
+ghost use Rattle.btf_codec.specs.Fields.{own_targets};
 ghost use Rattle.btf_codec.specs.Gives.{IsPiece};
 ghost use Rattle.btf_codec.specs.Reading.{first_past, ids_by, ids_in, names_by, names_in};
+ghost use Rattle.btf_codec.specs.Reading.{own_ids, part_ids, part_names, part_width};
 ghost use Rattle.btf_codec.specs.Reading.{type_width, vlen_in, word_in, words_at, words_fault};
 
 use crate::fault::BtfFault;
-use crate::layout::{KindLayout, PartLayout, layout_of};
-use crate::pieces::{kind_in, vlen_in, word_in};
+use crate::format::{ARRAY_INDEX_TYPE, ARRAY_TYPE, BTF_MAX_VLEN, INFO, NAME_OFF, TYPE, TYPE_HEAD};
+use crate::layout::{KindLayout, OwnTargets, PartLayout, layout_of, own_targets, part_layout};
+use crate::pieces::{kind_in, part_width, vlen_in, word_in};
 use dw_base::Order;
 
 /// Whether a word isn't below a limit.
@@ -20,8 +23,15 @@ fn is_past(word: u32, limit: u64) -> bool
 }
 
 /// The first of so many words, each `width` words behind the one before, that isn't below a limit.
-fn past(order: Order, piece: &[u8], at: u32, width: u32, n: u32, limit: u64) -> Option<u32>
-    requires few { n < 65536 }
+fn first_past(
+    order: Order,
+    piece: &[u8],
+    at: usize,
+    width: usize,
+    n: u32,
+    limit: u64,
+) -> Option<u32>
+    requires few { n ≤ BTF_MAX_VLEN }
     requires near { at ≤ 4 }
     requires width { width ≤ 3 }
     requires some { 1 ≤ width }
@@ -29,7 +39,7 @@ fn past(order: Order, piece: &[u8], at: u32, width: u32, n: u32, limit: u64) -> 
     ensures { result ≡ first_past limit (words_at (word_in order piece.now) at width n) }
 {
     for i in 0..n {
-        let word = word_in(order, piece, (at + width * i) as usize);
+        let word = word_in(order, piece, at + width * i as usize);
         if is_past(word, limit) {
             return Some(word);
         }
@@ -38,7 +48,7 @@ fn past(order: Order, piece: &[u8], at: u32, width: u32, n: u32, limit: u64) -> 
 }
 
 /// The word at a place, if it isn't below a limit.
-fn one_past(order: Order, piece: &[u8], at: usize, limit: u64) -> Option<u32>
+fn word_past(order: Order, piece: &[u8], at: usize, limit: u64) -> Option<u32>
     requires { 4 * at + 4 ≤ length piece.now }
     ensures { result ≡ first_past limit (word_in order piece.now at ∷ []) }
 {
@@ -50,63 +60,92 @@ fn one_past(order: Order, piece: &[u8], at: usize, limit: u64) -> Option<u32>
     }
 }
 
+/// The first offset of a part's name that isn't below a limit.
+fn part_name_past(
+    layout: PartLayout,
+    order: Order,
+    piece: &[u8],
+    vlen: u32,
+    limit: u64,
+) -> Option<u32>
+    requires few { vlen ≤ BTF_MAX_VLEN }
+    requires room { 4 * (TYPE_HEAD + part_width layout * vlen) ≤ length piece.now }
+    ensures { result
+        ≡ first_past limit (part_names layout (word_in order piece.now) TYPE_HEAD vlen) }
+{
+    match layout {
+        PartLayout::Variable => None,
+        _ => first_past(order, piece, TYPE_HEAD, part_width(layout), vlen, limit),
+    }
+}
+
 /// The first offset of a name that isn't below a limit.
 fn name_past(layout: KindLayout, order: Order, piece: &[u8], vlen: u32, limit: u64) -> Option<u32>
-    requires few { vlen < 65536 }
+    requires few { vlen ≤ BTF_MAX_VLEN }
     requires long { length piece.now ≡ 4 * type_width layout vlen }
     ensures { result ≡ first_past limit (names_by (Some layout) (word_in order piece.now) vlen) }
 {
-    let own = word_in(order, piece, 0);
+    let own = word_in(order, piece, NAME_OFF);
     if is_past(own, limit) {
         return Some(own);
     }
+    match part_layout(layout) {
+        Some(part) => part_name_past(part, order, piece, vlen, limit),
+        None => None,
+    }
+}
+
+/// The first id outside of parts that isn't below a limit.
+fn own_id_past(layout: KindLayout, order: Order, piece: &[u8], vlen: u32, limit: u64) -> Option<u32>
+    requires { length piece.now ≡ 4 * type_width layout vlen }
+    ensures { result
+        ≡ first_past limit (own_ids (own_targets layout) (word_in order piece.now)) }
+{
+    match own_targets(layout) {
+        OwnTargets::NoTarget => None,
+        OwnTargets::OneTarget => word_past(order, piece, TYPE, limit),
+        OwnTargets::ArrayTargets => {
+            let element = word_in(order, piece, ARRAY_TYPE);
+            if is_past(element, limit) {
+                return Some(element);
+            }
+            word_past(order, piece, ARRAY_INDEX_TYPE, limit)
+        }
+    }
+}
+
+/// The first id of a part that isn't below a limit.
+fn part_id_past(
+    layout: PartLayout,
+    order: Order,
+    piece: &[u8],
+    vlen: u32,
+    limit: u64,
+) -> Option<u32>
+    requires few { vlen ≤ BTF_MAX_VLEN }
+    requires room { 4 * (TYPE_HEAD + part_width layout * vlen) ≤ length piece.now }
+    ensures { result ≡ first_past limit (part_ids layout (word_in order piece.now) TYPE_HEAD vlen) }
+{
     match layout {
-        KindLayout::Int => None,
-        KindLayout::Link => None,
-        KindLayout::Array => None,
-        KindLayout::Forward => None,
-        KindLayout::TaggedLink => None,
-        KindLayout::Float => None,
-        KindLayout::Sized(PartLayout::Variable) => None,
-        KindLayout::Sized(PartLayout::Member) => past(order, piece, 3, 3, vlen, limit),
-        KindLayout::Sized(PartLayout::Enumerator) => past(order, piece, 3, 2, vlen, limit),
-        KindLayout::Sized(PartLayout::WideEnumerator) => past(order, piece, 3, 3, vlen, limit),
-        KindLayout::Sized(PartLayout::Parameter) => past(order, piece, 3, 2, vlen, limit),
-        KindLayout::Prototype => past(order, piece, 3, 2, vlen, limit),
+        PartLayout::Member => first_past(order, piece, TYPE_HEAD + 1, 3, vlen, limit),
+        PartLayout::Parameter => first_past(order, piece, TYPE_HEAD + 1, 2, vlen, limit),
+        PartLayout::Variable => first_past(order, piece, TYPE_HEAD, 3, vlen, limit),
+        PartLayout::Enumerator | PartLayout::WideEnumerator => None,
     }
 }
 
 /// The first id that isn't below a limit.
 fn id_past(layout: KindLayout, order: Order, piece: &[u8], vlen: u32, limit: u64) -> Option<u32>
-    requires few { vlen < 65536 }
+    requires few { vlen ≤ BTF_MAX_VLEN }
     requires long { length piece.now ≡ 4 * type_width layout vlen }
     ensures { result ≡ first_past limit (ids_by (Some layout) (word_in order piece.now) vlen) }
 {
-    match layout {
-        KindLayout::Int => None,
-        KindLayout::Link => one_past(order, piece, 2, limit),
-        KindLayout::Array => {
-            let element = word_in(order, piece, 3);
-            if is_past(element, limit) {
-                return Some(element);
-            }
-            one_past(order, piece, 4, limit)
-        }
-        KindLayout::Forward => None,
-        KindLayout::TaggedLink => one_past(order, piece, 2, limit),
-        KindLayout::Float => None,
-        KindLayout::Sized(PartLayout::Member) => past(order, piece, 4, 3, vlen, limit),
-        KindLayout::Sized(PartLayout::Enumerator) => None,
-        KindLayout::Sized(PartLayout::WideEnumerator) => None,
-        KindLayout::Sized(PartLayout::Parameter) => None,
-        KindLayout::Sized(PartLayout::Variable) => past(order, piece, 3, 3, vlen, limit),
-        KindLayout::Prototype => {
-            let answer = word_in(order, piece, 2);
-            if is_past(answer, limit) {
-                return Some(answer);
-            }
-            past(order, piece, 4, 2, vlen, limit)
-        }
+    if let Some(id) = own_id_past(layout, order, piece, vlen, limit) {
+        return Some(id);
+    }
+    match part_layout(layout) {
+        Some(part) => part_id_past(part, order, piece, vlen, limit),
+        None => None,
     }
 }
 
@@ -122,7 +161,7 @@ pub fn words_fault(
     requires { IsPiece order piece.now }
     ensures { result ≡ words_fault place id limit count (word_in order piece.now) }
 {
-    let info = word_in(order, piece, 1);
+    let info = word_in(order, piece, INFO);
     let vlen = vlen_in(info);
     let layout = layout_of(kind_in(info))?;
     if let Some(name) = name_past(layout, order, piece, vlen, limit) {

@@ -4,12 +4,13 @@ ghost use Rattle.std.specs.Prelude.{List, None, Some, Ok, Err, length, map, nat_
 ghost use Rattle.std.specs.Prelude.{if◌then◌else◌};
 ghost use Rattle.std.specs.Option.{option_map, option_or};
 ghost use Rattle.btf_codec.specs.Fields.{layout_of};
-ghost use Rattle.btf_codec.specs.Reading.{checked, first_past, flag_in, head_of, ids_by, ids_in};
+ghost use Rattle.btf_codec.specs.Reading.{first_past, flag_in, head_of, ids_by, ids_in};
 ghost use Rattle.btf_codec.specs.Reading.{is_clean, is_info, is_third, is_vlen, kind_in, may_flag};
-ghost use Rattle.btf_codec.specs.Reading.{names_by, names_in, part_width, places, type_width};
+ghost use Rattle.btf_codec.specs.Reading.{checked_width, part_width, places, type_width};
 ghost use Rattle.btf_codec.specs.Reading.{vlen_in, word_in, words_at, words_fault};
 
 use crate::fault::BtfFault;
+use crate::format::{BTF_MAX_VLEN, INFO, KIND_FLAG_BIT, KIND_SHIFT, KINDS, SIZE, TYPE_HEAD};
 use crate::layout::{KindLayout, PartLayout, layout_of};
 use c_model::kinds::{
     BTF_KIND_DECL_TAG, BTF_KIND_ENUM, BTF_KIND_ENUM64, BTF_KIND_FUNC, BTF_KIND_FWD,
@@ -35,25 +36,25 @@ pub fn word_in(order: Order, piece: &[u8], i: usize) -> u32
 pub fn kind_in(info: u32) -> u8
     ensures { result ≡ kind_in info }
 {
-    (info / 0x100_0000 % 32) as u8
+    ((info >> KIND_SHIFT) % KINDS) as u8
 }
 
 /// Whether kind_flag, bit 31 of an info word, is set.
 pub fn flag_in(info: u32) -> bool
     ensures { result ≡ flag_in info }
 {
-    info >= 0x8000_0000
+    info >= 1 << KIND_FLAG_BIT
 }
 
 /// vlen in an info word: bits 0 to 15.
 pub fn vlen_in(info: u32) -> u32
     ensures { result ≡ vlen_in info }
 {
-    info % 0x1_0000
+    info % (BTF_MAX_VLEN + 1)
 }
 
 /// How many words a part has.
-pub fn part_width(layout: PartLayout) -> u32
+pub fn part_width(layout: PartLayout) -> usize
     ensures value { result ≡ part_width layout }
     ensures few { result ≤ 3 }
 {
@@ -68,7 +69,7 @@ pub fn part_width(layout: PartLayout) -> u32
 
 /// How many words a type has.
 pub fn type_width(layout: KindLayout, vlen: u32) -> usize
-    requires { vlen < 65536 }
+    requires { vlen ≤ BTF_MAX_VLEN }
     ensures { result ≡ type_width layout vlen }
 {
     match layout {
@@ -78,8 +79,8 @@ pub fn type_width(layout: KindLayout, vlen: u32) -> usize
         KindLayout::Forward => 3,
         KindLayout::TaggedLink => 4,
         KindLayout::Float => 3,
-        KindLayout::Sized(parts) => 3 + (part_width(parts) * vlen) as usize,
-        KindLayout::Prototype => 3 + (2 * vlen) as usize,
+        KindLayout::Sized(parts) => TYPE_HEAD + part_width(parts) * vlen as usize,
+        KindLayout::Prototype => TYPE_HEAD + 2 * vlen as usize,
     }
 }
 
@@ -160,19 +161,19 @@ pub fn head_of(order: Order, place: u64, id: u32, rest: &[u8]) -> Result<usize, 
     ensures { result ≡ head_of place id (word_in order rest.now) (length rest.now / 4) }
 {
     let left = rest.len() / 4;
-    if left < 3 {
+    if left < TYPE_HEAD {
         return Err(BtfFault::BtfTruncated(place));
     }
-    let info = word_in(order, rest, 1);
-    let third = word_in(order, rest, 2);
+    let info = word_in(order, rest, INFO);
+    let third = word_in(order, rest, SIZE);
     match layout_of(kind_in(info)) {
         None => Err(BtfFault::BtfKind(place, id, kind_in(info))),
-        Some(layout) => checked(layout, place, id, info, third, left),
+        Some(layout) => checked_width(layout, place, id, info, third, left),
     }
 }
 
-/// The checks of a type of a known layout, of whose words `left` are there: how many it has.
-fn checked(
+/// How many words a type of a known layout has, of which `left` are there, if it is as it should.
+fn checked_width(
     layout: KindLayout,
     place: u64,
     id: u32,
@@ -180,7 +181,7 @@ fn checked(
     third: u32,
     left: usize,
 ) -> Result<usize, BtfFault>
-    ensures { result ≡ checked place id info third left (Some layout) }
+    ensures { result ≡ checked_width place id info third left (Some layout) }
 {
     if !is_info(layout, info, third) {
         return Err(BtfFault::BtfInfo(place, id));

@@ -17,6 +17,7 @@ ghost use denote.Bor.{Bor};
 use crate::decoded::{TableStrings, decoded_type};
 use crate::fault::BtfFault;
 use crate::file::{are_strings, order_in, pieces_of, sections_of};
+use crate::format::HEADER_LEN;
 use crate::offsets::words_fault;
 use crate::table::Table;
 use c_model::{CType, Nodes, copy_of_types};
@@ -37,10 +38,10 @@ fn check_words(
         → IsPiece order (slice_index_or pieces.now k d).now }
     requires short { (k : ℕ) (d : Bor (List ℕ)) → k < length pieces.now
         → length (slice_index_or pieces.now k d).now < 2 ^ 32 }
-    ensures { result ≡ unless (pieces_fault order 24 first limit count
+    ensures { result ≡ unless (pieces_fault order HEADER_LEN first limit count
         (map (λ p. p.now) pieces.now)) }
 {
-    let mut place = 24;
+    let mut place = HEADER_LEN as u64;
     let mut id = first;
     for piece in pieces {
         if let Some(fault) = words_fault(order, piece, place, id, limit, count) {
@@ -115,7 +116,7 @@ fn file_of<'a>(
     let order = order_in(want, bytes)?;
     let (body, names) = sections_of(order, bytes)?;
     if !are_strings(based, names) {
-        return Err(BtfFault::BtfStrings(24 + body.len() as u64));
+        return Err(BtfFault::BtfStrings((HEADER_LEN + body.len()) as u64));
     }
     let pieces = pieces_of(alloc, order, body, types + 1)?;
     let count = types + pieces.len() as u32;
@@ -138,6 +139,28 @@ fn strings_of<'a>(base: Option<&Table<'a>>) -> &'a [u8]
         Some(table) => table.names,
         None => &[],
     }
+}
+
+/// Appends the types that the parts of a file show. `strings` are those of the table before.
+fn push_file_types<'a>(
+    alloc: Global,
+    all: &mut Vec<CType<'a>>,
+    strings: &'a [u8],
+    file: &File<'a>,
+) -> Result<(), AllocError>
+    requires ends { EndsWithNul strings.now }
+    requires each { All (λ p. IsPiece file.now.order p.now) file.now.pieces.items }
+    ensures { OnOk result (all.new.items ≡ all.old.items ++ types_of
+        (strings.now ++ file.now.names.now) file.now.order
+        (map (λ p. p.now) file.now.pieces.items)) }
+{
+    let base_ends = TextEnds::of(alloc, strings)?;
+    let own_ends = TextEnds::of(alloc, file.names)?;
+    let texts = TableStrings {
+        base: &base_ends,
+        own: &own_ends,
+    };
+    push_types(alloc, all, texts, file.order, &file.pieces)
 }
 
 /// The table that the bytes spell over a base, in the wanted byte order if one is wanted (the
@@ -180,13 +203,7 @@ pub fn read<'a>(
         want,
         bytes,
     )?;
-    let base_ends = TextEnds::of(alloc, strings)?;
-    let own_ends = TextEnds::of(alloc, file.names)?;
-    let texts = TableStrings {
-        base: &base_ends,
-        own: &own_ends,
-    };
-    push_types(alloc, &mut all, texts, file.order, &file.pieces)?;
+    push_file_types(alloc, &mut all, strings, &file)?;
     Ok(Table {
         order: file.order,
         base: before,

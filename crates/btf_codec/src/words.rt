@@ -7,6 +7,7 @@ ghost use Rattle.btf_codec.specs.Fields.{vlen_of};
 ghost use Rattle.btf_codec.specs.Spells.{half_bytes, word_bytes, words_bytes};
 ghost use Rattle.btf_strings.specs.Names.{offset_of};
 
+use crate::format::{BTF_MAX_VLEN, KIND_FLAG_BIT, KIND_SHIFT, KINDS};
 use btf_strings::Strings;
 use c_model::kinds::BTF_KIND_FUNC;
 use c_model::{Label, Ref};
@@ -93,14 +94,15 @@ pub fn high_half(value: u64) -> u32
 
 /// The info word of a label: vlen in bits 0 to 15, the kind in 24 to 28, kind_flag in 31.
 pub fn info(label: &Label<'_>) -> u32
-    ensures { vlen_of label.now ≤ 65535 → label.now.kind < 32 → result ≡ info_of label.now }
+    ensures { vlen_of label.now ≤ BTF_MAX_VLEN → label.now.kind < KINDS
+        → result ≡ info_of label.now }
 {
     let vlen = if label.kind == BTF_KIND_FUNC {
-        label.extra.min(65535)
+        label.extra.min(BTF_MAX_VLEN)
     } else {
-        label.parts.items().len().min(65535) as u32
+        label.parts.items().len().min(BTF_MAX_VLEN as usize) as u32
     };
-    let kind = u32::from(label.kind % 32);
-    let flag = if label.flag { 1 << 31 } else { 0 };
-    vlen + (kind << 24) + flag
+    let kind = u32::from(label.kind) % KINDS;
+    let flag = if label.flag { 1 << KIND_FLAG_BIT } else { 0 };
+    vlen + (kind << KIND_SHIFT) + flag
 }

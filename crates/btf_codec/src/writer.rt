@@ -13,6 +13,7 @@ ghost use Rattle.c_model.specs.declared.graph.CType.{CType};
 ghost use Rattle.c_model.specs.declared.label.Part.{Part};
 ghost use Rattle.c_model.specs.declared.graph.Ref.{Ref};
 
+use crate::format::{BTF_MAGIC, BTF_MAX_VLEN, BTF_VERSION, HEADER_LEN, KINDS};
 use crate::layout::{KindLayout, PartLayout, layout_of};
 use crate::table::TableOut;
 use crate::words::{
@@ -54,21 +55,21 @@ pub fn write(alloc: Global, table: &TableOut<'_>, order: Order) -> Result<Bytes,
     let own = &table.types.items()[table.base as usize..];
     let names = table.strings.bytes();
     let types = 4 * word_count(own);
-    let mut out = Vec::with_capacity(alloc, 24 + types as usize + names.len())?;
+    let mut out = Vec::with_capacity(alloc, HEADER_LEN + types as usize + names.len())?;
     put_header(&mut out, order, types, names.len() as u32)?;
     put_types(&mut out, order, &table.strings, own)?;
     out.extend_from_slice(names)?;
     Ok(Bytes::new(out))
 }
 
-/// The header: magic, version 1, no flags, its own length, and then the places of types and
+/// The header: magic, version, no flags, its own length, and then the places of types and
 /// strings.
 fn put_header(out: &mut Vec<u8>, order: Order, types: u32, names: u32) -> Result<(), AllocError>
     ensures { OnOk result (out.new.items ≡ out.old.items ++ header_bytes order types names) }
 {
-    out.extend_from_slice(&half_bytes(order, 0xeb9f))?;
-    out.extend_from_slice(&[1, 0])?;
-    put_words(out, order, &[24, 0, types, types, names])
+    out.extend_from_slice(&half_bytes(order, BTF_MAGIC))?;
+    out.extend_from_slice(&[BTF_VERSION, 0])?;
+    put_words(out, order, &[HEADER_LEN as u32, 0, types, types, names])
 }
 
 /// How many words types have.
@@ -155,7 +156,7 @@ fn put_type(
     t: &CType<'_>,
 ) -> Result<(), AllocError>
     requires { All (IsBelow (2 ^ 32 - 1)) t.now.targets }
-    ensures { OnOk result (vlen_of t.now.label ≤ 65535 → t.now.label.kind < 32 →
+    ensures { OnOk result (vlen_of t.now.label ≤ BTF_MAX_VLEN → t.now.label.kind < KINDS →
         out.new.items
         ≡ out.old.items ++ words_bytes order (words_of strings.now (fields_of t.now))) }
 {

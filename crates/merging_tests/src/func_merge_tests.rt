@@ -6,10 +6,11 @@ ghost use Rattle.c_model.specs.Kinds.{IsWellFormed};
 use crate::fitting::{are_named, are_protos};
 use crate::functions::{Function, GLOBAL, LOCAL, entries, has_funcs};
 use crate::rows::{FileType, btf, graph_of, table_of};
+use base_merge::PartedGraph;
 use btf_codec::Table;
 use c_model::Graph;
-use func_merge::{Chosen, choose_over};
-use func_types::{Funcs, Protos};
+use func_merge::choose_over;
+use func_types::{FileProtos, Funcs, Protos};
 use packed_graph::packed;
 use small_graphs::fitting::is_fitting;
 use split_base::TableFault;
@@ -158,7 +159,7 @@ fn choose<'a, R: Threads + Sync>(
     base: Option<&Table<'a>>,
     case: &Case,
     graph: &Graph<'a>,
-) -> Result<Result<Chosen<'a>, TableFault>, Fail>
+) -> Result<Result<PartedGraph<'a>, TableFault>, Fail>
     requires base { IfSome base (λ b. CanBeBase b.now) }
     requires alone { graph.now.base ≡ 0 }
     requires well { All IsWellFormed graph.now.nodes }
@@ -172,6 +173,7 @@ fn choose<'a, R: Threads + Sync>(
         plain: case.plain,
         funcs: Funcs::new(funcs),
     };
+    let protos = FileProtos::new(protos);
     Ok(choose_over(rt, alloc, 2, base, case.most, protos))
 }
 
@@ -189,7 +191,7 @@ fn chooses_of<'a, R: Threads + Sync>(
     requires well { All IsWellFormed graph.now.nodes }
 {
     match choose(rt, alloc, base, case, graph)? {
-        Ok(chosen) => Ok(is_wanted(alloc, &chosen, base.is_none(), case, graph)?),
+        Ok(chosen) => Ok(is_wanted(alloc, chosen, base.is_none(), case, graph)?),
         Err(fault) => Ok(case.wanted.err() == Some(fault)),
     }
 }
@@ -211,7 +213,7 @@ fn chooses_over<'a, R: Threads + Sync>(
 /// Whether the chosen functions are those that are wanted.
 fn is_wanted(
     alloc: Global,
-    chosen: &Chosen<'_>,
+    chosen: PartedGraph<'_>,
     is_alone: bool,
     case: &Case,
     graph: &Graph<'_>,
@@ -219,9 +221,10 @@ fn is_wanted(
     let Ok(rows) = case.wanted else {
         return Ok(false);
     };
-    let made = chosen.graph.unpack(alloc)?;
+    let (chosen, classes) = chosen.into_parts();
+    let made = chosen.packed().unpack(alloc)?;
     let has_all = has_funcs(made.nodes(), graph.nodes(), case.plain, rows);
-    Ok(has_all && chosen.classes.is_some() == is_alone)
+    Ok(has_all && classes.is_some() == is_alone)
 }
 
 /// Whether a case comes out as it is wanted, with the base that bytes spell, where there are types.

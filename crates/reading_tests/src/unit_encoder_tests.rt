@@ -365,7 +365,7 @@ fn answer_of_two<R: Threads + Sync>(
         return Ok(Ok(String::new(alloc)));
     }
     match encode_files(rt, alloc, &OpenGate, jobs, 8, all.as_slice()) {
-        Ok(graph) => Ok(Ok(line(alloc, &graph.unpack(alloc)?)?)),
+        Ok(graph) => Ok(Ok(line(alloc, &graph.packed().unpack(alloc)?)?)),
         Err(fault) => Ok(Err(fault)),
     }
 }

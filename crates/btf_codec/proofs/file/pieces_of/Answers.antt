@@ -1,7 +1,4 @@
 use Rattle.std.proofs.Common.{◌≡◌, ℕ, ◌/◌, ◌≤◌, List, [], ◌∷◌, length, map, Ok, Err, rules, sym, ap, ◌∙◌, arith}
-use Rattle.std.proofs.Common.{subst, Result}
-use Rattle.btf_codec.specs.Gives.{Fails, Gives}
-use Rattle.btf_codec.specs.declared.fault.BtfFault.{BtfFault}
 use Rattle.std.proofs.lemmas.Bool.{eqb-true, eqb-false}
 use Rattle.std.proofs.lemmas.List.{nil_from_length, map-append}
 use Rattle.btf_codec.specs.Reading.{head_of, pieces_of, word_in}

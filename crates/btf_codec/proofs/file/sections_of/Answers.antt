@@ -7,7 +7,8 @@ pub returns-clause-sections : goal.returns-clause-sections
 returns-clause-sections c =
     sections_are c.args.order c.args.bytes.now (take (length c.args.bytes.now - 24)
     (drop 24 c.args.bytes.now)) c.split_at.result.0.now c.split_at.result.1.now c.word_in.result
-    c.if-bytes-lt24.false (sym c.is_header.ensures ∙ c.if-not-is_header.false) c.word_in.ensures
+    c.if-bytes-lt-HEADER_LEN.false (sym c.is_header.ensures ∙ c.if-not-is_header.false)
+    c.word_in.ensures
     (take_rest c.args.bytes.now 24) c.split_at.ensures.front c.split_at.ensures.back
 
 pub returns-clause-few : goal.returns-clause-few

@@ -1,8 +1,7 @@
 use Rattle.std.proofs.Common.{◌≡◌, ℕ, ◌+◌, ◌<◌, ◌^◌, List, length, map, get_or, Ok, Err, sym, ap}
-use Rattle.std.proofs.Common.{subst, ◌∙◌, arith, Result, rules}
-use Rattle.btf_codec.specs.declared.fault.BtfFault.{BtfFault}
+use Rattle.std.proofs.Common.{subst, ◌∙◌, arith, rules}
 use Rattle.btf_codec.specs.Reading.{file_of, pieces_fault, pieces_of}
-use Rattle.btf_codec.specs.Gives.{Fails, Gives, IsPiece}
+use Rattle.btf_codec.specs.Gives.{IsPiece}
 use Rattle.btf_codec.proofs.Splitting.{refused}
 use Rattle.btf_codec.proofs.Gluing.{all_well, cut, fails_on, how_many, no_fault, no_order}
 use Rattle.btf_codec.proofs.Gluing.{no_pieces, no_sections, no_strings, no_words, same_fault}

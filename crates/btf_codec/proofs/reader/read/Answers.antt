@@ -4,7 +4,7 @@ use Rattle.btf_codec.specs.declared.fault.BtfFault.TheVariants.{Memory}
 use Rattle.std.specs.Option.{option_map}
 use Rattle.c_model.specs.declared.graph.CType.{CType}
 use Rattle.dw_base.specs.declared.numbers.Order.{Order}
-use Rattle.btf_codec.specs.Gives.{EndsWithNul, Fails, Gives, base_seen, before_of, table_over}
+use Rattle.btf_codec.specs.Gives.{EndsWithNul, base_seen, before_of, table_over}
 use Rattle.btf_codec.specs.Reading.{Decoded, is_wanted, types_of}
 use Rattle.btf_codec.specs.Spells.{Spells}
 use Rattle.btf_codec.specs.declared.fault.BtfFault.{BtfFault}
@@ -70,11 +70,7 @@ returns-clause-gives c =
       ap (λ (ts : List CType). length ts) c.in_ok-all.ensures,
     ))
     c.strings_of-strings.ensures.names c.in_ok-file.ensures.gives
-    (c.new.ensures ∙ (rw (c.in_ok-base_ends.ensures, c.in_ok-own_ends.ensures)
-    at c.in_ok-push_types.ensures)
-    ∙ ap (λ (ps : List (Bor (List ℕ))). c.in_ok-all.all.items
-    ++ types_of (c.strings_of-strings.result.now ++ c.in_ok-file.file.names.now) c.in_ok-file.file.order
-    (map (λ (p : Bor (List ℕ)). p.now) ps)) c.deref.ensures.value
+    (c.new.ensures ∙ c.in_ok-push_file_types.ensures
     ∙ ap (λ (ts : List CType). ts
     ++ types_of (c.strings_of-strings.result.now ++ c.in_ok-file.file.names.now) c.in_ok-file.file.order
     (map (λ (p : Bor (List ℕ)). p.now) c.in_ok-file.file.pieces.items)) c.in_ok-all.ensures)
