@@ -2,7 +2,7 @@
 # Runs the built program on each folder of crates/run_cases/data (see the README.md there) and
 # compares the exit status, standard output, standard error, the stored file `o` and the files left
 # behind, byte by byte. Folders that need limits of their own or a world that fails are for the
-# program run_cases alone.
+# program run_cases alone. The lists of both programs of cases have all that lies there.
 set -u
 export LC_ALL=C
 . "$(dirname "$0")/lib/program.sh"
@@ -60,3 +60,21 @@ elif [ "$said" = "units 1024, entries 2100224, types 16387, bytes 398366" ]; the
 else
   echo "failed selfmade-8388607: status $had, $said"
 fi
+
+# What the programs of the gate count is all that lies there; btf_cases makes two cases more.
+for crate in run_cases btf_cases; do
+  data=$root/crates/$crate/data
+  if [ "$crate" = run_cases ]; then
+    (cd "$data" && ls -d -- */) | tr -d / | sort >"$scratch/there"
+    count=$(wc -l <"$scratch/there")
+  else
+    (cd "$data" && ls -I list -I README.md) | sort >"$scratch/there"
+    count=$((2 + $(cat "$data"/* | grep -c '^case ')))
+  fi
+  if wrong=$(sort "$data/list" | diff - "$scratch/there") &&
+    grep -qx "$count cases, 0 differ" "$root/crates/$crate/stdout"; then
+    echo "passed list of $crate: $count"
+  else
+    echo "failed list of $crate: $count cases; ${wrong//$'\n'/; }"
+  fi
+done

@@ -46,6 +46,10 @@ else
   echo "failed words page of version: $(tr '\n' ' ' <"$scratch/out")"
 fi
 
+if command -v rt >/dev/null && [ "$(rt version)" != "$kit" ]; then
+  echo "note: the toolchain here is $(rt version), not $kit"
+fi
+
 # each error and each usage code: the first word of its page, and its name
 wrong= count=0
 while read -r key head name; do

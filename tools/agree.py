@@ -28,7 +28,7 @@ INDEX_THERE = "INT int 4 0x1000020"
 # integers of 3 or 6 bytes, which clang names so in expressions of places: a structure of that size
 # here, and one integer for all of them there
 ODD_HERE, ODD_THERE = re.compile(r"STRUCT DW_ATE_\w+ \d+ 0 \{\}"), "INT __SANITIZED_FAKE_INT__ "
-# what differs on purpose, and what shows a fault of one of the two
+# what differs on purpose, in one version of that tool or another, and what shows a fault
 MEANT, BITS = (INDEX, ATOMIC, DECLARED, ODD, DIMENSIONS), "places of bit fields"
 # how many types that differ are shown, and how many names of functions
 SHOWN, FEW = 20, 8
@@ -103,9 +103,11 @@ def differing(ours, theirs):
 
 def differing_functions(ours, theirs):
     """How many functions of two tables are the same, and the names of the others, by what
-    differs. That the tool pahole says of each that it is static counts for nothing."""
+    differs. That the tool pahole says of each that it is static counts for nothing, and neither
+    do the dimensions of arrays, which its later versions keep apart."""
     here, there = (
-        {one: told[1:] for one, told in each.functions().items()} for each in (ours, theirs)
+        {one: (flat(of), names) for one, (_, of, names) in each.functions().items()}
+        for each in (ours, theirs)
     )
     both = set(here) & set(there)
     other = sorted(one for one in both if here[one] != there[one])

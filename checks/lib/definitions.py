@@ -1,162 +1,96 @@
-"""definitions.py ROOT [PAGE]: every definition on the way from the clauses of `run` to bytes, with
-its sentence, written to PAGE where one is named. The way is followed through `specs/`: from the names
-that the clauses cite to those that their definitions cite, and so on."""
+"""definitions.py ROOT PAGE: writes to PAGE every definition on the way from the clauses of `run` to
+bytes, with its sentence. The way is followed through `specs/`: from the names that the clauses cite
+to those that their definitions cite, and so on."""
 import collections
+import functools
 import itertools
 import os
 import re
 import sys
-import textwrap
 
-ROOT = sys.argv[1]
+ROOT, PAGE = sys.argv[1:]
 START = "crates/pahole_run/src/top.rt"
-# the most characters of a line of that page
-WIDTH = 100
 NAME = re.compile(r"[A-Za-z]\w*")
-USE = re.compile(r"^(?:ghost )?use Rattle\.([\w.]+)\.\{([^}]*)\}", re.M)
+USE = re.compile(r"^(?:ghost )?use Rattle\.(?!std\.)(\w+)\.specs\.([\w.]+)\.\{([^}]*)\}", re.M)
 DEFINED = re.compile(r"^(?:abbrev|unfoldable) pub (\w+)|^pub (?:record|data) (\w+)")
 FIELD = re.compile(r"(?:pub|\.)\s*\w+\s*(?:=[^=]|:)|\.\w+")
 
 Definition = collections.namedtuple("Definition", "sentence text")
 
 
+@functools.lru_cache(maxsize=None)
 def read(path):
     with open(f"{ROOT}/{path}", encoding="utf-8") as file:
         return file.read()
 
 
-def imports(text):
+@functools.lru_cache(maxsize=None)
+def imports(path):
     """The names that a file takes from others: what each stands for, and the file of specs/ that
     has it."""
     found = {}
-    for path, names in USE.findall(text):
-        parts = path.split(".")
-        if len(parts) < 3 or parts[1] != "specs" or parts[2] == "declared" or parts[0] == "std":
-            continue
-        file = f"crates/{parts[0]}/specs/{parts[2]}.antt"
+    for crate, file, names in USE.findall(read(path)):
         for name in names.split(","):
             old, _, new = name.strip().partition(" as ")
-            if NAME.fullmatch(old):
-                found[new or old] = (file, old)
+            if NAME.fullmatch(old) and "." not in file:
+                found[new or old] = (f"crates/{crate}/specs/{file}.antt", old)
     return found
 
 
-def headline(text):
+def headline(path):
     """The lines of comment at the beginning of a file, which say what is in it."""
-    return list(itertools.takewhile(lambda line: line.startswith("--"), text.splitlines()))
+    return list(itertools.takewhile(lambda line: line.startswith("--"), read(path).splitlines()))
 
 
-def definitions(text):
+@functools.lru_cache(maxsize=None)
+def definitions(path):
     """The definitions of a file by name: the comment above each, and its lines."""
     found, comment, name = {}, [], None
-    for line in text.splitlines()[len(headline(text)) :]:
-        head = DEFINED.match(line)
+    for line in read(path).splitlines()[len(headline(path)) :]:
+        head, word = DEFINED.match(line), NAME.match(line)
         if head:
             name = head[1] or head[2]
             found[name] = Definition(" ".join(comment), [line])
             comment = []
-        elif line.startswith("-- "):
-            comment.append(line[3:])
-            name = None
-        elif not line:
-            comment, name = [], None
-        elif name:
-            found[name].text.append(line)
-        elif NAME.match(line) and NAME.match(line)[0] in found:
-            name = NAME.match(line)[0]
+        elif not line or line.startswith("-- "):
+            comment, name = [*comment, line[3:]] if line else [], None
+        elif name or word and word[0] in found:
+            name = word[0] if word and word[0] in found else name
             found[name].text.append(line)
     return found
 
 
-class Reader:
-    """Files of specs/, each read once."""
-
-    def __init__(self):
-        self.files = {}
-
-    def of(self, file):
-        if file not in self.files:
-            text = read(file)
-            self.files[file] = (imports(text), definitions(text))
-        return self.files[file]
-
-    def cited(self, file, name):
-        """The definitions that one cites."""
-        taken, own = self.of(file)
-        for line in own[name].text:
-            for word in NAME.findall(FIELD.sub(" ", line)):
-                if word in own and word != name:
-                    yield file, word
-                elif word in taken:
-                    yield taken[word]
+def cited(path, name):
+    """The definitions that one cites."""
+    lines = [FIELD.sub(" ", line) for line in definitions(path)[name].text]
+    for word in NAME.findall(" ".join(lines)):
+        if word in definitions(path) and word != name:
+            yield path, word
+        elif word in imports(path):
+            yield imports(path)[word]
 
 
 def reached():
-    """All definitions on the way, by file, and the reader that knows them."""
-    reader, top = Reader(), read(START)
-    clauses = " ".join(re.findall(r"^    ensures .*", top[: top.index("fn run_words")], re.M))
-    taken = imports(top)
-    todo = [taken[name] for name in NAME.findall(clauses) if name in taken]
-    seen = set()
+    """The names of all definitions on the way, by file."""
+    clauses = re.findall(r"^    ensures .*", read(START).partition("fn run_words")[0], re.M)
+    taken, seen = imports(START), collections.defaultdict(set)
+    todo = [taken[word] for word in NAME.findall(" ".join(clauses)) if word in taken]
     while todo:
-        one = todo.pop()
-        file, name = one
-        if one in seen or not os.path.exists(f"{ROOT}/{file}") or name not in reader.of(file)[1]:
-            continue
-        seen.add(one)
-        todo += reader.cited(file, name)
-    return seen, reader
+        path, name = todo.pop()
+        if os.path.exists(f"{ROOT}/{path}") and name in definitions(path).keys() - seen[path]:
+            seen[path].add(name)
+            todo += cited(path, name)
+    return {path: names for path, names in seen.items() if names}
 
 
-def wrapped(text, indent=""):
-    """The lines of a paragraph, where a word is never cut."""
-    return textwrap.wrap(
-        text, WIDTH, subsequent_indent=indent, break_long_words=False, break_on_hyphens=False
-    )
-
-
-def rows_of(known, cited):
-    """The definitions of a file that are cited, each with its sentence; those that stand under one
-    sentence are one row."""
-    rows = []
-    for name in known:
-        if name not in cited:
-            continue
-        if known[name].sentence or not rows:
-            rows.append(([name], known[name].sentence))
-        else:
-            rows[-1][0].append(name)
-    return rows
-
-
-def page():
-    seen, reader = reached()
-    by_file = collections.defaultdict(list)
-    for file, name in seen:
-        by_file[file].append(name)
-    crates = [line.split()[0] for line in read("crates.txt").splitlines() if line.strip()]
-    rank = {crate.rstrip(":"): place for place, crate in enumerate(crates)}
-    lines = ["# The definitions that `run` stands on", ""]
-    lines += wrapped(
-        f"The {len(seen)} definitions in {len(by_file)} files that are cited on the way from the "
-        "clauses of `run` (`pahole_run/src/top.rt`) to bytes, each with the sentence that stands "
-        "above it. Those that stand under one sentence stand in one row."
-    )
-    for file in sorted(by_file, key=lambda path: (-rank.get(path.split("/")[1], -1), path)):
-        told = " ".join(line[2:].strip() for line in headline(read(file)))
-        lines += ["", f"## `{file[7:]}`", "", *wrapped(told), ""]
-        for names, sentence in rows_of(reader.of(file)[1], by_file[file]):
-            told = ", ".join(f"`{name}`" for name in names)
-            lines += wrapped(f"- {told}: {sentence}" if sentence else f"- {told}", "  ")
-    return "\n".join(lines) + "\n", len(seen)
-
-
-def main():
-    text, count = page()
-    if len(sys.argv) > 2:
-        with open(sys.argv[2], "w", encoding="utf-8") as file:
-            file.write(text)
-    print(f"passed docs definitions: {count} on the way from `run` to bytes")
-
-
-main()
+found = reached()
+crates = re.findall(r"^([^#\s:]+)", read("crates.txt"), re.M)
+with open(PAGE, "w", encoding="utf-8") as page:
+    page.write("# The definitions on the way from the clauses of `run` to bytes\n")
+    for path in sorted(found, key=lambda path: (-crates.index(path.split("/")[1]), path)):
+        told = " ".join(line[2:].strip() for line in headline(path))
+        page.write(f"\n## `{path[7:]}`\n\n{told}\n\n")
+        for name, one in definitions(path).items():
+            if name in found[path]:
+                page.write(f"- `{name}`" + f": {one.sentence}" * bool(one.sentence) + "\n")
+print(f"passed docs definitions: {sum(map(len, found.values()))} on the way from `run` to bytes")
