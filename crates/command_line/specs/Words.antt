@@ -18,6 +18,7 @@ use Rattle.command_line.specs.declared.options.Setting.TheVariants.{Out, Base, S
 use Rattle.command_line.specs.declared.options.Setting.TheVariants.{Holes, Line, Format as Shape}
 use Rattle.command_line.specs.declared.options.Setting.TheVariants.{Sizes, Jobs, Funcs}
 use Rattle.command_line.specs.declared.options.ValuePlace.{ValuePlace}
+use Rattle.command_line.specs.declared.usage_codes.TheConstants as usages
 use Rattle.command_line.specs.declared.options.ValuePlace.TheVariants.{NextWord, SameWord}
 use Rattle.command_line.specs.Values.{made_number, holes, line, jobs, file_name, names, format}
 use Rattle.command_line.specs.Options.{row, settings, showing, is_same}
@@ -110,13 +111,13 @@ is_used us s = is_some (value_of us s)
 
 -- what is wrong with an option that is not repeated: the value is missing, or bad
 abbrev pub value_fault : Setting → Option (List ℕ) → Option ℕ
-value_fault s None = Some 2
-value_fault s (Some v) = if (row s).good v then None else Some 3
+value_fault s None = Some usages.MISSING_VALUE
+value_fault s (Some v) = if (row s).good v then None else Some usages.BAD_VALUE
 
 -- what is wrong with a word, after the use of some options
 abbrev pub code_after : List (Setting × List ℕ) → Role → Option ℕ
-code_after us unknown = Some 1
-code_after us (option s v) = if is_used us s then Some 4 else value_fault s v
+code_after us unknown = Some usages.UNKNOWN_OPTION
+code_after us (option s v) = if is_used us s then Some usages.REPEATED_OPTION else value_fault s v
 code_after us _ = None
 
 abbrev pub usage : ℕ → ℕ → UsageFault
@@ -151,10 +152,10 @@ are_apart us =
 -- what is wrong with all words together, by the options and the number of files
 abbrev pub whole_fault : List (Setting × List ℕ) → ℕ → Option ℕ
 whole_fault us count =
-    if are_apart us then Some 5
-    else (if count == 0 && not (is_used us Selfmade) then Some 6
+    if are_apart us then Some usages.CONFLICTING_OPTIONS
+    else (if count == 0 && not (is_used us Selfmade) then Some usages.NO_FILE
     else (if (is_used us Selfmade && nat_lt 0 count) || (is_btf (format_of us) && nat_lt 1 count)
-    then Some 7 else None))
+    then Some usages.TOO_MANY_FILES else None))
 
 abbrev pub jobs_wanted : List (Setting × List ℕ) → ℕ
 jobs_wanted us = unwrap_or (read jobs Jobs us) 1

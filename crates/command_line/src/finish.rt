@@ -12,6 +12,7 @@ ghost use Rattle.command_line.specs.Words.{files_of, jobs_of, line_of, names_of}
 
 use crate::job::{Format, Job, JobFault, Text, Texts, UsageFault};
 use crate::options::{SHOWING, Setting};
+use crate::usage_codes;
 use crate::uses::{Use, is_used, value_of};
 use crate::values::{are_names, format, holes, jobs, line, made_number};
 use std::alloc::{AllocError, Global};
@@ -62,11 +63,11 @@ fn whole_fault(uses: &[Use<'_>], count: usize) -> Option<u32>
 {
     let selfmade = is_used(uses, Setting::Selfmade);
     if are_apart(uses) {
-        Some(5)
+        Some(usage_codes::CONFLICTING_OPTIONS)
     } else if count == 0 && !selfmade {
-        Some(6)
+        Some(usage_codes::NO_FILE)
     } else if selfmade && 0 < count || is_btf(format_of(uses)) && 1 < count {
-        Some(7)
+        Some(usage_codes::TOO_MANY_FILES)
     } else {
         None
     }

@@ -30,6 +30,7 @@ mod finish;
 pub mod job;
 mod options;
 pub mod scan;
+pub mod usage_codes;
 mod uses;
 mod values;
 
