@@ -41,8 +41,8 @@ structure_at types x = option_and_then (structure_by types x) (slice_get types x
 abbrev pub is_listed : List CType → ℕ → Bool
 is_listed types x = is_some (structure_at types x)
 
-abbrev pub listed : List CType → ℕ → List ℕ
-listed types from = filter (is_listed types) (range_with_len from (length types - from))
+abbrev pub structures_from : List CType → ℕ → List ℕ
+structures_from types from = filter (is_listed types) (range_with_len from (length types - from))
 
 -- those of a name
 abbrev pub name_at : List CType → ℕ → List ℕ
@@ -57,7 +57,7 @@ places_named types name = filter (has_name types name) (range_with_len 0 (length
 -- the places of what is shown: without names those of the types from a place on; else for each name
 -- in order those of all its types
 abbrev pub chosen : List CType → ℕ → Option (List (List ℕ)) → List ℕ
-chosen types from None = listed types from
+chosen types from None = structures_from types from
 chosen types from (Some names) = flat_map (places_named types) names
 
 -- the first name, counted from k, that no type has which can be shown

@@ -3,7 +3,7 @@ ghost use Rattle.std.specs.Prelude.{◌≡◌, ◌++◌, ◌<◌, ◌^◌, lengt
 ghost use Rattle.std.specs.Prelude.{if◌then◌else◌};
 ghost use Rattle.btf_codec.specs.Fields.{target_at};
 ghost use Rattle.shown_types.specs.Listed.{is_structure, is_named, nameless_at, structure_by};
-ghost use Rattle.shown_types.specs.Listed.{structure_at, is_listed, listed};
+ghost use Rattle.shown_types.specs.Listed.{structure_at, is_listed, structures_from};
 
 use c_model::kinds::{BTF_KIND_STRUCT, BTF_KIND_TYPEDEF, BTF_KIND_UNION};
 use c_model::{CType, Ref};
@@ -83,9 +83,13 @@ fn push_if(all: &mut Vec<u32>, holds: bool, x: u32) -> Result<(), AllocError>
 }
 
 /// The places of all types from one on that can be shown.
-pub fn listed(alloc: Global, types: &[CType<'_>], from: u32) -> Result<Vec<u32>, AllocError>
+pub fn structures_from(
+    alloc: Global,
+    types: &[CType<'_>],
+    from: u32,
+) -> Result<Vec<u32>, AllocError>
     requires { length types.now < 2 ^ 32 }
-    ensures { IfOk result (λ v. v.items ≡ listed types.now from) }
+    ensures { IfOk result (λ v. v.items ≡ structures_from types.now from) }
 {
     let mut all = Vec::new(alloc);
     for x in from..types.len() as u32 {

@@ -1,7 +1,7 @@
 use Rattle.std.proofs.Common.{◌≡◌, ◌++◌, drop}
 use Rattle.std.specs.List.{flat_map}
 use Rattle.shown_types.specs.Listed.{places_named, missing_from}
-use Rattle.shown_types.proofs.choosing.choose_named.Given as goal
+use Rattle.shown_types.proofs.choosing.choose_by.Given as goal
 
 -- no name so far is missing, and the places of each are there
 abbrev pub invariant-loop-i : goal.invariant-loop-i
