@@ -1,7 +1,7 @@
-"""peak.py PROGRAM FOLDER: runs over a file of each kind of hostile.py, and over larger ones of those
-that take most memory for each byte, by 1, 4 and 64 workers. A kind fails where the peak of memory
-passes BASE and so many bytes for each byte of the file, or where status, complaint, table or text
-differ from those of one worker."""
+"""peak.py PROGRAM FOLDER: runs over a file of each kind of hostile.py, and over larger ones of
+those that take most memory for each byte, by 1, 4 and 64 workers. A kind fails where the peak of
+memory passes BASE and so many bytes for each byte of the file, or where status, complaint, table or
+text differ from those of one worker."""
 import hashlib
 import multiprocessing
 import os
