@@ -1,13 +1,14 @@
 # pahole, proved. `make pahole` builds the proved program, `make install` installs it, `make demo`
 # encodes a file with it, `make test` is the gate and the repository's own checks, `make pages` lists
 # all definitions and edits. What takes long is run by hand: `make measure`, `make turns` and `make
-# drawn` (docs/BENCHMARKS.md), `make agree` and `make ways` (docs/COMPAT.md), `make plants`, `make
-# edits`, `make unseen` and `make memory` (docs/CONTRIBUTING.md).
+# drawn` (docs/BENCHMARKS.md), `make agree`, `make ways` and `make kernels` (docs/COMPAT.md), `make
+# plants`, `make edits`, `make unseen` and `make memory` (docs/CONTRIBUTING.md).
 PROGRAM = crates/pahole/out/pahole
 
 SHELL = bash
 
-.PHONY: pahole install demo test pages measure turns drawn agree ways plants unseen edits memory
+.PHONY: pahole install demo test pages measure turns drawn agree ways kernels plants unseen edits \
+  memory
 
 pahole:
 	@. checks/lib/toolchain.sh
@@ -47,8 +48,8 @@ turns:
 drawn:
 	python3 -B tools/drawn.py $(PROGRAM) $(or $(COUNT),100) $(SEED)
 
-# whether Debian's tool pahole writes the same types for FILES='a b', compared by what they are;
-# FUNCS=1 looks at functions, too
+# whether Debian's tool pahole, or one whose path is PEER, writes the same types for FILES='a b',
+# compared by what they are; FUNCS=1 looks at functions, too
 agree:
 	python3 -B tools/agree.py $(PROGRAM) $(if $(FUNCS),--funcs) $(FILES)
 
@@ -56,6 +57,11 @@ agree:
 # them in the folder REAL where they aren't there
 ways:
 	bash tools/ways.sh $(REAL)
+
+# the same of Debian's kernels of other machines, or of MACHINES='a b': puts them into the folder
+# KERNELS where they aren't there
+kernels:
+	bash tools/kernels.sh $(KERNELS) $(MACHINES)
 
 # CRATES='a b' plants in these alone
 plants:

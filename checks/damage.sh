@@ -1,11 +1,13 @@
 #!/usr/bin/env bash
-# Damages real files RUNS times (by default 3,000), always the same way: 1 to 8 bytes are changed,
-# half of them in the sections of debugging information, or the file is cut off. Each time the built
-# program, with options that change from run to run, ends within seconds with a status from 0 to 5,
-# by no signal, stores or prints nothing unless it ends with 0, and complains one line of its form,
-# or nothing on 0. The files are the program of demo/ for this machine and, where compilers for them
-# are installed, for 32 bits and big-endian machines, of DWARF 4, as a relocatable object, and with
-# type tags of clang; BTF files, and split tables over a base, of which one or the other is damaged.
+# Damages real files, and small ones that are made to be hostile, RUNS times (by default 3,000),
+# always the same way: bytes are changed, copied from elsewhere, left out or put in, a number is set
+# to the least or the greatest, or the file is cut off, half of the time in debugging information.
+# Each time the built program, with options that change from run to run, ends within seconds with
+# status 0, 1, 3 or 5, by no signal, stores or prints nothing unless it ends with 0, and complains
+# one line of its form, or nothing on 0. The real files are the program of demo/ for this machine
+# and, where compilers for them are installed, for others, of DWARF 4 and 5, as relocatable objects,
+# as dwz leaves it, and with type tags of clang; BTF files, and split tables over a base, of which
+# one or the other is damaged.
 set -u
 export LC_ALL=C
 . "$(dirname "$0")/lib/program.sh"
@@ -33,7 +35,12 @@ int __attribute__((btf_type_tag("user"))) *where;
 struct at { int __attribute__((btf_type_tag("rcu"))) *to; } at;
 C
 build clang elf.8 -glldb -c "$scratch/tags.c"
+build clang elf.9 -gdwarf-5 "${sources[@]}"
+build cc elf.10 -gdwarf-5 -gdwarf64 "${sources[@]}"
+build s390x-linux-gnu-gcc elf.11 -gdwarf-4 "${sources[@]}"
 [ -f "$scratch/elf.1" ] || exit 2
+cp "$scratch/elf.1" "$scratch/elf.12"
+dwz "$scratch/elf.12" 2>/dev/null || rm "$scratch/elf.12"
 # BTF files: a table, and a split one over it
 tables() {
   cd "$scratch" && "$program" --btf_encode_detached=btf.base elf.6 &&

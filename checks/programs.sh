@@ -5,7 +5,9 @@
 # members, in the table and in the printed layouts, are what the compiler says of them. The objects
 # of that program, and of a larger one that is made here, give the linked program's table, and each
 # alone some of its types. Files of a kind that is not read are refused with their number and place.
-# What is not installed is skipped by name; tools/install-tools.sh installs it.
+# Structures that are made at random, by every gcc and clang that is installed, with DWARF of each
+# version, have the sizes, places and bits that the compiler says, too. What is not installed is
+# skipped by name; tools/install-tools.sh installs most of it.
 set -u
 export LC_ALL=C
 . "$(dirname "$0")/lib/program.sh"
@@ -14,3 +16,4 @@ need programs cc python3
 scratch=$(mktemp -d) || exit 2
 trap 'rm -rf "$scratch"' EXIT
 python3 -B "$root/checks/lib/programs.py" "$program" "$root/demo" "$scratch"
+python3 -B "$root/checks/lib/compilers.py" "$program" "$scratch"

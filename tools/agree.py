@@ -1,10 +1,10 @@
-"""agree.py PROGRAM [--funcs] FILE..: whether PROGRAM and Debian's tool pahole write the same
-types for each FILE. Both tables are compared by what their types are, not by ids: each type with
-a name, with its size, its members, their places and bits, and what these refer to, named types
-by their kind and name. Prints a line for each file, and with it each type that one of the two
-alone has. What differs on purpose is counted apart, by its cause. With --funcs a second line
-tells how many names of functions both have with one prototype, and which have another one, or
-are in one alone."""
+"""agree.py PROGRAM [--funcs] FILE..: whether PROGRAM and Debian's tool pahole, or one whose path
+is PEER, write the same types for each FILE. Both tables are compared by what their types are, not
+by ids: each type with a name, with its size, its members, their places and bits, and what these
+refer to, named types by their kind and name. Prints a line for each file, and with it each type
+that one of the two alone has. What differs on purpose is counted apart, by its cause. With
+--funcs a second line tells how many names of functions both have with one prototype, and which
+have another one, or are in one alone."""
 import collections
 import math
 import os
@@ -16,7 +16,12 @@ import tempfile
 sys.path.append(os.path.join(os.path.dirname(os.path.abspath(__file__)), "..", "checks", "lib"))
 from described import Described
 
-PEER = ["pahole", "--skip_encoding_btf_vars", "--btf_gen_floats", "--btf_encode_detached=o"]
+PEER = [
+    os.path.abspath(os.environ["PEER"]) if "PEER" in os.environ else "pahole",
+    "--skip_encoding_btf_vars",
+    "--btf_gen_floats",
+    "--btf_encode_detached=o",
+]
 DECLARABLE = ("STRUCT", "UNION")
 INDEX = "the type of indices"
 ATOMIC = "`_Atomic`"

@@ -13,6 +13,7 @@ apt-get install -y --no-install-recommends \
   gcc-s390x-linux-gnu libc6-dev-s390x-cross \
   gcc-mips-linux-gnu libc6-dev-mips-cross \
   gcc-aarch64-linux-gnu libc6-dev-arm64-cross \
+  gcc-arm-linux-gnueabihf \
   clang lld dwz \
   codespell groff mandoc \
   hyperfine time

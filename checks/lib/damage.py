@@ -1,6 +1,6 @@
 """damage.py PROGRAM FOLDER [RUNS]: runs PROGRAM so often (by default RUNS of this file) on
-damaged copies of FOLDER's files elf.*, btf.base and btf.split, in turn, with options that change
-from run to run."""
+damaged copies of FOLDER's files elf.*, btf.base and btf.split, and of small ones of all kinds of
+hostile.py, with options that change from run to run."""
 import collections
 import glob
 import os
@@ -9,13 +9,17 @@ import re
 import subprocess
 import sys
 
+import hostile
 from elf import sections
 
 RUNS = 3000
 SECONDS = 10
+# how a run may end: 2 is for words alone, and 4 for want of memory, which no small file needs
+STATUSES = (0, 1, 3, 5)
 LINE = re.compile(
-    rb"pahole: (a|B|-): (image|\.debug_info|\.debug_abbrev|btf|table) \d+: error \d+( -?\d+){0,2}\n"
-    rb"|pahole: out of memory\n|pahole: no type [a-z]+\n"
+    rb"pahole: (a|B|c|small|-): (image|\.debug_info|\.debug_abbrev|btf|table) \d+: "
+    rb"error \d+( -?\d+){0,2}\n"
+    rb"|pahole: no type [a-z0-9]+\n"
 )
 # the words for a damaged ELF file, for a damaged BTF file, and for a table over a base, whatever of
 # the two is damaged
@@ -38,6 +42,8 @@ OF_BTF = [
 OVER_BASE = [words + ["--btf_base=B"] for words in OF_BTF]
 
 Input = collections.namedtuple("Input", "whole ranges")
+# how many of what makes a hostile file, and which part of all runs has such a file
+FEW, PART = 30, 0.25
 
 
 def debug_ranges(elf):
@@ -49,22 +55,61 @@ def debug_ranges(elf):
     ]
 
 
-def damaged(file, dice):
-    """A copy of the file, cut off or with 1 to 8 bytes changed."""
-    whole = file.whole
-    if dice.random() < 0.1:
-        return whole[: dice.randrange(len(whole))]
-    copy = bytearray(whole)
-    inside = file.ranges and dice.random() < 0.5
+def change_bytes(copy, place, dice):
+    """1 to 8 bytes are others."""
     for _ in range(dice.randint(1, 8)):
-        begin, end = dice.choice(file.ranges) if inside else (0, len(copy))
-        copy[dice.randrange(begin, end)] = dice.randrange(256)
+        copy[place()] = dice.randrange(256)
+
+
+def set_limit(copy, place, dice):
+    """A number of 1 to 8 bytes is the least or the greatest, or one beside it."""
+    size = dice.choice([1, 2, 4, 8])
+    number = dice.choice([0, 1, 1 << 8 * size - 1]) - dice.randint(0, 1)
+    at, order = place(), dice.choice(["little", "big"])
+    copy[at : at + size] = (number % (1 << 8 * size)).to_bytes(size, order)[: len(copy) - at]
+
+
+def move(copy, place, dice):
+    """Up to 64 bytes are those of another place."""
+    start, end, size = place(), place(), dice.randint(1, 64)
+    size = min(size, len(copy) - max(start, end))
+    copy[end : end + size] = copy[start : start + size]
+
+
+def leave_out(copy, place, dice):
+    """Up to 64 bytes are left out, so that all behind them stands elsewhere."""
+    at = place()
+    del copy[at : at + dice.randint(1, 64)]
+
+
+def put_in(copy, place, dice):
+    """Up to 64 bytes of 0 or 255 are put in."""
+    at = place()
+    copy[at:at] = bytes([dice.choice([0, 255])]) * dice.randint(1, 64)
+
+
+def cut_off(copy, place, dice):
+    del copy[dice.randrange(len(copy)) :]
+
+
+HARMS = [change_bytes] * 5 + [set_limit, set_limit, move, leave_out, put_in, cut_off]
+
+
+def damaged(file, dice):
+    """A copy of the file that took one kind of harm; half of the harm is to debugging
+    information."""
+    copy, inside = bytearray(file.whole), file.ranges and dice.random() < 0.5
+
+    def place():
+        return dice.randrange(*(dice.choice(file.ranges) if inside else (0, len(copy))))
+
+    dice.choice(HARMS)(copy, place, dice)
     return bytes(copy)
 
 
 def wrong(status, complaint, printed, stored):
     """What is wrong with a run's end, or nothing."""
-    if status not in range(6):
+    if status not in STATUSES:
         return f"status {status}"
     if (stored or printed) and status != 0:
         return f"something is stored or printed on status {status}"
@@ -85,18 +130,31 @@ def write(path, data):
         file.write(data)
 
 
+def over(words, files):
+    """The words of each run, with the files behind its options."""
+    return [[*options, *files] for options in words]
+
+
 def plans(folder):
-    """What is run in turn: the file that is damaged, the name under which it is read, the other
-    files, and the lists of words."""
+    """What is run: the file that is damaged, the name under which it is read, the other files, and
+    the lists of words."""
     base, split = (Input(read(f"{folder}/btf.{name}"), []) for name in ("base", "split"))
+    of_elf = [*over(OF_ELF, ["a"]), *over(OF_ELF[:3], ["a", "c"]), *over(OF_ELF[:3], ["c", "a"])]
     for path in sorted(glob.glob(f"{folder}/elf.*")):
         elf = read(path)
-        yield Input(elf, debug_ranges(elf)), "a", {"B": base.whole}, OF_ELF
+        yield Input(elf, debug_ranges(elf)), "a", {"B": base.whole, "c": elf}, of_elf
     elf = read(f"{folder}/elf.1")
-    yield base, "a", {}, OF_BTF
-    yield split, "a", {"B": base.whole}, OVER_BASE
-    yield base, "B", {"a": split.whole}, OVER_BASE
-    yield base, "B", {"a": elf}, [words for words in OF_ELF if "--btf_base=B" in words]
+    yield base, "a", {}, over(OF_BTF, ["a"])
+    yield split, "a", {"B": base.whole}, over(OVER_BASE, ["a"])
+    yield base, "B", {"a": split.whole}, over(OVER_BASE, ["a"])
+    yield base, "B", {"a": elf}, over([one for one in OF_ELF if "--btf_base=B" in one], ["a"])
+
+
+def plans_of_made():
+    """The same of files of the kinds that are made to be hostile."""
+    for kind in hostile.KINDS:
+        words, others = kind.words(FEW), {hostile.SMALL: hostile.SMALL_FILE}
+        yield Input(kind.file(FEW), []), "a", others, [words, ["-j3", *words]]
 
 
 def run(program, folder, words):
@@ -105,9 +163,7 @@ def run(program, folder, words):
     if os.path.exists(out):
         os.remove(out)
     try:
-        ended = subprocess.run(
-            [program, *words, "a"], cwd=folder, capture_output=True, timeout=SECONDS
-        )
+        ended = subprocess.run([program, *words], cwd=folder, capture_output=True, timeout=SECONDS)
     except subprocess.TimeoutExpired:
         return None, f"no end within {SECONDS} seconds"
     is_stored = os.path.exists(out)
@@ -118,13 +174,13 @@ def main():
     program, folder = os.path.abspath(sys.argv[1]), sys.argv[2]
     runs = int(sys.argv[3]) if len(sys.argv) > 3 else RUNS
     dice = random.Random(20261127)
-    ends, bad, told = collections.Counter(), 0, list(plans(folder))
+    ends, bad, real, made = collections.Counter(), 0, list(plans(folder)), list(plans_of_made())
     for number in range(runs):
-        file, name, others, lists = told[number % len(told)]
+        file, name, others, lists = dice.choice(made if dice.random() < PART else real)
         write(f"{folder}/{name}", damaged(file, dice))
         for other, data in others.items():
             write(f"{folder}/{other}", data)
-        words = lists[number // len(told) % len(lists)]
+        words = dice.choice(lists)
         status, fault = run(program, folder, words)
         ends[status] += 1
         if fault:
@@ -132,7 +188,7 @@ def main():
             bad += 1
     if not bad:
         counts = ", ".join(f"{ends[status]} with status {status}" for status in sorted(ends))
-        print(f"passed damage: {runs} damaged copies of {len(told)} files, {counts}")
+        print(f"passed damage: {runs} damaged copies of {len(real) + len(made)} files, {counts}")
     return bad != 0
 
 

@@ -1,9 +1,9 @@
 """Small files that could make the program's work grow faster than its input, by kinds: each kind
 makes one of any size. The files are ELF files of 64 bits with units of DWARF 5, and files of
 BTF."""
+import itertools
 import struct
 import typing
-from itertools import accumulate
 
 from dwarf import DECLARATION, FIRST, INT, INT_ENTRY, NAME, NAME_ELSEWHERE, PLACE, ROOT, SIZE, TYPE
 from dwarf import WIDE_SIZE, At, Form, Tag, abbreviation, leb, unit
@@ -87,7 +87,7 @@ def units_at_places_of_one_table(n):
     """Each unit names another place of one table of abbreviations, which it has from there to
     its end."""
     rows = [abbreviation(2 + i, Tag.LEXICAL_BLOCK, 0) for i in range(n)]
-    places = accumulate(map(len, rows[:-1]), initial=0)
+    places = itertools.accumulate(map(len, rows[:-1]), initial=0)
     return file(b"".join(rows) + ROOT, *[unit(b"", place) for place in places])
 
 
@@ -286,9 +286,10 @@ def functions_named_by_ends_of_one_text(n):
     )
 
 
-# 8 bytes at a name's end with which the hasher that the library's maps have by default, which
-# multiplies by this number, forgets all before
-FORGETS = struct.pack("<Q", 0x9E3779B97F4A7C15)
+# the first state of the hasher that the library's maps have by default, and what it multiplies by
+STATE, MULTIPLIER = 0x243F6A8885A308D3, 0x9E3779B97F4A7C15
+# 8 bytes at a name's end with which this hasher forgets all before
+FORGETS = struct.pack("<Q", MULTIPLIER)
 
 
 def colliding(i):
@@ -304,6 +305,60 @@ def structures_of_one_hash(n):
 def functions_of_one_hash(n):
     table = ROOT + abbreviation(2, Tag.SUBPROGRAM, 0, NAME)
     return file(table, unit(b"".join(b"\2" + colliding(i) + b"\0" for i in range(n))))
+
+
+# what the mixing of signatures multiplies by, and so many base types, each with its place as its
+# number; the prototypes behind them have the next one
+FACTOR, BASES, WORD = 5_871_781_006_564_002_453, 256, (1 << 64) - 1
+
+
+def folded(one, other):
+    """A step of the default hasher."""
+    product = one * other
+    return product & WORD ^ product >> 64
+
+
+def chosen(n, state):
+    """The parameters, base types, of n prototypes whose mixed numbers, hashed from this state on,
+    all begin in a sixteenth of the groups of a table of so many."""
+    groups = 1
+    while 9 * groups <= n:
+        groups *= 2
+    found, few = [], max(groups // 16, 1)
+    # the function's own number, and that of its result, which is void
+    start = BASES * FACTOR + 1
+    for first, second in itertools.product(range(BASES), repeat=2):
+        mixed = ((start * FACTOR + first) * FACTOR + second) * FACTOR
+        for third in range(BASES):
+            told = folded(state ^ mixed + third & WORD, MULTIPLIER ^ 16)
+            if (told ^ told >> 32) % groups < few:
+                found.append((first, second, third))
+        if len(found) >= n:
+            break
+    return found[:n]
+
+
+def prototypes_from(n, state):
+    table = (
+        ROOT
+        + INT
+        + abbreviation(3, Tag.SUBROUTINE_TYPE, 1)
+        + abbreviation(4, Tag.FORMAL_PARAMETER, 0, TYPE)
+    )
+    bases = [b"\2%03d\0" % i + INT_ENTRY[-2:] for i in range(BASES)]
+    shown = [struct.pack("<BI", 4, FIRST + i * len(bases[0])) for i in range(BASES)]
+    body = [b"\3%b%b%b\0" % tuple(shown[i] for i in each) for each in chosen(n, state)]
+    return file(table, unit(b"".join(bases + body)))
+
+
+def prototypes_of_chosen_hashes(n):
+    """Prototypes whose mixed numbers collide in a set of these."""
+    return prototypes_from(n, STATE)
+
+
+def prototypes_of_chosen_pairs(n):
+    """Prototypes whose mixed numbers collide in a map of these beside the numbers of labels."""
+    return prototypes_from(n, folded(STATE ^ (BASES | BASES << 32), MULTIPLIER ^ 8))
 
 
 def structures_of_one_long_name(n):
@@ -504,6 +559,20 @@ KINDS = [
         "structures of one long name",
         structures_of_one_long_name,
         2_500,
+        has_larger=False,
+        is_square=True,
+    ),
+    Kind(
+        "prototypes of chosen hashes",
+        prototypes_of_chosen_hashes,
+        16_384,
+        has_larger=False,
+        is_square=True,
+    ),
+    Kind(
+        "prototypes of chosen pairs of numbers",
+        prototypes_of_chosen_pairs,
+        16_384,
         has_larger=False,
         is_square=True,
     ),

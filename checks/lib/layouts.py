@@ -1,7 +1,7 @@
 """layouts.py PROGRAM DEMO FOLDER: prints the layouts of programs that the compiler builds in
 FOLDER, and compares them with what the compiler says. A type is a dict: `c`, how C names it;
 `name`, how it is printed; `members`, in order, each its name (None where it has none) and
-whether it is a bit field."""
+whether it is a bit field; `wide`, the names of bit fields that are as wide as their type."""
 import os
 import random
 import re
@@ -84,7 +84,13 @@ def named(c, members):
         "c": c,
         "name": c.split()[-1],
         "members": [(m and m.rstrip(":"), bool(m) and m.endswith(":")) for m in members],
+        "wide": set(),
     }
+
+
+WIDE = re.compile(
+    "|".join(rf"\b{base} (\w+) : {bits};" for base, bits in FIELDS.items() if bits > 1)
+)
 
 
 def made_member(dice, place, flat):
@@ -128,7 +134,8 @@ def made_types(dice):
             lines += [f"{word} {tag} {{", *rows, f"}} {attribute};"]
             c = f"{word} {tag}"
         lines.append(f"{c} kept{number};")
-        types.append({"c": c, "name": tag, "members": members})
+        wide = {"".join(names) for row in rows for names in WIDE.findall(row)}
+        types.append({"c": c, "name": tag, "members": members, "wide": wide})
         if not any("made" in row for row in rows):
             flat.append(c)
     return "\n".join(lines) + "\nint main(void) { return 0; }\n", types
@@ -325,4 +332,5 @@ def main():
     print(f"{verdict} layouts behind a bit field: {why}")
 
 
-main()
+if __name__ == "__main__":
+    main()

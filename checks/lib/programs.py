@@ -279,27 +279,6 @@ def without_offsets(program, demo):
     return is_refused(program, ("a",), r"pahole: a: \.debug_info \d+: error 43 \d+\n")
 
 
-def packed_bit_fields(program):
-    """A packed bit field that does not fit its storage: clang 14 and 15 give it the bit_offset -1
-    as 8 bytes of ones. It begins at bit 3 all the same."""
-    with open("packed.c", "w") as file:
-        file.write(
-            "struct __attribute__((packed)) packed { unsigned a : 3, b : 30; } one;\n"
-            "struct packet { unsigned char kind : 3, last : 1; } other;\n"
-        )
-    for version in ("-gdwarf-4", "-gdwarf-5"):
-        if run(["clang", version, "-c", "-o", "a", "packed.c"]).returncode:
-            return "skipped", "clang can't build it"
-        status, complaint, stored = encoded(program, "-j1")
-        if status != 0:
-            return "failed", f"{version}: status {status}, {complaint!r}"
-        found = structures(stored)
-        places = [found["packed"][1]["b"], found["packet"][1]["last"]]
-        if [(place.bit, place.bits) for place in places] != [(3, 30), (3, 1)]:
-            return "failed", f"{version}: the bit fields are {places}"
-    return "passed", "at bit 3 by DWARF 4 and 5"
-
-
 def supplementary(program, demo):
     """A file whose types refer to a supplementary file."""
     with open("more.c", "w") as file:
@@ -511,7 +490,6 @@ def main():
     say("without strings", without_strings(program, demo))
     say("without places of strings", without_offsets(program, demo))
     say("with a supplementary file", supplementary(program, demo))
-    say("with packed bit fields of clang", packed_bit_fields(program))
 
 
 main()
