@@ -1,6 +1,6 @@
 -- The nodes of the graph are well formed, and its declarations fit: the types of units are formed,
 -- and linking keeps labels and the number of targets.
-use Rattle.std.proofs.Common.{◌≡◌, ℕ, suc, ◌+◌, ◌<◌, nat_lt, Bool, true, false, List, [], ◌∷◌, ◌++◌}
+use Rattle.std.proofs.Common.{◌≡◌, ◌≢◌, ℕ, suc, ◌+◌, ◌<◌, nat_lt, Bool, true, false, List, [], ◌∷◌, ◌++◌}
 use Rattle.std.proofs.Common.{length, Option, None, Some, Result, Ok, Err, if◌then◌else◌, refl, sym}
 use Rattle.std.proofs.Common.{ap, subst, ◌∙◌, arith}
 use Rattle.std.specs.Prelude.{All, slice_get}
@@ -11,6 +11,7 @@ use Rattle.std.proofs.lemmas.List.Elements.{All-nil, All-cons, All-head, All-tai
 use Rattle.std.proofs.lemmas.List.Elements.{All-push, All-map, All-weaker}
 use Rattle.c_model.specs.declared.label.Label.{Label}
 use Rattle.c_model.specs.declared.graph.CType.{CType}
+use Rattle.c_model.specs.declared.kinds.TheConstants.{BTF_KIND_FUNC}
 use Rattle.c_model.specs.declared.graph.Ref.{Ref}
 use Rattle.c_model.specs.Graph.{Shape}
 use Rattle.c_model.specs.Kinds.{IsWellFormed}
@@ -31,11 +32,13 @@ use Rattle.unit_graph.specs.Sources.{source_of, made_sources, index_sources, sou
 use Rattle.unit_graph.specs.Sources.{gathered}
 use Rattle.unit_graph.specs.Links.{ref_of, with_ref, refs_from, with_refs, nodes_from}
 
--- a node is well formed, and where it declares a tag, it is that declaration and refers to nothing
+-- a node is well formed and no FUNC, and where it declares a tag, it is that declaration and refers
+-- to nothing
 pub record IsFine (t : CType) : Type 0 where
   pub well : IsWellFormed t
   pub declares : (tag : Tag) → declared_tag t.label ≡ Some tag
       → (t.label ≡ declaration_label tag) × (t.targets ≡ [])
+  pub no_func : t.label.kind ≢ BTF_KIND_FUNC
 
 -- one before it is linked
 abbrev IsFormedSource : Source → Type 0
@@ -68,6 +71,7 @@ node_fine s rs f count =
       well = f.well rs count;
       declares = λ (tag : Tag) (h : declared_tag s.label ≡ Some tag). let d = f.declares tag h in
           (d.0, nil_from_length rs (count ∙ d.1));
+      no_func = f.no_func;
     }
 
 one_node : (s : Source) (seen ns : List CType) (x : Result (List Ref) Out) (go : List CType

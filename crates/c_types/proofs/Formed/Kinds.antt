@@ -4,7 +4,8 @@ use Rattle.std.proofs.Common.{false, List, [], length, None, Some, if◌then◌e
 use Rattle.std.proofs.Common.{ap, ◌∙◌, arith}
 use Rattle.std.proofs.lemmas.Option.{none-some, same_Some}
 use Rattle.std.proofs.lemmas.List.Elements.{All-nil}
-use Rattle.c_model.specs.declared.kinds.TheConstants.{BTF_KIND_STRUCT, BTF_KIND_UNION}
+use Rattle.c_model.specs.declared.kinds.TheConstants.{BTF_KIND_FUNC, BTF_KIND_STRUCT}
+use Rattle.c_model.specs.declared.kinds.TheConstants.{BTF_KIND_UNION}
 use Rattle.c_model.specs.declared.label.Label.{Label}
 use Rattle.c_model.specs.declared.label.Part.{Part}
 use Rattle.c_model.specs.declared.label.Family.TheVariants.{Structure, Union, Enumeration}
@@ -31,9 +32,9 @@ record Fits (row : Row) (label : Label) (count : ℕ) : Type 0 where
   pub parts : FitsParts row.parts label.parts
 
 fitting : (row : Row) (label : Label) (targets : ℕ) → row_of label.kind ≡ Some row
-    → Fits row label targets → ((tag : Tag) → declared_tag label ≡ Some tag
+    → row.extra ≢ 3 → Fits row label targets → ((tag : Tag) → declared_tag label ≡ Some tag
     → (label ≡ declaration_label tag) × (targets ≡ 0)) → IsFormed label targets
-fitting row label targets is f declares =
+fitting row label targets is other f declares =
     record {
       well = λ (refs : List Ref) (l : length refs ≡ targets). record {
         row = row;
@@ -47,6 +48,8 @@ fitting row label targets is f declares =
         parts = f.parts;
       };
       declares = declares;
+      no_func = λ (e : label.kind ≡ BTF_KIND_FUNC). other (ap (λ (r : Row). r.extra)
+          (same_Some row (linked_row 3 false) (sym is ∙ ap row_of e)));
     }
 
 pub no_name : HasNoNul []
@@ -66,7 +69,7 @@ int_formed name size extra clean s x =
       size = size;
       extra = extra;
       parts = [];
-    }) 0 refl
+    }) 0 refl (λ e. omega (arith, e))
     (record {
       name = clean;
       flag = λ t. unset t;
@@ -88,7 +91,7 @@ int_formed name size extra clean s x =
 pub float_formed : (name : List ℕ) (size : ℕ) → HasNoNul name → size < 2 ^ 32
     → IsFormed (plain_label 16 name size) 0
 float_formed name size clean s =
-    fitting (plain_row word 1 false) (plain_label 16 name size) 0 refl
+    fitting (plain_row word 1 false) (plain_label 16 name size) 0 refl (λ e. omega (arith, e))
     (record {
       name = clean;
       flag = λ t. unset t;
@@ -104,7 +107,7 @@ float_formed name size clean s =
 pub opaque_formed : (name : List ℕ) (size : ℕ) → HasNoNul name → size < 2 ^ 32
     → IsFormed (plain_label 4 name size) 0
 opaque_formed name size clean s =
-    fitting (sized_row true members) (plain_label 4 name size) 0 refl
+    fitting (sized_row true members) (plain_label 4 name size) 0 refl (λ e. omega (arith, e))
     (record {
       name = clean;
       flag = λ t. unset t;
@@ -122,7 +125,7 @@ pub linked_formed : (kind : ℕ) (name : List ℕ) (flag : Bool) → row_of kind
     (linked_row 1 flag) → ((tag : Tag) → declared_tag (plain_label kind name 0) ≡ Some tag → ⊥)
     → HasNoNul name → IsFormed (plain_label kind name 0) 1
 linked_formed kind name flag is none clean =
-    fitting (linked_row 1 flag) (plain_label kind name 0) 1 is
+    fitting (linked_row 1 flag) (plain_label kind name 0) 1 is (λ e. omega (arith, e))
     (record {
       name = clean;
       flag = λ t. unset t;
@@ -137,7 +140,7 @@ linked_formed kind name flag is none clean =
 pub array_formed : (elements : ℕ) → elements < 2 ^ 32 → IsFormed (array_label elements) 2
 array_formed elements x =
     fitting (record { size = 1; extra = word; flag = false; targets = 2; parts = None })
-    (array_label elements) 2 refl
+    (array_label elements) 2 refl (λ e. omega (arith, e))
     (record {
       name = no_name;
       flag = λ t. unset t;
@@ -153,7 +156,7 @@ pub function_formed : (parts : List Part) (targets : ℕ) → targets ≡ 1 + le
     → length parts ≤ 65535 → FitsParts parameters parts → IsFormed (function_label parts) targets
 function_formed parts targets count few fit =
     fitting (record { size = 1; extra = 1; flag = false; targets = 1; parts = parameters })
-    (function_label parts) targets refl
+    (function_label parts) targets refl (λ e. omega (arith, e))
     (record {
       name = no_name;
       flag = λ t. unset t;
@@ -181,7 +184,7 @@ pub structure_formed : (union : Bool) (name : List ℕ) (size : ℕ) (fields : B
     → FitsParts members parts → IsFormed (structure_label union name size fields parts) targets
 structure_formed union name size fields parts targets clean s count few fit =
     fitting (sized_row true members) (structure_label union name size fields parts) targets
-    (structure_row union)
+    (structure_row union) (λ e. omega (arith, e))
     (record {
       name = clean;
       flag = λ t. refl;
@@ -202,7 +205,7 @@ declares_forward false name tag e = ap declaration_label (same_Some (Structure, 
 pub forward_formed : (union : Bool) (name : List ℕ) → HasNoNul name
     → IsFormed (forward_label union name) 0
 forward_formed union name clean =
-    fitting (plain_row 1 1 true) (forward_label union name) 0 refl
+    fitting (plain_row 1 1 true) (forward_label union name) 0 refl (λ e. omega (arith, e))
     (record {
       name = clean;
       flag = λ t. refl;
@@ -225,6 +228,7 @@ pub bare_formed : (name : List ℕ) → HasNoNul name
     → IsFormed (enumeration_label false name false 4 []) 0
 bare_formed name clean =
     fitting (sized_row true (enumerators word)) (enumeration_label false name false 4 []) 0 refl
+    (λ e. omega (arith, e))
     (record {
       name = clean;
       flag = λ t. refl;
@@ -247,7 +251,7 @@ pub enumeration_formed : (wide : Bool) (name : List ℕ) (signed : Bool) (size :
     → IsFormed (enumeration_label wide name signed size parts) 0
 enumeration_formed true name signed size parts clean s few fit named =
     fitting (sized_row true (enumerators (2 ^ 64)))
-    (enumeration_label true name signed size parts) 0 refl
+    (enumeration_label true name signed size parts) 0 refl (λ e. omega (arith, e))
     (record {
       name = clean;
       flag = λ t. refl;
@@ -261,7 +265,7 @@ enumeration_formed true name signed size parts clean s few fit named =
     absurd (none-some tag e))
 enumeration_formed false name signed size parts clean s few fit named =
     fitting (sized_row true (enumerators word))
-    (enumeration_label false name signed size parts) 0 refl
+    (enumeration_label false name signed size parts) 0 refl (λ e. omega (arith, e))
     (record {
       name = clean;
       flag = λ t. refl;
