@@ -181,13 +181,22 @@ fn storage_offset(member: &Entry<'_, '_>, least: &mut Option<TypeFault>) -> Opti
     }
 }
 
+/// A number of bytes in bits.
+fn bits_of_bytes(bytes: Number) -> i128
+    ensures value { result ≡ bits_of_bytes bytes }
+    ensures low { neg_ℤ (pos (2 ^ 67)) ≤ℤ result }
+    ensures high { result <ℤ pos (2 ^ 67) }
+{
+    8 * to_integer(bytes)
+}
+
 /// The first bit of a bit field in a big-endian file: the bits count from the first bit of the
 /// storage.
 fn first_in_big(location: Option<Number>, offset: Option<Number>) -> Option<i128>
     ensures { result ≡ first_bit_big location offset }
 {
     match (location, offset) {
-        (Some(location), Some(offset)) => Some(8 * to_integer(location) + to_integer(offset)),
+        (Some(location), Some(offset)) => Some(bits_of_bytes(location) + to_integer(offset)),
         _ => None,
     }
 }
@@ -198,7 +207,7 @@ fn storage_end(location: Number, storage: Number) -> i128
     ensures low { neg_ℤ (pos (2 ^ 68)) ≤ℤ result }
     ensures high { result <ℤ pos (2 ^ 68) }
 {
-    8 * to_integer(location) + 8 * to_integer(storage)
+    bits_of_bytes(location) + bits_of_bytes(storage)
 }
 
 /// The first bit of a bit field in a little-endian file: the bits count back from the last bit of
