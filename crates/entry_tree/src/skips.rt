@@ -112,17 +112,20 @@ fn place_behind_runs(
 
 /// The place after the values of the first `count` pairs, where not all of them have a fixed width
 /// or one can't be read. It is refused as the values are, one after the other.
+///
+/// The abbreviation comes by value: its address would keep it in memory at each caller, too, which
+/// mostly needs it in registers alone.
 #[inline(never)]
 pub(crate) fn place_behind_mixed(
     ctx: &FormCtx<'_>,
-    abbreviation: &Abbrev<'_>,
+    abbreviation: Abbrev<'_>,
     count: usize,
     from: InfoOffset,
 ) -> Result<InfoOffset, FormFault>
-    requires { count ≤ length abbreviation.now.specs.now }
-    ensures { result ≡ ends_at (within ctx.now) (take count abbreviation.now.specs.now) from }
+    requires { count ≤ length abbreviation.specs.now }
+    ensures { result ≡ ends_at (within ctx.now) (take count abbreviation.entry.specs.now) from }
 {
-    match place_behind_runs(ctx, abbreviation, count, from) {
+    match place_behind_runs(ctx, &abbreviation, count, from) {
         Some(end) => Ok(end),
         // value by value, for the fault of the first that can't be read
         None => skip_all(ctx, &abbreviation.specs[..count], from),
@@ -161,6 +164,6 @@ pub(crate) fn skip_values(
     let count = abbreviation.specs.len();
     match place_behind_fixed(ctx, abbreviation, count, at) {
         Some(end) => Ok(end),
-        None => place_behind_mixed(ctx, abbreviation, count, at),
+        None => place_behind_mixed(ctx, *abbreviation, count, at),
     }
 }
