@@ -112,17 +112,20 @@ fn place_behind_runs(
 
 /// The place after the values of the first `count` pairs, where not all of them have a fixed width
 /// or one can't be read. It is refused as the values are, one after the other.
+///
+/// The abbreviation comes by value: its address would keep it in memory at each caller, too, which
+/// mostly needs it in registers alone.
 #[inline(never)]
-fn place_behind_mixed(
+pub(crate) fn place_behind_mixed(
     ctx: &FormCtx<'_>,
-    abbreviation: &Abbrev<'_>,
+    abbreviation: Abbrev<'_>,
     count: usize,
     from: InfoOffset,
 ) -> Result<InfoOffset, FormFault>
-    requires { count ≤ length abbreviation.now.specs.now }
-    ensures { result ≡ ends_at (within ctx.now) (take count abbreviation.now.specs.now) from }
+    requires { count ≤ length abbreviation.specs.now }
+    ensures { result ≡ ends_at (within ctx.now) (take count abbreviation.entry.specs.now) from }
 {
-    match place_behind_runs(ctx, abbreviation, count, from) {
+    match place_behind_runs(ctx, &abbreviation, count, from) {
         Some(end) => Ok(end),
         // value by value, for the fault of the first that can't be read
         None => skip_all(ctx, &abbreviation.specs[..count], from),
@@ -132,7 +135,7 @@ fn place_behind_mixed(
 /// The place after the values of the first `count` pairs, where all of them have a fixed width and
 /// lie in the unit.
 #[inline(always)]
-fn place_behind_fixed(
+pub(crate) fn place_behind_fixed(
     ctx: &FormCtx<'_>,
     abbreviation: &Abbrev<'_>,
     count: usize,
@@ -149,24 +152,6 @@ fn place_behind_fixed(
     }
 }
 
-/// The place after the values of the first `count` pairs, by one addition where all of them have a
-/// fixed width. It is refused as the values are, one after the other.
-#[inline(always)]
-pub(crate) fn place_behind(
-    ctx: &FormCtx<'_>,
-    abbreviation: &Abbrev<'_>,
-    count: usize,
-    from: InfoOffset,
-) -> Result<InfoOffset, FormFault>
-    requires { count ≤ length abbreviation.now.specs.now }
-    ensures { result ≡ ends_at (within ctx.now) (take count abbreviation.now.specs.now) from }
-{
-    match place_behind_fixed(ctx, abbreviation, count, from) {
-        Some(end) => Ok(end),
-        None => place_behind_mixed(ctx, abbreviation, count, from),
-    }
-}
-
 /// The place after the values of all pairs. It is refused as the values are, one after the other.
 #[inline(always)]
 pub(crate) fn skip_values(
@@ -176,5 +161,9 @@ pub(crate) fn skip_values(
 ) -> Result<InfoOffset, FormFault>
     ensures { result ≡ ends_at (within ctx.now) abbreviation.now.specs.now at }
 {
-    place_behind(ctx, abbreviation, abbreviation.specs.len(), at)
+    let count = abbreviation.specs.len();
+    match place_behind_fixed(ctx, abbreviation, count, at) {
+        Some(end) => Ok(end),
+        None => place_behind_mixed(ctx, *abbreviation, count, at),
+    }
 }

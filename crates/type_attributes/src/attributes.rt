@@ -14,13 +14,13 @@ use crate::fault::{TypeFault, note};
 use crate::number::{Number, by_sign};
 use crate::source::Target;
 use dw_base::Name;
-use dwarf_abbrev::constants::{DW_AT_name, DW_AT_type};
+use dwarf_abbrev::constants::{DW_AT_name, DW_AT_type, DwAt};
 use dwarf_forms::{FormCtx, Given, flag_of};
 use entry_tree::Entry;
 
 /// The value of an attribute, of several of one name the first. It works as `Entry::attr`.
 #[inline(always)]
-pub fn attribute<'a>(entry: &Entry<'_, 'a>, name: u64) -> Option<Given<'a>>
+pub fn attribute<'a>(entry: &Entry<'_, 'a>, name: DwAt) -> Option<Given<'a>>
     ensures { option_map shown result ≡ value_with name entry.now.values }
 {
     match entry.attr(name) {
@@ -32,14 +32,14 @@ pub fn attribute<'a>(entry: &Entry<'_, 'a>, name: u64) -> Option<Given<'a>>
 /// Whether an entry has an attribute. Its abbreviation tells, so no value is read. It works as
 /// `Entry::has`.
 #[inline(always)]
-pub fn is_given(entry: &Entry<'_, '_>, name: u64) -> bool
+pub fn is_given(entry: &Entry<'_, '_>, name: DwAt) -> bool
     ensures { result ≡ has name entry.now }
 {
     entry.has(name)
 }
 
 /// The value of a constant that the entry has.
-fn read_constant(entry: &Entry<'_, '_>, name: u64, least: &mut Option<TypeFault>) -> Option<i128>
+fn read_constant(entry: &Entry<'_, '_>, name: DwAt, least: &mut Option<TypeFault>) -> Option<i128>
     ensures value { result ≡ (constant_attr name entry.now).value }
     ensures small { IfSome result Fits64 }
     ensures noted { NotesConstant name entry.now least.old least.new }
@@ -57,7 +57,7 @@ fn read_constant(entry: &Entry<'_, '_>, name: u64, least: &mut Option<TypeFault>
 /// The value of a constant, none where the entry has none. One of another class is noted. It works
 /// as `Entry::attr`.
 #[inline(always)]
-pub fn constant(entry: &Entry<'_, '_>, name: u64, least: &mut Option<TypeFault>) -> Option<i128>
+pub fn constant(entry: &Entry<'_, '_>, name: DwAt, least: &mut Option<TypeFault>) -> Option<i128>
     ensures value { result ≡ (constant_attr name entry.now).value }
     ensures small { IfSome result Fits64 }
     ensures noted { NotesConstant name entry.now least.old least.new }
@@ -70,7 +70,7 @@ pub fn constant(entry: &Entry<'_, '_>, name: u64, least: &mut Option<TypeFault>)
 }
 
 /// Whether a flag that is given is true.
-fn read_flag(entry: &Entry<'_, '_>, name: u64, least: &mut Option<TypeFault>) -> bool
+fn read_flag(entry: &Entry<'_, '_>, name: DwAt, least: &mut Option<TypeFault>) -> bool
     ensures value { result ≡ is_set (flag_attr name entry.now) }
     ensures noted { least.new ≡ noted least.old (flag_attr name entry.now).refused }
 {
@@ -89,7 +89,7 @@ fn read_flag(entry: &Entry<'_, '_>, name: u64, least: &mut Option<TypeFault>) ->
 /// Whether an entry has a flag that is true. One of another class is noted. It works as
 /// `Entry::attr`.
 #[inline(always)]
-pub fn flag(entry: &Entry<'_, '_>, name: u64, least: &mut Option<TypeFault>) -> bool
+pub fn flag(entry: &Entry<'_, '_>, name: DwAt, least: &mut Option<TypeFault>) -> bool
     ensures value { result ≡ is_set (flag_attr name entry.now) }
     ensures noted { least.new ≡ noted least.old (flag_attr name entry.now).refused }
 {
@@ -107,7 +107,7 @@ pub fn flag(entry: &Entry<'_, '_>, name: u64, least: &mut Option<TypeFault>) -> 
 pub fn text<'a>(
     ctx: &FormCtx<'a>,
     entry: &Entry<'_, 'a>,
-    name: u64,
+    name: DwAt,
     least: &mut Option<TypeFault>,
 ) -> Name<'a>
     ensures value { result ≡ name_in_full (text_attr name (sections ctx.now) entry.now) }
@@ -175,7 +175,7 @@ pub fn type_offset(ctx: &FormCtx<'_>, entry: &Entry<'_, '_>) -> Option<u128>
 #[inline(always)]
 pub fn offset(
     entry: &Entry<'_, '_>,
-    name: u64,
+    name: DwAt,
     least: &mut Option<TypeFault>,
 ) -> Option<Option<i128>>
     ensures value { result ≡ (offset_attr name entry.now).value }
@@ -195,7 +195,7 @@ pub fn offset(
 /// The value of a constant, by its sign. It works as `constant`.
 pub fn signed_constant(
     entry: &Entry<'_, '_>,
-    name: u64,
+    name: DwAt,
     least: &mut Option<TypeFault>,
 ) -> Option<Number>
     ensures value { result ≡ number_value (constant_attr name entry.now) }

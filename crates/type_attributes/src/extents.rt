@@ -10,9 +10,10 @@ ghost use Rattle.type_attributes.specs.declared.extents.ExtentRow.{ExtentRow};
 
 use crate::attributes::{is_given, signed_constant, type_offset};
 use crate::number::Number;
+use dw_base::InfoOffset;
 use dwarf_abbrev::constants::{
     DW_AT_byte_size, DW_TAG_atomic_type, DW_TAG_const_type, DW_TAG_restrict_type, DW_TAG_typedef,
-    DW_TAG_volatile_type,
+    DW_TAG_volatile_type, DwTag,
 };
 use dwarf_forms::FormCtx;
 use entry_tree::{Entry, Walk};
@@ -35,7 +36,7 @@ pub enum Extent {
 /// What the entry at an offset of `.debug_info` says.
 #[derive(Clone, Copy)]
 pub struct ExtentRow {
-    pub at: u64,
+    pub at: InfoOffset,
     pub extent: Extent,
 }
 
@@ -46,7 +47,7 @@ pub struct Extents {
 }
 
 /// Whether the types of a tag have the size of the type that they name.
-fn is_followed(tag: u64) -> bool
+fn is_followed(tag: DwTag) -> bool
     ensures { result ≡ stands_for_another tag }
 {
     tag == DW_TAG_typedef
@@ -78,7 +79,7 @@ fn read_extent(form: &FormCtx<'_>, entry: &Entry<'_, '_>) -> Extent
 }
 
 /// One row more, where an entry says something.
-fn push_row(rows: &mut Vec<ExtentRow>, at: u64, extent: Extent) -> Result<(), AllocError>
+fn push_row(rows: &mut Vec<ExtentRow>, at: InfoOffset, extent: Extent) -> Result<(), AllocError>
     ensures { OnOk result (rows.new.items ≡ rows.old.items ++ row_if at extent) }
 {
     match extent {

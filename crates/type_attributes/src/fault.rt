@@ -3,68 +3,98 @@ ghost use Rattle.std.specs.Prelude.{◌≡◌, [], ◌∷◌};
 ghost use Rattle.type_attributes.specs.Faults.{rank_from, rank_of, form_rank, is_before, noted};
 ghost use Rattle.type_attributes.specs.Faults.{refuse_if, joined};
 
-use dw_base::fault_numbers as numbers;
+use dw_base::{InfoOffset, fault_numbers as numbers};
 use dwarf_abbrev::AbbrevFault;
 use dwarf_forms::FormFault;
 use entry_tree::WalkFault;
 use std::alloc::{AllocError, AllocFailed};
-use thiserror::Error;
+use std::error::Error;
+use std::fmt;
 
 /// Why the types of a unit are refused. The first number is the offset in `.debug_info` of the
 /// entry.
-#[derive(Clone, Copy, Debug, PartialEq, Eq, Error)]
+#[derive(Clone, Copy, Debug, PartialEq, Eq)]
 pub enum TypeFault {
     /// The unit's abbreviations can't be read.
-    #[error("{0}")]
     Abbrev(AbbrevFault),
     /// The unit's entries can't be read.
-    #[error("{0}")]
     Walk(WalkFault),
     /// A value isn't what the attribute needs.
-    #[error("the entry at {0}: {1}")]
-    Form(u64, FormFault),
+    Form(InfoOffset, FormFault),
     /// A base type, a typedef or an enumerator has no name, or a type tag no value or an empty one.
-    #[error("the entry at {0} has no name")]
-    MissingName(u64),
+    MissingName(InfoOffset),
     /// A base type, a structure, a union or an enumeration has no byte_size.
-    #[error("the entry at {0} has no size")]
-    MissingSize(u64),
+    MissingSize(InfoOffset),
     /// An array, a member or a parameter has no type.
-    #[error("the entry at {0} has no type")]
-    MissingType(u64),
+    MissingType(InfoOffset),
     /// A declared structure, union or enumeration has no name.
-    #[error("the declaration at {0} has no name")]
-    UnnamedForward(u64),
+    UnnamedForward(InfoOffset),
     /// The place of a member is negative or computed at run time; or it counts back from the end of
     /// a storage (DWARF 4, section 5.5.6) whose size neither the member says nor its type, behind
     /// at most 64 types that stand for another.
-    #[error("the place of the member at {0} is not fixed")]
-    MemberPlace(u64),
+    MemberPlace(InfoOffset),
     /// The bit_size of a member is this one, and not 1 to 255.
-    #[error("the member at {0} has {1} bits")]
-    BitSize(u64, i128),
+    BitSize(InfoOffset, i128),
     /// The member lies at this bit, which its offset word can't hold.
-    #[error("the member at {0} lies at the bit {1}")]
-    MemberFar(u64, u128),
+    MemberFar(InfoOffset, u128),
     /// So many members, enumerators or parameters are more than 65,535.
-    #[error("the entry at {0} has {1} parts")]
-    TooMany(u64, u64),
+    TooMany(InfoOffset, u64),
     /// A length or the number of elements is negative or passes 2^32 - 1.
-    #[error("the length of the array at {0} is out of range")]
-    ArrayLength(u64),
+    ArrayLength(InfoOffset),
     /// The size of an enumeration is this one, and not 1, 2, 4 or 8.
-    #[error("the enumeration at {0} has the size {1}")]
-    EnumSize(u64, i128),
+    EnumSize(InfoOffset, i128),
     /// An enumerator has no value, or one that its enumeration can't hold.
-    #[error("the value of the enumerator at {0} is missing or out of range")]
-    EnumValue(u64),
+    EnumValue(InfoOffset),
     /// A size is this one, and not 0 to 2^32 - 1.
-    #[error("the entry at {0} has the size {1}")]
-    SizeLarge(u64, i128),
+    SizeLarge(InfoOffset, i128),
     /// Memory can't be found.
-    #[error("out of memory")]
     Memory,
 }
+
+/// Shows what is wrong with the entry at an offset.
+fn fmt_entry<W: fmt::Write>(f: &mut fmt::Formatter<W>, at: InfoOffset, text: &str) -> fmt::Result {
+    write!(f, "the entry at {at} {text}")
+}
+
+/// The same, with the value that is refused.
+fn fmt_value<W: fmt::Write, T: fmt::Display + Copy>(
+    f: &mut fmt::Formatter<W>,
+    at: InfoOffset,
+    text: &str,
+    value: T,
+) -> fmt::Result {
+    write!(f, "the entry at {at} {text} {value}")
+}
+
+impl fmt::Display for TypeFault {
+    fn fmt<W: fmt::Write>(&self, f: &mut fmt::Formatter<W>) -> fmt::Result {
+        match *self {
+            TypeFault::Abbrev(fault) => fault.fmt(f),
+            TypeFault::Walk(fault) => fault.fmt(f),
+            TypeFault::Form(at, fault) => fmt_value(f, at, "is refused:", fault),
+            TypeFault::MissingName(at) => fmt_entry(f, at, "has no name"),
+            TypeFault::MissingSize(at) => fmt_entry(f, at, "has no size"),
+            TypeFault::MissingType(at) => fmt_entry(f, at, "has no type"),
+            TypeFault::UnnamedForward(at) => fmt_entry(f, at, "is declared without a name"),
+            TypeFault::MemberPlace(at) => fmt_entry(f, at, "has no fixed place"),
+            TypeFault::BitSize(at, bits) => fmt_value(f, at, "has the bit size", bits),
+            TypeFault::MemberFar(at, bit) => fmt_value(f, at, "lies at the bit", bit),
+            TypeFault::TooMany(at, parts) => fmt_value(f, at, "has too many parts:", parts),
+            TypeFault::ArrayLength(at) => fmt_entry(f, at, "has a length out of range"),
+            TypeFault::EnumSize(at, size) => fmt_value(
+                f,
+                at,
+                "is an enumeration of the size",
+                size,
+            ),
+            TypeFault::EnumValue(at) => fmt_entry(f, at, "has no value in range"),
+            TypeFault::SizeLarge(at, size) => fmt_value(f, at, "has the size", size),
+            TypeFault::Memory => f.write_str("out of memory"),
+        }
+    }
+}
+
+impl Error for TypeFault {}
 
 impl From<AllocError> for TypeFault {
     ghost use Rattle.std.specs.Prelude.{◌≡◌};
@@ -91,14 +121,14 @@ impl<T: Drop> From<AllocFailed<T>> for TypeFault {
 /// Where a refusal stands among others: by its entry, then its number, then what it keeps.
 #[derive(Clone, Copy)]
 pub struct Rank {
-    at: u64,
+    at: InfoOffset,
     kept: u64,
     more: u64,
     number: u32,
 }
 
 /// The rank of a refusal by its place, its number and what it keeps.
-fn rank_from(at: u64, number: u32, kept: u64, more: u64) -> Rank
+fn rank_from(at: InfoOffset, number: u32, kept: u64, more: u64) -> Rank
     ensures { result ≡ rank_from at number kept more }
 {
     Rank {
@@ -110,14 +140,14 @@ fn rank_from(at: u64, number: u32, kept: u64, more: u64) -> Rank
 }
 
 /// The rank of a refusal that needs nothing but its place.
-fn rank_at(at: u64, number: u32) -> Rank
+fn rank_at(at: InfoOffset, number: u32) -> Rank
     ensures { result ≡ rank_from at number 0 0 }
 {
     rank_from(at, number, 0, 0)
 }
 
 /// The rank of a value's refusal.
-fn rank_form(at: u64, fault: FormFault) -> Rank
+fn rank_form(at: InfoOffset, fault: FormFault) -> Rank
     ensures { result ≡ form_rank at fault }
 {
     match fault {

@@ -9,7 +9,7 @@ use crate::fault::{TypeFault, note, note_if};
 use crate::number::{Number, by_sign};
 use crate::source::Targets;
 use c_model::{Label, Parts};
-use dw_base::Name;
+use dw_base::{InfoOffset, Name};
 use std::alloc::Global;
 
 /// The most members, enumerators or parameters of a type.
@@ -77,7 +77,7 @@ pub fn size_or_zero(size: Option<i128>) -> u32
 }
 
 /// Refuses a size that is missing or too large.
-pub fn note_size(least: &mut Option<TypeFault>, at: u64, size: Option<i128>)
+pub fn note_size(least: &mut Option<TypeFault>, at: InfoOffset, size: Option<i128>)
     requires { IfSome size Fits64 }
     ensures { least.new ≡ noted least.old (size_refusals at size) }
 {

@@ -13,6 +13,8 @@
 //!   types are followed to it, since a chain may be a ring. What is wrong on that way only means
 //!   that no storage is found, which refuses the member. Only a unit with such a member reads what
 //!   its entries say of their sizes.
+//!
+//! A call whose comment says nothing of its work takes constant time.
 #![tactic(auto)]
 
 pub mod attributes;

@@ -22,7 +22,7 @@ use crate::extents::{find_bytes, read_extents};
 use crate::fault::{TypeFault, note};
 use crate::number::{Number, by_sign, to_integer};
 use crate::scope::UnitCtx;
-use dw_base::Order;
+use dw_base::{InfoOffset, Order};
 use dwarf_abbrev::constants::{
     DW_AT_bit_offset, DW_AT_bit_size, DW_AT_byte_size, DW_AT_data_bit_offset,
     DW_AT_data_member_location, DW_FORM_data8, DW_TAG_member,
@@ -31,7 +31,12 @@ use entry_tree::Entry;
 use std::alloc::{AllocError, Global};
 
 /// A position in units of so many bits.
-fn position_from(at: u64, scale: u32, number: Number, least: &mut Option<TypeFault>) -> Option<u128>
+fn position_from(
+    at: InfoOffset,
+    scale: u32,
+    number: Number,
+    least: &mut Option<TypeFault>,
+) -> Option<u128>
     requires { scale ≤ 8 }
     ensures value { result ≡ (position_from at scale number).value }
     ensures noted { least.new ≡ noted least.old (position_from at scale number).refused }
@@ -46,7 +51,11 @@ fn position_from(at: u64, scale: u32, number: Number, least: &mut Option<TypeFau
 }
 
 /// The position that a number of bits gives.
-fn position_by_bits(at: u64, bits: Option<Number>, least: &mut Option<TypeFault>) -> Option<u128>
+fn position_by_bits(
+    at: InfoOffset,
+    bits: Option<Number>,
+    least: &mut Option<TypeFault>,
+) -> Option<u128>
     ensures value { result ≡ (position_by_bits at bits).value }
     ensures noted { least.new ≡ noted least.old (position_by_bits at bits).refused }
 {
@@ -58,7 +67,7 @@ fn position_by_bits(at: u64, bits: Option<Number>, least: &mut Option<TypeFault>
 
 /// The position that an offset in bytes gives, 0 where the member has no attribute for it.
 fn position_by_bytes(
-    at: u64,
+    at: InfoOffset,
     present: bool,
     bytes: Option<Option<i128>>,
     least: &mut Option<TypeFault>,
@@ -181,13 +190,22 @@ fn storage_offset(member: &Entry<'_, '_>, least: &mut Option<TypeFault>) -> Opti
     }
 }
 
+/// A number of bytes in bits.
+fn bits_of_bytes(bytes: Number) -> i128
+    ensures value { result ≡ bits_of_bytes bytes }
+    ensures low { neg_ℤ (pos (2 ^ 67)) ≤ℤ result }
+    ensures high { result <ℤ pos (2 ^ 67) }
+{
+    8 * to_integer(bytes)
+}
+
 /// The first bit of a bit field in a big-endian file: the bits count from the first bit of the
 /// storage.
 fn first_in_big(location: Option<Number>, offset: Option<Number>) -> Option<i128>
     ensures { result ≡ first_bit_big location offset }
 {
     match (location, offset) {
-        (Some(location), Some(offset)) => Some(8 * to_integer(location) + to_integer(offset)),
+        (Some(location), Some(offset)) => Some(bits_of_bytes(location) + to_integer(offset)),
         _ => None,
     }
 }
@@ -198,7 +216,7 @@ fn storage_end(location: Number, storage: Number) -> i128
     ensures low { neg_ℤ (pos (2 ^ 68)) ≤ℤ result }
     ensures high { result <ℤ pos (2 ^ 68) }
 {
-    8 * to_integer(location) + 8 * to_integer(storage)
+    bits_of_bytes(location) + bits_of_bytes(storage)
 }
 
 /// The first bit of a bit field in a little-endian file: the bits count back from the last bit of
@@ -220,7 +238,11 @@ fn first_in_little(
 }
 
 /// A position that is known and doesn't lie before the structure.
-fn natural_position(at: u64, bits: Option<i128>, least: &mut Option<TypeFault>) -> Option<u128>
+fn natural_position(
+    at: InfoOffset,
+    bits: Option<i128>,
+    least: &mut Option<TypeFault>,
+) -> Option<u128>
     ensures value { result ≡ (natural_position at bits).value }
     ensures noted { least.new ≡ noted least.old (natural_position at bits).refused }
 {

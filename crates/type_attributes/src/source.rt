@@ -2,7 +2,7 @@
 ghost use Rattle.std.specs.Prelude.{◌≡◌, ◌∷◌, []};
 
 use c_model::Label;
-use dw_base::Listed;
+use dw_base::{InfoOffset, Listed};
 use std::marker::Model;
 
 /// What a type refers to, before entries have numbers.
@@ -13,7 +13,7 @@ pub enum Target {
     /// The type of the indices of arrays, of which each unit with an array has one.
     Index,
     /// The entry at the offset `to` of `.debug_info`, which the entry at `from` refers to.
-    Entry { from: u64, to: u128 },
+    Entry { from: InfoOffset, to: u128 },
 }
 
 /// How a list of targets is kept. Most types have one target, which takes no memory of its own.
@@ -75,7 +75,7 @@ impl Targets {
 #[derive(Drop)]
 pub struct SourceType<'a> {
     /// The offset of the entry in `.debug_info`.
-    pub at: u64,
+    pub at: InfoOffset,
     /// What the type is.
     pub label: Label<'a>,
     /// What it refers to, in order.

@@ -8,6 +8,12 @@ returns-in_err-index c =
     rw c.from_residual.ensures (has_none (within c.args.form.now) c.args.abbreviation.now.specs.now
     c.args.from c.args.name c.requires (c.in_err-index.ensures.none refl))
 
+pub returns-in-Some : goal.returns-in-Some
+returns-in-Some c =
+    first_at (within c.args.form.now) c.args.abbreviation.now.specs.now c.in_ok-index.index
+    c.args.from c.in-Some.at c.args.name _ c.requires c.in_ok-index.ensures.first
+    c.in-Some.ensures
+
 pub returns-in-Ok : goal.returns-in-Ok
 returns-in-Ok c =
     first_at (within c.args.form.now) c.args.abbreviation.now.specs.now c.in_ok-index.index
