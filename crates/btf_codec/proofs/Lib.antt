@@ -1,3 +1,4 @@
+pub mod Again
 pub mod Accepted
 pub mod Alone
 pub mod Below

@@ -1,5 +1,6 @@
 //! Laws of the format.
 ghost use Rattle.std.specs.Prelude.{◌≡◌, ◌<◌, ℕ, List, Option, Some, Ok, slice_index};
+ghost use Rattle.btf_codec.specs.Again.{NoMemoryFault, StoredAloneIsRead, StoredOverIsRead};
 ghost use Rattle.c_model.specs.declared.graph.CType.{CType};
 ghost use Rattle.dw_base.specs.declared.numbers.Order.{Order};
 ghost use Rattle.btf_strings.specs.Names.{Names, own_section};
@@ -27,4 +28,17 @@ pub fn written_is_read()
         Spells (base_of first strings.base) order own (own_section strings) bytes →
         table_of before (Some order) bytes
         ≡ Ok (table_over before order own (own_section strings)) }
+{}
+
+/// What one run stored is what another reads. A file without a base is read in whichever byte order
+/// it has. A base that was read in a wanted order is the same in whichever it has, and a file is
+/// read over it in the base's order. Each time the types are those that were stored.
+pub fn stored_is_read()
+    ensures alone { StoredAloneIsRead }
+    ensures over { StoredOverIsRead }
+{}
+
+/// No bytes are refused for want of memory: `Memory` says something of the machine alone.
+pub fn bytes_need_no_memory()
+    ensures { NoMemoryFault }
 {}

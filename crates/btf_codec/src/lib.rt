@@ -25,7 +25,7 @@ mod words;
 pub mod writer;
 
 pub use fault::BtfFault;
-pub use laws::{spelled_once, written_is_read};
+pub use laws::{bytes_need_no_memory, spelled_once, stored_is_read, written_is_read};
 pub use reader::read;
 pub use table::{Table, TableOut};
 pub use writer::write;

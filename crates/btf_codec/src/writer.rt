@@ -161,55 +161,47 @@ fn put_type(
         ≡ out.old.items ++ words_bytes order (words_of strings.now (fields_of t.now))) }
 {
     let name = offset_in(strings, &t.label.name);
-    let info = info(&t.label);
+    put_words(out, order, &[name, info(&t.label)])?;
     match layout_of(t.label.kind) {
-        None => put_words(out, order, &[name, info]),
-        Some(layout) => put_by(layout, out, order, strings, name, info, t),
+        None => Ok(()),
+        Some(layout) => put_rest(out, order, strings, layout, t),
     }
 }
 
-/// Appends the name and the info word of a type and what follows them.
-fn put_by(
-    layout: KindLayout,
+/// Appends what follows the name and the info word of a type.
+fn put_rest(
     out: &mut Vec<u8>,
     order: Order,
     strings: &Strings<'_>,
-    name: u32,
-    info: u32,
+    layout: KindLayout,
     t: &CType<'_>,
 ) -> Result<(), AllocError>
     requires { All (IsBelow (2 ^ 32 - 1)) t.now.targets }
     ensures { OnOk result (out.new.items ≡ out.old.items ++ words_bytes order
-        (name ∷ info ∷ words_of strings.now (rest_fields layout t.now.label t.now.targets))) }
+        (words_of strings.now (rest_fields layout t.now.label t.now.targets))) }
 {
     let label = &t.label;
     let parts = label.parts.items();
     let targets = t.targets.items();
     let first = id_at(targets, 0);
     match layout {
-        KindLayout::Int => put_words(out, order, &[name, info, label.size, label.extra]),
-        KindLayout::Link => put_words(out, order, &[name, info, first]),
+        KindLayout::Int => put_words(out, order, &[label.size, label.extra]),
+        KindLayout::Link => put_words(out, order, &[first]),
         KindLayout::Array => {
             let index = id_at(targets, 1);
-            put_words(out, order, &[name, info, 0, first, index, label.extra])
+            put_words(out, order, &[0, first, index, label.extra])
         }
-        KindLayout::Forward => put_words(out, order, &[name, info, 0]),
-        KindLayout::TaggedLink => put_words(out, order, &[name, info, first, label.extra]),
-        KindLayout::Float => put_words(out, order, &[name, info, label.size]),
+        KindLayout::Forward => put_words(out, order, &[0]),
+        KindLayout::TaggedLink => put_words(out, order, &[first, label.extra]),
+        KindLayout::Float => put_words(out, order, &[label.size]),
         KindLayout::Sized(part) => {
-            put_words(out, order, &[name, info, label.size])?;
+            put_words(out, order, &[label.size])?;
             put_parts(out, order, strings, part, parts, targets)
         }
         KindLayout::Prototype => {
-            put_words(out, order, &[name, info, first])?;
-            put_parts(
-                out,
-                order,
-                strings,
-                PartLayout::Parameter,
-                parts,
-                after_first(targets),
-            )
+            put_words(out, order, &[first])?;
+            let part = PartLayout::Parameter;
+            put_parts(out, order, strings, part, parts, after_first(targets))
         }
     }
 }

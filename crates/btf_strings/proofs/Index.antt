@@ -12,10 +12,11 @@ use Rattle.btf_strings.proofs.Least.{least_none, least_step}
 use Rattle.btf_strings.proofs.Texts.{none_behind, begins_none_inside, begins_behind}
 
 -- the strings that begin below a place have their least places
-pub record IsIndexed (section : List ℕ) (held : List (List ℕ × ℕ)) (at : ℕ) : Type 0 where
+pub record IsIndexed (section : List ℕ) (base_offsets : List (List ℕ × ℕ)) (at : ℕ) : Type 0 where
   pub within : at ≤ length section
   pub begins : begins_string section at ≡ true
-  pub index : (name : List ℕ) → value_of name held ≡ least_below (stands_whole section name) at
+  pub index : (name : List ℕ) → value_of name base_offsets
+      ≡ least_below (stands_whole section name) at
 
 stands_here : (section name text : List ℕ) (at : ℕ) → begins_string section at ≡ true
     → text_of section at ≡ Some text → stands_whole section name at ≡ bytes_eq name text
@@ -44,10 +45,10 @@ index_push section text at old new e kept notes =
           ∙ sym l;
     }
 
-pub all_indexed : (section : List ℕ) (at : ℕ) (held : List (List ℕ × ℕ))
-    → text_of section at ≡ None → IsIndexed section held at → (name : List ℕ)
-    → value_of name held ≡ base_offset (Some section) name
-all_indexed section at held e kept name =
+pub all_indexed : (section : List ℕ) (at : ℕ) (base_offsets : List (List ℕ × ℕ))
+    → text_of section at ≡ None → IsIndexed section base_offsets at → (name : List ℕ)
+    → value_of name base_offsets ≡ base_offset (Some section) name
+all_indexed section at base_offsets e kept name =
     let n : at + (length section - at) ≡ length section = omega (arith, kept.within) in
     kept.index name
     ∙ sym (least_none (stands_whole section name) at (length section - at)

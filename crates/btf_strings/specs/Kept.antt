@@ -35,9 +35,9 @@ pub record IsSound (t : Names) : Type 0 where
   pub narrow : (name : List ℕ) (at : ℕ) → offset_of t name ≡ Some at → at < 2 ^ 32
 
 -- what holds of the parts of each table of names
-pub record IsKept (base : Option (List ℕ)) (held : List (List ℕ × ℕ)) (own : List ℕ)
+pub record IsKept (base : Option (List ℕ)) (base_offsets : List (List ℕ × ℕ)) (own : List ℕ)
     (places : List (List ℕ × ℕ)) : Type 0 where
   pub section : IfSome base IsSection
-  pub index : (name : List ℕ) → value_of name held ≡ base_offset base name
+  pub index : (name : List ℕ) → value_of name base_offsets ≡ base_offset base name
   pub bytes : own ≡ own_section (record { base = base; own = names_of places })
   pub placed : ArePlaced (first_offset base) places

@@ -36,7 +36,7 @@ fn no_offsets<'a>(alloc: Global) -> Offsets<'a>
 pub struct Strings<'a> {
     base: Option<&'a [u8]>,
     /// The least offset of each whole string of the base.
-    held: Offsets<'a>,
+    base_offsets: Offsets<'a>,
     own: Vec<u8>,
     /// The own names with their offsets.
     places: Offsets<'a>,
@@ -51,7 +51,7 @@ impl<'a> Model for Strings<'a> {
 
     ghost view = { λ s. record { base = option_copied s.base; own = names_of s.places.entries } };
 
-    ghost invariant = { λ s. IsKept (option_copied s.base) s.held.entries s.own.items
+    ghost invariant = { λ s. IsKept (option_copied s.base) s.base_offsets.entries s.own.items
         s.places.entries };
 }
 
@@ -64,8 +64,8 @@ impl<'a> Strings<'a> {
     {
         Ok(Strings {
             base,
-            held: held_by(alloc, base)?,
-            own: begun(alloc, base)?,
+            base_offsets: offsets_of_base(alloc, base)?,
+            own: first_string(alloc, base)?,
             places: no_offsets(alloc),
         })
     }
@@ -114,7 +114,7 @@ impl<'a> Strings<'a> {
         if bytes.is_empty() {
             return Some(0);
         }
-        match self.held.get(&name) {
+        match self.base_offsets.get(&name) {
             Some(at) => Some(*at),
             None => self.places.get(&name).copied(),
         }
@@ -159,7 +159,7 @@ impl<'a> Strings<'a> {
 }
 
 /// The own section before the first name.
-fn begun(alloc: Global, base: Option<&[u8]>) -> Result<Vec<u8>, AllocError>
+fn first_string(alloc: Global, base: Option<&[u8]>) -> Result<Vec<u8>, AllocError>
     ensures { IfOk result (λ v. v.items ≡ first_string (option_copied base.entry)) }
 {
     let mut own = Vec::new(alloc);
@@ -170,7 +170,7 @@ fn begun(alloc: Global, base: Option<&[u8]>) -> Result<Vec<u8>, AllocError>
 }
 
 /// The least offset of each whole string of the base's section.
-fn held_by<'a>(alloc: Global, base: Option<&'a [u8]>) -> Result<Offsets<'a>, AllocError>
+fn offsets_of_base<'a>(alloc: Global, base: Option<&'a [u8]>) -> Result<Offsets<'a>, AllocError>
     requires { IfSome base (λ b. length b.now < 2 ^ 32) }
     ensures { IfOk result (λ m. (name : List ℕ)
         → value_of name m.entries ≡ base_offset (option_copied base.entry) name) }
@@ -187,24 +187,24 @@ fn index_of<'a>(alloc: Global, section: &'a [u8]) -> Result<Offsets<'a>, AllocEr
     ensures { IfOk result
         (λ m. (name : List ℕ) → value_of name m.entries ≡ base_offset (Some section.now) name) }
 {
-    let mut held = no_offsets(alloc);
+    let mut base_offsets = no_offsets(alloc);
     let mut at: u32 = 0;
     while let Some(name) = text_at(section, u64::from(at)) {
         let text = name.bytes();
-        note(&mut held, name, at)?;
+        note(&mut base_offsets, name, at)?;
         at += text.len() as u32 + 1;
     }
-    Ok(held)
+    Ok(base_offsets)
 }
 
 /// Notes a string of the section, unless it was met before.
-fn note<'a>(held: &mut Offsets<'a>, text: Name<'a>, at: u32) -> Result<(), AllocError>
-    ensures { OnOk result (Notes held.old.entries held.new.entries text.entry at) }
+fn note<'a>(base_offsets: &mut Offsets<'a>, text: Name<'a>, at: u32) -> Result<(), AllocError>
+    ensures { OnOk result (Notes base_offsets.old.entries base_offsets.new.entries text.entry at) }
 {
-    match held.get(&text) {
+    match base_offsets.get(&text) {
         Some(_) => Ok(()),
         None => {
-            held.insert(text, at)?;
+            base_offsets.insert(text, at)?;
             Ok(())
         }
     }

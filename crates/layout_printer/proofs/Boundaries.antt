@@ -5,7 +5,7 @@ use Rattle.std.specs.List.{list_all}
 use Rattle.std.proofs.lemmas.Bool.{cond-true, cond-false, lt-ltb, le-ltb}
 use Rattle.std.proofs.lemmas.Bool.Decides.{nat_tests}
 use Rattle.std.proofs.lemmas.List.{take_more, append-nil}
-use Rattle.layout_printer.specs.Text.{boundary_text, crossed_text, line_of, opens}
+use Rattle.layout_printer.specs.Text.{boundary_text, boundary_line, line_of, opens}
 use Rattle.layout_printer.specs.Lines.{greatest_line}
 use Rattle.layout_printer.specs.declared.slots.Slot.{Slot}
 
@@ -41,10 +41,10 @@ boundary_none line earlier s number greatest out e g h =
 
 pub boundary_some : (line from : ℕ) (earlier : List Slot) (s : Slot) (number greatest : ℕ) → number
     ≡ line_of line s → from ≡ line → greatest ≡ greatest_line line earlier → greatest < number
-    → crossed_text number (number * from) (s.start / 8) ≡ boundary_text line earlier s
+    → boundary_line number (number * from) (s.start / 8) ≡ boundary_text line earlier s
 boundary_some line from earlier s number greatest e f g h =
-    ap (λ n. crossed_text n (n * from) (s.start / 8)) e
-    ∙ ap (λ n. crossed_text (line_of line s) (line_of line s * n) (s.start / 8)) f
+    ap (λ n. boundary_line n (n * from) (s.start / 8)) e
+    ∙ ap (λ n. boundary_line (line_of line s) (line_of line s * n) (s.start / 8)) f
     ∙ sym (cond-true _ _ _ (opens_is line earlier (line_of line s)
     ∙ lt-ltb (greatest_line line earlier) (line_of line s) (omega arith)))
 

@@ -12,20 +12,20 @@ use Rattle.c_model.specs.declared.graph.CType.{CType}
 use Rattle.c_model.specs.declared.graph.Ref.{Ref}
 use Rattle.c_model.specs.declared.graph.Ref.TheVariants.{Void, Node}
 use Rattle.btf_codec.specs.Fields.{target_at}
-use Rattle.layout_printer.specs.Sizes.{fitting, size_by, size_from, size_in, size_of, size_rule}
-use Rattle.layout_printer.specs.Sizes.{type_of}
+use Rattle.layout_printer.specs.Sizes.{checked_size, size_by, size_from, size_in, size_of}
+use Rattle.layout_printer.specs.Sizes.{size_rule, type_of}
 use Rattle.layout_printer.specs.declared.sizes.SizeRule.{SizeRule}
 use Rattle.layout_printer.specs.declared.sizes.SizeRule.TheVariants.{Stated, Pointer, Elements}
 use Rattle.layout_printer.specs.declared.sizes.SizeRule.TheVariants.{Target, Unsized}
 
 -- sizes are at most 2^60
-fits_then : (o : Option ℕ) (s : ℕ) → option_and_then fitting o ≡ Some s → s ≤ 2 ^ 60
+fits_then : (o : Option ℕ) (s : ℕ) → option_and_then checked_size o ≡ Some s → s ≤ 2 ^ 60
 fits_then None s e = absurd (none-some s e)
 fits_then (Some x) s e = let b = cond_some (leb x (2 ^ 60)) x s e in
     subst (λ (y : ℕ). y ≤ 2 ^ 60) b.1 (leb-true x (2 ^ 60) b.0)
 
 fits_from : (rest : Ref → Option ℕ) (pointer s : ℕ) (t : Option CType)
-    → option_and_then (λ (u : CType). option_and_then fitting
+    → option_and_then (λ (u : CType). option_and_then checked_size
     (size_by rest pointer (size_rule u.label.kind) u)) t ≡ Some s → s ≤ 2 ^ 60
 fits_from rest pointer s None e = absurd (none-some s e)
 fits_from rest pointer s (Some u) e =
@@ -67,12 +67,12 @@ by_under f g u pointer Unsized t s e = e
 
 of_under : (f g : Ref → Option ℕ) → IsUnder f g → (pointer s : ℕ) (t : Option CType)
     → option_and_then (λ (u : CType).
-    option_and_then fitting (size_by f pointer (size_rule u.label.kind) u)) t ≡ Some s
+    option_and_then checked_size (size_by f pointer (size_rule u.label.kind) u)) t ≡ Some s
     → option_and_then (λ (u : CType).
-    option_and_then fitting (size_by g pointer (size_rule u.label.kind) u)) t ≡ Some s
+    option_and_then checked_size (size_by g pointer (size_rule u.label.kind) u)) t ≡ Some s
 of_under f g u pointer s None e = absurd (none-some s e)
 of_under f g u pointer s (Some t) e =
-    then_under fitting (size_by f pointer (size_rule t.label.kind) t) (size_by g pointer
+    then_under checked_size (size_by f pointer (size_rule t.label.kind) t) (size_by g pointer
     (size_rule t.label.kind) t) (by_under f g u pointer (size_rule t.label.kind) t) s e
 
 from_under : (f g : Ref → Option ℕ) → IsUnder f g → (types : List CType) (pointer : ℕ)
@@ -94,7 +94,7 @@ none_before k types pointer r (Some s) at e =
 
 sized_within : (f : Ref → Option ℕ) (types : List CType) (pointer x s : ℕ) (t : Option CType)
     → slice_get types x ≡ t
-    → option_and_then (λ (u : CType). option_and_then fitting
+    → option_and_then (λ (u : CType). option_and_then checked_size
     (size_by f pointer (size_rule u.label.kind) u)) t ≡ Some s → x < length types
 sized_within f types pointer x s None at e = absurd (none-some s e)
 sized_within f types pointer x s (Some t) at e = slice_get_within types x t at

@@ -8,9 +8,9 @@ use Rattle.std.specs.List.{flat_map, range_with_len}
 use Rattle.c_model.specs.declared.graph.CType.{CType}
 use Rattle.c_model.specs.declared.graph.Ref.{Ref}
 use Rattle.layout_printer.specs.Sizes.{type_of}
-use Rattle.layout_printer.specs.Declarations.{Written, after, around, before, decl_at, decl_in}
+use Rattle.layout_printer.specs.Declarations.{DeclParts, after, around, before, decl_at, decl_in}
 use Rattle.layout_printer.specs.Declarations.{is_passed, kind_of, leads, leads_to_pointer}
-use Rattle.layout_printer.specs.Declarations.{member_type, past, qualified, spaced}
+use Rattle.layout_printer.specs.Declarations.{member_type, past, with_word, after_space}
 use Rattle.layout_printer.proofs.Holes.{range_push}
 
 past_suc : (n : ℕ) (types : List CType) (r : Ref) → past (suc n) types r
@@ -59,9 +59,9 @@ module _ (lists : Ref → List ℕ) (types : List CType) where
 
   -- a type is written, and then a next one or none is met
   pub followed : (n k : ℕ) (list : List ℕ) (r : Ref) (front d back front' d' back' : List ℕ)
-      (next met : Option Ref) (whole : Written) → k < n → list ≡ lists r
+      (next met : Option Ref) (whole : DeclParts) → k < n → list ≡ lists r
       → around front (decl_in lists (n - k) types r d) back ≡ whole
-      → ((rest : Ref → List ℕ → Written) → leads rest front' d' back' next
+      → ((rest : Ref → List ℕ → DeclParts) → leads rest front' d' back' next
       ≡ around front (decl_at rest types list (type_of types r) d) back)
       → next ≡ met → leads (decl_in lists (n - (k + 1)) types) front' d' back' met ≡ whole
   followed n k list r front d back front' d' back' next met whole h e inv step is =
@@ -69,37 +69,38 @@ module _ (lists : Ref → List ℕ) (types : List CType) where
       ∙ step (decl_in lists (n - (k + 1)) types)
       ∙ ap (λ (l : List ℕ). around front
       (decl_at (decl_in lists (n - (k + 1)) types) types l (type_of types r) d) back) e
-      ∙ ap (λ (w : Written). around front w back)
+      ∙ ap (λ (w : DeclParts). around front w back)
       (sym (ap (λ i. decl_in lists i types r d) (one_left n k h) ∙ decl_suc (n - (k + 1)) r d))
       ∙ inv
 
   -- no more types are followed
-  pub cut_off : (n k : ℕ) (r : Ref) (front d back front' : List ℕ) (whole : Written) → n ≤ k
+  pub cut_off : (n k : ℕ) (r : Ref) (front d back front' : List ℕ) (whole : DeclParts) → n ≤ k
       → around front (decl_in lists (n - k) types r d) back ≡ whole → front' ≡ front ++ codes "..."
-      → let w : Written = record { type_part = front' ++ back; name_part = d } in w ≡ whole
+      → let w : DeclParts = record { type_part = front' ++ back; name_part = d } in w ≡ whole
   cut_off n k r front d back front' whole h inv e =
       let none : n - k ≡ 0 = omega arith in
-      let joined : front' ++ back ≡ front ++ (codes "..." ++ back) =
+      let concat : front' ++ back ≡ front ++ (codes "..." ++ back) =
       ap (λ (t : List ℕ). t ++ back) e ∙ append_assoc front (codes "...") back in
-      ap (λ (t : List ℕ). let w : Written = record { type_part = t; name_part = d } in w) joined
-      ∙ sym (ap (λ (w : Written). around front w back)
+      ap (λ (t : List ℕ). let w : DeclParts = record { type_part = t; name_part = d } in w) concat
+      ∙ sym (ap (λ (w : DeclParts). around front w back)
       (ap (λ i. decl_in lists i types r d) none ∙ decl_zero r d))
       ∙ inv
 
 -- an attribute more stands behind the type part, before those that stand there
-pub tag_more : (is_tag : Bool) (rest : Ref → List ℕ → Written) (types : List CType) (word : List ℕ)
-    (r : Ref) (front d back back' : List ℕ) → leads_to_pointer types r ≡ false → is_tag ≡ true
+pub tag_more : (is_tag : Bool) (rest : Ref → List ℕ → DeclParts) (types : List CType)
+    (word : List ℕ) (r : Ref) (front d back back' : List ℕ)
+    → leads_to_pointer types r ≡ false → is_tag ≡ true
     → back' ≡ (32 ∷ word) ++ back → around front (rest r d) back'
-    ≡ around front (qualified is_tag rest types word r d) back
+    ≡ around front (with_word is_tag rest types word r d) back
 tag_more is_tag rest types word r front d back back' other tag e =
-    let w : Written = rest r d in
+    let w : DeclParts = rest r d in
     let behind : w.type_part ++ back' ≡ (w.type_part ++ 32 ∷ word) ++ back =
     ap (λ (b : List ℕ). w.type_part ++ b) e
     ∙ sym (append_assoc w.type_part (32 ∷ word) back) in
     ap (λ (t : List ℕ).
-    let v : Written = record { type_part = front ++ t; name_part = w.name_part } in v) behind
-    ∙ ap (λ (v : Written). around front v back)
-    (sym (cond-false (leads_to_pointer types r) (rest r (word ++ spaced d))
+    let v : DeclParts = record { type_part = front ++ t; name_part = w.name_part } in v) behind
+    ∙ ap (λ (v : DeclParts). around front v back)
+    (sym (cond-false (leads_to_pointer types r) (rest r (word ++ after_space d))
     (cond is_tag (after w (32 ∷ word)) (before (word ++ codes " ") w)) other
     ∙ cond-true is_tag (after w (32 ∷ word)) (before (word ++ codes " ") w) tag))
 

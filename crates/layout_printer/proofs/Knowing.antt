@@ -15,7 +15,7 @@ use Rattle.c_model.specs.declared.graph.Ref.TheVariants.{Void, Node}
 use Rattle.dw_base.proofs.Lists.{slice_get_set, slice_get_set_other, slice_get_none}
 use Rattle.layout_printer.specs.Sizes.{AreSizes, size_of}
 use Rattle.layout_printer.specs.Finding.{AreFound, IsChain, IsKnown, IsOn, StaysKnown, behind}
-use Rattle.layout_printer.specs.Finding.{found_at, if_unknown, kept_at, sized, unknown_at}
+use Rattle.layout_printer.specs.Finding.{known_size, if_unknown, size_at, size_over, unknown_at}
 use Rattle.layout_printer.specs.declared.sizes.Sizes.{Sizes}
 use Rattle.layout_printer.proofs.Ways.{chain_less, chain_more, end_size}
 use Rattle.layout_printer.proofs.Ways.{on_last, on_more, on_new, past_none, size_link, void_none}
@@ -138,7 +138,7 @@ found_way types pointer old found path at x f a = record {
 pub way_size : (types : List CType) (pointer : ℕ) (old found : List (Option (Option ℕ)))
     (path : List ℕ) (at : Ref) (x : ℕ)
     → IsFollowing types old found path at x → AreFound types pointer [] old
-    → unknown_at found at ≡ None → found_at found at ≡ size_of types pointer at
+    → unknown_at found at ≡ None → known_size found at ≡ size_of types pointer at
 way_size types pointer old found path at x f a e = end_size types pointer path at found f.chain
     (found_way types pointer old found path at x f a) f.none e
 
@@ -172,7 +172,7 @@ return_bound types pointer old found path rest size y r e =
 pub return_on : (types : List CType) (pointer : ℕ) (old found : List (Option (Option ℕ)))
     (path rest : List ℕ) (size new : Option ℕ) (y : ℕ) (t : CType)
     → IsReturning types pointer old found path size → path ≡ rest ++ y ∷ []
-    → slice_get types y ≡ Some t → new ≡ sized pointer size t
+    → slice_get types y ≡ Some t → new ≡ size_over pointer size t
     → IsReturning types pointer old (set found y (Some new)) rest new
 return_on types pointer old found path rest size new y t r e there n =
     let parts =
@@ -180,7 +180,7 @@ return_on types pointer old found path rest size new y t r e there n =
     let lt : y < length found = (let c = r.right.covers in
     let l = slice_get_within types y t there in omega (arith, c, l)) in
     let is : new ≡ size_of types pointer (Node y) =
-    n ∙ ap (sized pointer size) (same_Some t parts.0.t (sym there ∙ parts.0.here))
+    n ∙ ap (size_over pointer size) (same_Some t parts.0.t (sym there ∙ parts.0.here))
     ∙ size_link types pointer y r.at size parts.0 r.same in
     record {
       at = Node y;
@@ -250,7 +250,7 @@ size_past types s a x e =
     (cases_lt x (length types)))))
 
 pub size_kept : (types : List CType) (s : Sizes) → AreSizes types s → (r : Ref)
-    → kept_at s.items.items r ≡ size_of types s.pointer r
+    → size_at s.items.items r ≡ size_of types s.pointer r
 size_kept types s a Void = sym (void_none types s.pointer (length types))
 size_kept types s a (Node x) = by (slice_get s.items.items x) refl
   where

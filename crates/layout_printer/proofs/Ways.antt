@@ -11,9 +11,10 @@ use Rattle.c_model.specs.declared.graph.CType.{CType}
 use Rattle.c_model.specs.declared.graph.Ref.{Ref}
 use Rattle.c_model.specs.declared.graph.Ref.TheVariants.{Void, Node}
 use Rattle.dw_base.proofs.Lists.{slice_get_none}
-use Rattle.layout_printer.specs.Sizes.{fitting, size_by, size_from, size_in, size_of, size_rule}
+use Rattle.layout_printer.specs.Sizes.{checked_size, size_by, size_from, size_in, size_of}
+use Rattle.layout_printer.specs.Sizes.{size_rule}
 use Rattle.layout_printer.specs.Finding.{AreFound, IsChain, IsLink, IsOn, behind, behind_by}
-use Rattle.layout_printer.specs.Finding.{first_on, found_at, if_unknown, sized, unknown_at}
+use Rattle.layout_printer.specs.Finding.{first_on, known_size, if_unknown, size_over, unknown_at}
 use Rattle.layout_printer.specs.declared.sizes.SizeRule.{SizeRule}
 use Rattle.layout_printer.specs.declared.sizes.SizeRule.TheVariants.{Stated, Pointer, Elements}
 use Rattle.layout_printer.specs.declared.sizes.SizeRule.TheVariants.{Target, Unsized}
@@ -102,14 +103,14 @@ through rest pointer Target t = refl
 through rest pointer Unsized t = refl
 
 from_behind : (rest : Ref → Option ℕ) (types : List CType) (pointer y : ℕ) (t : CType) → slice_get
-    types y ≡ Some t → size_from rest types pointer (Node y) ≡ sized pointer (rest (behind t)) t
+    types y ≡ Some t → size_from rest types pointer (Node y) ≡ size_over pointer (rest (behind t)) t
 from_behind rest types pointer y t at =
     ap (λ (o : Option CType). option_and_then (λ (u : CType).
-    option_and_then fitting (size_by rest pointer (size_rule u.label.kind) u)) o) at
-    ∙ ap (option_and_then fitting) (through rest pointer (size_rule t.label.kind) t)
+    option_and_then checked_size (size_by rest pointer (size_rule u.label.kind) u)) o) at
+    ∙ ap (option_and_then checked_size) (through rest pointer (size_rule t.label.kind) t)
 
 none_by : (pointer w : ℕ) (rule : SizeRule) (t : CType) → behind_by rule t ≡ Node w
-    → option_and_then fitting (size_by (λ _. None) pointer rule t) ≡ None
+    → option_and_then checked_size (size_by (λ _. None) pointer rule t) ≡ None
 none_by pointer w Stated t e = absurd (cc)
 none_by pointer w Pointer t e = absurd (cc)
 none_by pointer w Elements t e = refl
@@ -122,7 +123,7 @@ module _ (types : List CType) (pointer : ℕ) where
       → size_in (suc k) types pointer (Node y) ≡ None
   none_link k y w l e =
       from_behind (size_in k types pointer) types pointer y l.t l.here
-      ∙ ap (λ (o : Option ℕ). sized pointer o l.t) (ap (size_in k types pointer) l.leads ∙ e)
+      ∙ ap (λ (o : Option ℕ). size_over pointer o l.t) (ap (size_in k types pointer) l.leads ∙ e)
       ∙ none_by pointer w (size_rule l.t.label.kind) l.t l.leads
 
   -- no type of a path that ends in itself has a size
@@ -143,9 +144,9 @@ module _ (types : List CType) (pointer : ℕ) where
 
   -- the size of a type is that through the type behind it
   pub size_link : (y : ℕ) (at : Ref) (o : Option ℕ) → (l : IsLink types y at)
-      → o ≡ size_of types pointer at → sized pointer o l.t ≡ size_of types pointer (Node y)
+      → o ≡ size_of types pointer at → size_over pointer o l.t ≡ size_of types pointer (Node y)
   size_link y at o l e =
-      ap (λ (p : Option ℕ). sized pointer p l.t) (e ∙ ap (size_of types pointer) (sym l.leads))
+      ap (λ (p : Option ℕ). size_over pointer p l.t) (e ∙ ap (size_of types pointer) (sym l.leads))
       ∙ sym (from_behind (size_of types pointer) types pointer y l.t l.here)
       ∙ size_fixed types pointer (Node y)
 
@@ -156,13 +157,13 @@ module _ (types : List CType) (pointer : ℕ) where
   pub past_none : (n y : ℕ) → slice_get types y ≡ None → size_in n types pointer (Node y) ≡ None
   past_none zero y e = refl
   past_none (suc n) y e = ap (λ (o : Option CType). option_and_then (λ (u : CType). option_and_then
-      fitting (size_by (size_in n types pointer) pointer (size_rule u.label.kind) u)) o) e
+      checked_size (size_by (size_in n types pointer) pointer (size_rule u.label.kind) u)) o) e
 
   -- the size at the end of a way
   pub end_size : (p : List ℕ) (at : Ref) (found : List (Option (Option ℕ))) → IsChain types p at
       → AreFound types pointer p found
       → ((y : ℕ) → IsOn y p → slice_get found y ≡ Some (Some None)) → unknown_at found at ≡ None
-      → found_at found at ≡ size_of types pointer at
+      → known_size found at ≡ size_of types pointer at
   end_size p Void found chain f none e = sym (void_none (length types))
   end_size p (Node y) found chain f none e = by (slice_get found y) refl e
     where

@@ -19,33 +19,33 @@ use Rattle.c_model.specs.declared.graph.Ref.TheVariants.{Void, Node}
 use Rattle.btf_codec.specs.Fields.{target_at}
 use Rattle.layout_printer.specs.Sizes.{type_of}
 use Rattle.layout_printer.specs.declared.shapes.Shape.{Shape}
-use Rattle.layout_printer.specs.declared.shapes.Shape.TheVariants.{Named, Tagged, Pointer}
+use Rattle.layout_printer.specs.declared.shapes.Shape.TheVariants.{Name, Tag, Pointer}
 use Rattle.layout_printer.specs.declared.shapes.Shape.TheVariants.{Qualifier, Array, Function}
 use Rattle.layout_printer.specs.declared.shapes.Shape.TheVariants.{Annotation, Other}
 
 -- a declaration: what stands for the type, and what stands for the name
-pub record Written : Type 0 where
+pub record DeclParts : Type 0 where
   pub type_part : List ℕ
   pub name_part : List ℕ
 
 -- how a type of a kind is written
 abbrev pub shape_of : ℕ → Shape
 shape_of k =
-    if k == BTF_KIND_INT then Named
+    if k == BTF_KIND_INT then Name
     else if k == BTF_KIND_PTR then Pointer
     else if k == BTF_KIND_ARRAY then Array
-    else if k == BTF_KIND_STRUCT then Tagged
-    else if k == BTF_KIND_UNION then Tagged
-    else if k == BTF_KIND_ENUM then Tagged
-    else if k == BTF_KIND_FWD then Tagged
-    else if k == BTF_KIND_TYPEDEF then Named
+    else if k == BTF_KIND_STRUCT then Tag
+    else if k == BTF_KIND_UNION then Tag
+    else if k == BTF_KIND_ENUM then Tag
+    else if k == BTF_KIND_FWD then Tag
+    else if k == BTF_KIND_TYPEDEF then Name
     else if k == BTF_KIND_VOLATILE then Qualifier
     else if k == BTF_KIND_CONST then Qualifier
     else if k == BTF_KIND_RESTRICT then Qualifier
     else if k == BTF_KIND_FUNC_PROTO then Function
-    else if k == BTF_KIND_FLOAT then Named
+    else if k == BTF_KIND_FLOAT then Name
     else if k == BTF_KIND_TYPE_TAG then Annotation
-    else if k == BTF_KIND_ENUM64 then Tagged
+    else if k == BTF_KIND_ENUM64 then Tag
     else Other
 
 -- the keyword of a tag
@@ -68,9 +68,9 @@ qualifier_word k =
     else codes "restrict"
 
 -- a space before it, where there is something
-abbrev pub spaced : List ℕ → List ℕ
-spaced [] = []
-spaced (x ∷ xs) = 32 ∷ x ∷ xs
+abbrev pub after_space : List ℕ → List ℕ
+after_space [] = []
+after_space (x ∷ xs) = 32 ∷ x ∷ xs
 
 -- the number of an array's elements, nothing for 0
 abbrev pub bound : ℕ → List ℕ
@@ -117,11 +117,11 @@ abbrev pub leads_to_pointer : List CType → Ref → Bool
 leads_to_pointer types r = kind_of types (past 64 types r) == BTF_KIND_PTR
 
 -- with something before the type part
-abbrev pub before : List ℕ → Written → Written
+abbrev pub before : List ℕ → DeclParts → DeclParts
 before front w = record { type_part = front ++ w.type_part; name_part = w.name_part }
 
 -- with something behind the type part
-abbrev pub after : Written → List ℕ → Written
+abbrev pub after : DeclParts → List ℕ → DeclParts
 after w back = record { type_part = w.type_part ++ back; name_part = w.name_part }
 
 -- the attribute that a type tag is written as, as clang and GCC read it
@@ -130,51 +130,51 @@ attribute name = codes "__attribute__((btf_type_tag(\"" ++ (name ++ codes "\")))
 
 -- the declaration of a type with a word more, a qualifier or a tag's attribute: before the name
 -- where the type is a pointer; else an attribute behind the type part, and a qualifier before it
-abbrev pub qualified : Bool → (Ref → List ℕ → Written) → List CType → List ℕ → Ref → List ℕ
-    → Written
-qualified is_tag rest types word r d =
-    if leads_to_pointer types r then rest r (word ++ spaced d)
+abbrev pub with_word : Bool → (Ref → List ℕ → DeclParts) → List CType → List ℕ → Ref → List ℕ
+    → DeclParts
+with_word is_tag rest types word r d =
+    if leads_to_pointer types r then rest r (word ++ after_space d)
     else if is_tag then after (rest r d) (32 ∷ word)
     else before (word ++ codes " ") (rest r d)
 
 -- the declaration of a type by its shape, given those of the types behind it and the text of its
 -- parameters
-abbrev pub decl_by : (Ref → List ℕ → Written) → List CType → List ℕ → Shape → CType
-    → List ℕ → Written
-decl_by rest types list Named t d = record { type_part = t.label.name; name_part = d }
-decl_by rest types list Tagged t d =
+abbrev pub decl_by : (Ref → List ℕ → DeclParts) → List CType → List ℕ → Shape → CType
+    → List ℕ → DeclParts
+decl_by rest types list Name t d = record { type_part = t.label.name; name_part = d }
+decl_by rest types list Tag t d =
     record { type_part = tag_word t.label ++ 32 ∷ tag_name t.label.name; name_part = d }
 decl_by rest types list Pointer t d =
     rest (target_at t.targets 0) (if leads_to_list types (target_at t.targets 0)
     then codes "(*" ++ (d ++ codes ")") else codes "*" ++ d)
 decl_by rest types list Qualifier t d =
-    qualified false rest types (qualifier_word t.label.kind) (target_at t.targets 0) d
+    with_word false rest types (qualifier_word t.label.kind) (target_at t.targets 0) d
 decl_by rest types list Array t d =
     rest (target_at t.targets 0) (d ++ (codes "[" ++ (bound t.label.extra ++ codes "]")))
 decl_by rest types list Function t d =
     rest (target_at t.targets 0) (d ++ (codes "(" ++ (list ++ codes ")")))
 decl_by rest types list Annotation t d =
-    qualified true rest types (attribute t.label.name) (target_at t.targets 0) d
+    with_word true rest types (attribute t.label.name) (target_at t.targets 0) d
 decl_by rest types list Other t d = record { type_part = codes "?"; name_part = d }
 
-abbrev pub decl_at : (Ref → List ℕ → Written) → List CType → List ℕ → Option CType
-    → List ℕ → Written
+abbrev pub decl_at : (Ref → List ℕ → DeclParts) → List CType → List ℕ → Option CType
+    → List ℕ → DeclParts
 decl_at rest types list None d = record { type_part = codes "void"; name_part = d }
 decl_at rest types list (Some t) d = decl_by rest types list (shape_of t.label.kind) t d
 
 -- the declaration of a name of a type, where at most so many types are followed, given the texts of
 -- parameters
-unfoldable pub decl_in : (Ref → List ℕ) → ℕ → List CType → Ref → List ℕ → Written
+unfoldable pub decl_in : (Ref → List ℕ) → ℕ → List CType → Ref → List ℕ → DeclParts
 decl_in lists zero types r d = record { type_part = codes "..."; name_part = d }
 decl_in lists (suc n) types r d =
     decl_at (decl_in lists n types) types (lists r) (type_of types r) d
 
 -- in a parameter every list of parameters is written `...`
-abbrev pub hidden : Ref → List ℕ
-hidden r = codes "..."
+abbrev pub ellipsis : Ref → List ℕ
+ellipsis r = codes "..."
 
-abbrev pub parameter_decl : List CType → Ref → List ℕ → Written
-parameter_decl types r name = decl_in hidden 64 types r name
+abbrev pub parameter_decl : List CType → Ref → List ℕ → DeclParts
+parameter_decl types r name = decl_in ellipsis 64 types r name
 
 abbrev pub is_void : Ref → Bool
 is_void Void = true
@@ -184,7 +184,8 @@ is_void (Node x) = false
 abbrev pub parameter_text : List CType → Bool → Ref → List ℕ → List ℕ
 parameter_text types last r name =
     if last && ((length name == 0) && is_void r) then codes "..."
-    else (parameter_decl types r name).type_part ++ spaced (parameter_decl types r name).name_part
+    else (parameter_decl types r name).type_part
+    ++ after_space (parameter_decl types r name).name_part
 
 -- the parameter of a function in a place, behind a comma where it is not the first
 abbrev pub parameter_at : List CType → Ref → ℕ → List ℕ
@@ -204,18 +205,18 @@ list_at types r = if kind_of types r == BTF_KIND_FUNC_PROTO then parameters type
 
 -- the declaration of a name of a type: 64 types are followed, and what is behind them is written
 -- `...`
-abbrev pub decl : List CType → Ref → List ℕ → Written
+abbrev pub decl : List CType → Ref → List ℕ → DeclParts
 decl types r name = decl_in (list_at types) 64 types r name
 
 -- the working form: with something before and behind the type part
-abbrev pub around : List ℕ → Written → List ℕ → Written
+abbrev pub around : List ℕ → DeclParts → List ℕ → DeclParts
 around front w back = before front (after w back)
 
 -- what is written where no type is left
-abbrev pub ended : List ℕ → List ℕ → List ℕ → Written
-ended front d back = record { type_part = front ++ back; name_part = d }
+abbrev pub whole_decl : List ℕ → List ℕ → List ℕ → DeclParts
+whole_decl front d back = record { type_part = front ++ back; name_part = d }
 
 -- what is written so far before and behind the type part, and the type that is next
-abbrev pub leads : (Ref → List ℕ → Written) → List ℕ → List ℕ → List ℕ → Option Ref → Written
-leads rest front d back None = ended front d back
+abbrev pub leads : (Ref → List ℕ → DeclParts) → List ℕ → List ℕ → List ℕ → Option Ref → DeclParts
+leads rest front d back None = whole_decl front d back
 leads rest front d back (Some r) = around front (rest r d) back

@@ -5,7 +5,7 @@ use Rattle.c_model.specs.declared.graph.CType.{CType}
 use Rattle.c_model.specs.declared.graph.Ref.{Ref}
 use Rattle.c_model.specs.declared.graph.Ref.TheVariants.{Void, Node}
 use Rattle.btf_codec.specs.Fields.{target_at}
-use Rattle.layout_printer.specs.Sizes.{fitting, size_by, size_of, size_rule}
+use Rattle.layout_printer.specs.Sizes.{checked_size, size_by, size_of, size_rule}
 use Rattle.layout_printer.specs.declared.sizes.SizeRule.{SizeRule}
 use Rattle.layout_printer.specs.declared.sizes.SizeRule.TheVariants.{Stated, Pointer, Elements}
 use Rattle.layout_printer.specs.declared.sizes.SizeRule.TheVariants.{Target, Unsized}
@@ -23,8 +23,9 @@ abbrev pub behind : CType → Ref
 behind t = behind_by (size_rule t.label.kind) t
 
 -- the size of a type, given that of the type behind it
-abbrev pub sized : ℕ → Option ℕ → CType → Option ℕ
-sized pointer o t = option_and_then fitting (size_by (λ _. o) pointer (size_rule t.label.kind) t)
+abbrev pub size_over : ℕ → Option ℕ → CType → Option ℕ
+size_over pointer o t =
+    option_and_then checked_size (size_by (λ _. o) pointer (size_rule t.label.kind) t)
 
 -- the number of what a reference is to, where nothing is known of its size
 abbrev pub if_unknown : ℕ → Option (Option (Option ℕ)) → Option ℕ
@@ -37,14 +38,14 @@ unknown_at found Void = None
 unknown_at found (Node y) = if_unknown y (slice_get found y)
 
 -- the size of what a reference is to, as far as it is known
-abbrev pub found_at : List (Option (Option ℕ)) → Ref → Option ℕ
-found_at found Void = None
-found_at found (Node y) = option_flatten (option_flatten (slice_get found y))
+abbrev pub known_size : List (Option (Option ℕ)) → Ref → Option ℕ
+known_size found Void = None
+known_size found (Node y) = option_flatten (option_flatten (slice_get found y))
 
 -- the size of what a reference is to, among those of all types
-abbrev pub kept_at : List (Option ℕ) → Ref → Option ℕ
-kept_at sizes Void = None
-kept_at sizes (Node y) = option_flatten (slice_get sizes y)
+abbrev pub size_at : List (Option ℕ) → Ref → Option ℕ
+size_at sizes Void = None
+size_at sizes (Node y) = option_flatten (slice_get sizes y)
 
 -- a type is one of a path
 abbrev pub IsOn : ℕ → List ℕ → Type 0

@@ -18,8 +18,8 @@ abbrev pub right : ℕ → ℕ → List ℕ
 right number width = spaces (width - length (decimal number)) ++ decimal number
 
 -- a count between two texts; nothing where it is 0
-abbrev pub counted : List ℕ → ℕ → List ℕ → List ℕ
-counted before count after = if nat_lt 0 count then before ++ (decimal count ++ after) else []
+abbrev pub count_text : List ℕ → ℕ → List ℕ → List ℕ
+count_text before count after = if nat_lt 0 count then before ++ (decimal count ++ after) else []
 
 abbrev pub text_of : LinePiece → List ℕ
 text_of (Text bytes) = bytes.now

@@ -60,14 +60,15 @@ size_by rest pointer Target t = rest (target_at t.targets 0)
 size_by rest pointer Unsized t = None
 
 -- a size past 2^60 is none
-abbrev pub fitting : ℕ → Option ℕ
-fitting s = if nat_le s (2 ^ 60) then Some s else None
+abbrev pub checked_size : ℕ → Option ℕ
+checked_size s = if nat_le s (2 ^ 60) then Some s else None
 
 -- the size of what a reference is to, given those of the types behind it; void has none
 abbrev pub size_from : (Ref → Option ℕ) → List CType → ℕ → Ref → Option ℕ
 size_from rest types pointer r =
     option_and_then (λ (t : CType).
-    option_and_then fitting (size_by rest pointer (size_rule t.label.kind) t)) (type_of types r)
+    option_and_then checked_size (size_by rest pointer (size_rule t.label.kind) t))
+    (type_of types r)
 
 -- the size that at most n types give, one behind the other
 abbrev pub size_in : ℕ → List CType → ℕ → Ref → Option ℕ

@@ -1,13 +1,14 @@
 //! C declarations of types.
 ghost use Rattle.std.specs.Prelude.{◌≡◌, ◌∷◌, ◌++◌, ◌+◌, ◌==◌, ◌<◌, ◌≤◌, List, [], ℕ, OnOk, IfOk};
-ghost use Rattle.std.specs.Prelude.{codes, if◌then◌else◌};
+ghost use Rattle.std.specs.Prelude.{codes, true, if◌then◌else◌};
 ghost use Rattle.c_model.specs.declared.graph.Ref.{Ref};
 ghost use Rattle.layout_printer.specs.Sizes.{type_of};
-ghost use Rattle.layout_printer.specs.Declarations.{Written, around, attribute, bound, decl};
-ghost use Rattle.layout_printer.specs.Declarations.{decl_at, decl_by, decl_in, ended, hidden};
-ghost use Rattle.layout_printer.specs.Declarations.{leads, list_at, parameter_at, parameter_decl};
+ghost use Rattle.layout_printer.specs.Declarations.{DeclParts, around, attribute, bound, decl};
+ghost use Rattle.layout_printer.specs.Declarations.{decl_at, decl_by, decl_in, ellipsis, leads};
+ghost use Rattle.layout_printer.specs.Declarations.{list_at, parameter_at, parameter_decl};
+ghost use Rattle.layout_printer.specs.Declarations.{whole_decl};
 ghost use Rattle.layout_printer.specs.Declarations.{parameter_text, parameters, part_count};
-ghost use Rattle.layout_printer.specs.Declarations.{qualified, shape_of, spaced, tag_name};
+ghost use Rattle.layout_printer.specs.Declarations.{with_word, shape_of, after_space, tag_name};
 ghost use Rattle.layout_printer.specs.Declarations.{tag_word};
 
 use crate::lookups::{target_at, type_of};
@@ -21,7 +22,7 @@ use c_model::{CType, Label, Ref};
 use std::alloc::{AllocError, Global};
 
 /// How many types a declaration follows, and so each parameter in it.
-const FOLLOWED: u32 = 64;
+const DEPTH: u32 = 64;
 
 /// A declaration: what stands for the type, and what stands for the name.
 #[derive(Drop)]
@@ -54,7 +55,7 @@ pub fn declare(
 {
     let mut draft = draft_of(alloc, name)?;
     let mut at = r;
-    for _ in 0..FOLLOWED {
+    for _ in 0..DEPTH {
         let list = list_at(alloc, types, at)?;
         match follow(alloc, types, &list, at, &mut draft)? {
             None => return finish(draft),
@@ -78,7 +79,7 @@ fn parameter(
 {
     let mut draft = draft_of(alloc, name)?;
     let mut at = r;
-    for _ in 0..FOLLOWED {
+    for _ in 0..DEPTH {
         match follow(alloc, types, b"...", at, &mut draft)? {
             None => return finish(draft),
             Some(next) => at = next,
@@ -105,7 +106,7 @@ fn draft_of(alloc: Global, name: &[u8]) -> Result<Draft, AllocError>
 fn finish(draft: Draft) -> Result<Declaration, AllocError>
     ensures { IfOk result (λ w.
         record { type_part = w.type_part.items; name_part = w.name_part.items }
-        ≡ ended draft.front.items draft.name.items draft.back.items) }
+        ≡ whole_decl draft.front.items draft.name.items draft.back.items) }
 {
     let Draft {
         mut front,
@@ -128,7 +129,7 @@ fn follow(
     r: Ref,
     draft: &mut Draft,
 ) -> Result<Option<Ref>, AllocError>
-    ensures { IfOk result (λ next. (rest : Ref → List ℕ → Written) →
+    ensures { IfOk result (λ next. (rest : Ref → List ℕ → DeclParts) →
         leads rest draft.new.front.items draft.new.name.items draft.new.back.items next
         ≡ around draft.old.front.items (decl_at rest types.now list.now
         (type_of types.now r) draft.old.name.items) draft.old.back.items) }
@@ -149,7 +150,7 @@ fn write_type(
     t: &CType<'_>,
     draft: &mut Draft,
 ) -> Result<Option<Ref>, AllocError>
-    ensures { IfOk result (λ next. (rest : Ref → List ℕ → Written) →
+    ensures { IfOk result (λ next. (rest : Ref → List ℕ → DeclParts) →
         leads rest draft.new.front.items draft.new.name.items draft.new.back.items next
         ≡ around draft.old.front.items
         (decl_by rest types.now list.now (shape_of t.now.label.kind) t.now draft.old.name.items)
@@ -157,11 +158,11 @@ fn write_type(
 {
     let target = target_at(t.targets.items(), 0);
     match shape_of(t.label.kind) {
-        Shape::Named => {
+        Shape::Name => {
             draft.front.extend_from_slice(t.label.name.bytes())?;
             Ok(None)
         }
-        Shape::Tagged => {
+        Shape::Tag => {
             put_tag(&mut draft.front, &t.label)?;
             Ok(None)
         }
@@ -170,12 +171,11 @@ fn write_type(
             Ok(None)
         }
         Shape::Annotation => {
-            let word = attribute(alloc, t.label.name.bytes())?;
-            qualify(alloc, types, &word, true, target, draft)?;
+            annotate(alloc, types, t.label.name.bytes(), target, draft)?;
             Ok(Some(target))
         }
         Shape::Pointer => {
-            draft.name = pointer_name(alloc, leads_to_list(types, target), &draft.name)?;
+            add_star(alloc, leads_to_list(types, target), &mut draft.name)?;
             Ok(Some(target))
         }
         Shape::Qualifier => {
@@ -242,9 +242,9 @@ fn qualify(
     target: Ref,
     draft: &mut Draft,
 ) -> Result<(), AllocError>
-    ensures { OnOk result ((rest : Ref → List ℕ → Written) →
+    ensures { OnOk result ((rest : Ref → List ℕ → DeclParts) →
         around draft.new.front.items (rest target draft.new.name.items) draft.new.back.items
-        ≡ around draft.old.front.items (qualified is_tag rest types.now word.now target
+        ≡ around draft.old.front.items (with_word is_tag rest types.now word.now target
         draft.old.name.items) draft.old.back.items) }
 {
     if leads_to_pointer(types, target) {
@@ -262,10 +262,10 @@ fn qualify(
 
 /// What stands for the name of a pointer with a word that says more of it.
 fn qualified_name(alloc: Global, word: &[u8], name: &[u8]) -> Result<Vec<u8>, AllocError>
-    ensures { IfOk result (λ v. v.items ≡ word.now ++ spaced name.now) }
+    ensures { IfOk result (λ v. v.items ≡ word.now ++ after_space name.now) }
 {
     let mut out = Vec::from_slice(alloc, word)?;
-    put_spaced(&mut out, name)?;
+    put_after_space(&mut out, name)?;
     Ok(out)
 }
 
@@ -277,6 +277,23 @@ fn with_attribute(alloc: Global, word: &[u8], back: &[u8]) -> Result<Vec<u8>, Al
     out.extend_from_slice(word)?;
     out.extend_from_slice(back)?;
     Ok(out)
+}
+
+/// Writes a type tag: its attribute, where `qualify` puts it.
+fn annotate(
+    alloc: Global,
+    types: &[CType<'_>],
+    tag: &[u8],
+    target: Ref,
+    draft: &mut Draft,
+) -> Result<(), AllocError>
+    ensures { OnOk result ((rest : Ref → List ℕ → DeclParts) →
+        around draft.new.front.items (rest target draft.new.name.items) draft.new.back.items
+        ≡ around draft.old.front.items (with_word true rest types.now (attribute tag.now) target
+        draft.old.name.items) draft.old.back.items) }
+{
+    let word = attribute(alloc, tag)?;
+    qualify(alloc, types, &word, true, target, draft)
 }
 
 /// The attribute that a type tag is written as.
@@ -293,6 +310,15 @@ fn attribute(alloc: Global, tag: &[u8]) -> Result<Vec<u8>, AllocError>
         ],
     )?;
     Ok(out)
+}
+
+/// Makes what stands for a name that of a pointer; in parentheses before an array or a function.
+fn add_star(alloc: Global, nested: bool, name: &mut Vec<u8>) -> Result<(), AllocError>
+    ensures { OnOk result (name.new.items ≡ (if nested then
+        codes "(*" ++ (name.old.items ++ codes ")") else codes "*" ++ name.old.items)) }
+{
+    *name = pointer_name(alloc, nested, name)?;
+    Ok(())
 }
 
 /// What stands for the name of a pointer; in parentheses before an array or a function.
@@ -317,8 +343,8 @@ fn pointer_name(alloc: Global, nested: bool, name: &[u8]) -> Result<Vec<u8>, All
 }
 
 /// Appends a space and a text, where it is not empty.
-fn put_spaced(out: &mut Vec<u8>, text: &[u8]) -> Result<(), AllocError>
-    ensures { OnOk result (out.new.items ≡ out.old.items ++ spaced text.now) }
+fn put_after_space(out: &mut Vec<u8>, text: &[u8]) -> Result<(), AllocError>
+    ensures { OnOk result (out.new.items ≡ out.old.items ++ after_space text.now) }
 {
     if text.is_empty() {
         return Ok(());
@@ -392,5 +418,5 @@ fn put_parameter(
     }
     let declaration = parameter(alloc, types, target, name)?;
     out.extend_from_slice(&declaration.type_part)?;
-    put_spaced(out, &declaration.name_part)
+    put_after_space(out, &declaration.name_part)
 }

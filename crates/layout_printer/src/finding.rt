@@ -3,10 +3,10 @@
 ghost use Rattle.std.specs.Prelude.{◌≡◌, ◌<◌, ℕ, [], length, IfOk, OnOk};
 ghost use Rattle.c_model.specs.declared.graph.Ref.TheVariants.{Node};
 ghost use Rattle.layout_printer.specs.Finding.{AreFound, IsKnown, IsWay, StaysKnown, behind};
-ghost use Rattle.layout_printer.specs.Finding.{found_at, sized, unknown_at};
+ghost use Rattle.layout_printer.specs.Finding.{known_size, size_over, unknown_at};
 
 use crate::lookups::target_at;
-use crate::sizes::{SizeRule, fitting, size_rule};
+use crate::sizes::{SizeRule, checked_size, size_rule};
 use c_model::{CType, Ref};
 use std::alloc::{AllocError, Global};
 
@@ -58,7 +58,7 @@ fn follow(
         path.push(y)?;
         at = behind(&types[y as usize]);
     }
-    let size = found_at(found, at);
+    let size = known_size(found, at);
     Ok(Way { path, size })
 }
 
@@ -70,7 +70,7 @@ fn go_back(types: &[CType<'_>], pointer: u32, found: &mut [Option<Option<u64>>],
 {
     let Way { mut path, mut size } = way;
     while let Some(y) = path.pop() {
-        size = sized(pointer, size, &types[y as usize]);
+        size = size_over(pointer, size, &types[y as usize]);
         found[y as usize] = Some(size);
     }
 }
@@ -89,8 +89,8 @@ fn unknown_at(found: &[Option<Option<u64>>], at: Ref) -> Option<u32>
 }
 
 /// The size of what a reference is to, as far as it is known.
-fn found_at(found: &[Option<Option<u64>>], at: Ref) -> Option<u64>
-    ensures { result ≡ found_at found.now at }
+fn known_size(found: &[Option<Option<u64>>], at: Ref) -> Option<u64>
+    ensures { result ≡ known_size found.now at }
 {
     match at {
         Ref::Void => None,
@@ -112,19 +112,19 @@ fn behind(t: &CType<'_>) -> Ref
 }
 
 /// The size of a type, given that of the type behind it.
-fn sized(pointer: u32, size: Option<u64>, t: &CType<'_>) -> Option<u64>
-    ensures { result ≡ sized pointer size t.now }
+fn size_over(pointer: u32, size: Option<u64>, t: &CType<'_>) -> Option<u64>
+    ensures { result ≡ size_over pointer size t.now }
 {
     match size_rule(t.label.kind) {
-        SizeRule::Stated => fitting(u128::from(t.label.size)),
-        SizeRule::Pointer => fitting(u128::from(pointer)),
+        SizeRule::Stated => checked_size(u128::from(t.label.size)),
+        SizeRule::Pointer => checked_size(u128::from(pointer)),
         SizeRule::Elements => match size {
             None => None,
-            Some(size) => fitting(u128::from(t.label.extra) * u128::from(size)),
+            Some(size) => checked_size(u128::from(t.label.extra) * u128::from(size)),
         },
         SizeRule::Target => match size {
             None => None,
-            Some(size) => fitting(u128::from(size)),
+            Some(size) => checked_size(u128::from(size)),
         },
         SizeRule::Unsized => None,
     }

@@ -1,7 +1,8 @@
 //! The lines of members.
 ghost use Rattle.std.specs.Prelude.{◌≡◌, ◌++◌, ◌<◌, ◌/◌, ◌*◌, ◌≤◌, List, IfOk, OnOk, max};
 ghost use Rattle.layout_printer.specs.declared.slots.Slot.{Slot};
-ghost use Rattle.layout_printer.specs.Text.{ago_text, boundary_text, crossed_text, declared_text};
+ghost use Rattle.layout_printer.specs.Text.{ago_text, boundary_line, boundary_text};
+ghost use Rattle.layout_printer.specs.Text.{declaration_text};
 ghost use Rattle.layout_printer.specs.Text.{hole_text, is_in_bits, line_of, member_decl};
 ghost use Rattle.layout_printer.specs.Text.{members_text, name_text, place_text, slot_text};
 ghost use Rattle.layout_printer.specs.Lines.{greatest_line};
@@ -108,7 +109,7 @@ fn put_boundary_line(
     byte: u64,
 ) -> Result<(), AllocError>
     requires { boundary ≤ byte }
-    ensures { OnOk result (out.new.items ≡ out.old.items ++ crossed_text number boundary byte) }
+    ensures { OnOk result (out.new.items ≡ out.old.items ++ boundary_line number boundary byte) }
 {
     put(
         out,
@@ -146,7 +147,7 @@ fn put_declaration<'p>(
     slot: &Slot,
 ) -> Result<(), AllocError>
     ensures { OnOk result
-        (out.new.items ≡ out.old.items ++ declared_text type_part.now name.now slot.now) }
+        (out.new.items ≡ out.old.items ++ declaration_text type_part.now name.now slot.now) }
 {
     put(
         out,

@@ -1,7 +1,7 @@
 //! Pieces of text.
 ghost use Rattle.std.specs.Prelude.{◌≡◌, ◌++◌, ◌≤◌, OnOk, length, decimal, replicate};
 ghost use Rattle.std.specs.Prelude.{if◌then◌else◌, [], ◌-◌};
-ghost use Rattle.layout_printer.specs.Pieces.{counted, text_of, texts, spaces};
+ghost use Rattle.layout_printer.specs.Pieces.{count_text, text_of, texts, spaces};
 
 use itoa::Buffer;
 use std::alloc::AllocError;
@@ -46,7 +46,7 @@ pub fn put_count<'p>(
     count: u64,
     after: &'p [u8],
 ) -> Result<(), AllocError>
-    ensures { OnOk result (out.new.items ≡ out.old.items ++ counted before.now count after.now) }
+    ensures { OnOk result (out.new.items ≡ out.old.items ++ count_text before.now count after.now) }
 {
     put_if(
         out,

@@ -14,12 +14,12 @@ use c_model::kinds::{
 use c_model::{CType, Label, Ref};
 
 /// How a type is written in a declaration.
-#[derive(Clone, Copy, PartialEq, Eq)]
+#[derive(Clone, Copy)]
 pub enum Shape {
     /// Its name.
-    Named,
+    Name,
     /// A keyword and a tag.
-    Tagged,
+    Tag,
     Pointer,
     Qualifier,
     Array,
@@ -35,11 +35,11 @@ pub fn shape_of(kind: u8) -> Shape
     ensures { result ≡ shape_of kind }
 {
     match kind {
-        BTF_KIND_INT | BTF_KIND_TYPEDEF | BTF_KIND_FLOAT => Shape::Named,
+        BTF_KIND_INT | BTF_KIND_TYPEDEF | BTF_KIND_FLOAT => Shape::Name,
         BTF_KIND_PTR => Shape::Pointer,
         BTF_KIND_ARRAY => Shape::Array,
         BTF_KIND_STRUCT | BTF_KIND_UNION | BTF_KIND_ENUM | BTF_KIND_FWD | BTF_KIND_ENUM64 =>
-            Shape::Tagged,
+            Shape::Tag,
         BTF_KIND_VOLATILE | BTF_KIND_CONST | BTF_KIND_RESTRICT => Shape::Qualifier,
         BTF_KIND_FUNC_PROTO => Shape::Function,
         BTF_KIND_TYPE_TAG => Shape::Annotation,

@@ -2,8 +2,8 @@
 ghost use Rattle.std.specs.Prelude.{◌≡◌, ◌<◌, ◌≤◌, ◌^◌, List, IfOk, IfSome, length, map};
 ghost use Rattle.std.specs.Option.{option_flatten};
 ghost use Rattle.c_model.specs.declared.graph.CType.{CType};
-ghost use Rattle.layout_printer.specs.Finding.{kept_at};
-ghost use Rattle.layout_printer.specs.Sizes.{AreSizes, fitting, is_long, pointer_of, size_of};
+ghost use Rattle.layout_printer.specs.Finding.{size_at};
+ghost use Rattle.layout_printer.specs.Sizes.{AreSizes, checked_size, is_long, pointer_of, size_of};
 ghost use Rattle.layout_printer.specs.Sizes.{size_rule};
 
 use crate::finding::find;
@@ -20,7 +20,7 @@ use std::alloc::{AllocError, Global};
 const MOST: u128 = 1 << 60;
 
 /// What gives a type its size.
-#[derive(Clone, Copy, PartialEq, Eq)]
+#[derive(Clone, Copy)]
 pub enum SizeRule {
     /// Its own size word.
     Stated,
@@ -51,13 +51,13 @@ impl Sizes {
         ensures fits { (types : List CType) → AreSizes types self.now
             → IfSome result (λ s. s ≤ 2 ^ 60) }
     {
-        kept_at(&self.items, r)
+        size_at(&self.items, r)
     }
 }
 
 /// The size of what a reference is to, among those of all types.
-fn kept_at(sizes: &[Option<u64>], r: Ref) -> Option<u64>
-    ensures { result ≡ kept_at sizes.now r }
+fn size_at(sizes: &[Option<u64>], r: Ref) -> Option<u64>
+    ensures { result ≡ size_at sizes.now r }
 {
     match r {
         Ref::Void => None,
@@ -130,12 +130,12 @@ pub fn sizes_of(alloc: Global, table: &Table<'_>, pointer: u32) -> Result<Sizes,
     for x in 0..types.len() as u32 {
         find(alloc, types, pointer, &mut found, x)?;
     }
-    let items = known(alloc, &found)?;
+    let items = all_sizes(alloc, &found)?;
     Ok(Sizes { pointer, items })
 }
 
 /// The sizes that are found.
-fn known(alloc: Global, found: &[Option<Option<u64>>]) -> Result<Vec<Option<u64>>, AllocError>
+fn all_sizes(alloc: Global, found: &[Option<Option<u64>>]) -> Result<Vec<Option<u64>>, AllocError>
     ensures { IfOk result (λ v. v.items ≡ map option_flatten found.now) }
 {
     let mut items = Vec::with_capacity(alloc, found.len())?;
@@ -146,8 +146,8 @@ fn known(alloc: Global, found: &[Option<Option<u64>>]) -> Result<Vec<Option<u64>
 }
 
 /// A size, where it does not pass 2^60.
-pub fn fitting(size: u128) -> Option<u64>
-    ensures { result ≡ fitting size }
+pub fn checked_size(size: u128) -> Option<u64>
+    ensures { result ≡ checked_size size }
 {
     if size > MOST { None } else { Some(size as u64) }
 }

@@ -12,7 +12,7 @@ loop-name-init c = record {
   within = omega arith;
   begins = refl;
   index = λ (name : List ℕ).
-      ap (λ (es : List (List ℕ × ℕ)). value_of name es) c.no_offsets-held.ensures;
+      ap (λ (es : List (List ℕ × ℕ)). value_of name es) c.no_offsets-base_offsets.ensures;
 }
 
 pub overflow_cast-at : goal.overflow_cast-at
@@ -38,9 +38,10 @@ loop-name-smaller c =
 pub loop-name-preserved : goal.loop-name-preserved
 loop-name-preserved c =
     let e : text_of c.args.section.now c.loop-name.at ≡ Some c.bytes-text.result.now = cc in
-    index_push c.args.section.now c.bytes-text.result.now c.loop-name.at c.loop-name.held.entries
-    c.note.new.held.entries e c.loop-name.invariant (rw c.bytes-text.ensures c.in_ok-note.ensures)
+    index_push c.args.section.now c.bytes-text.result.now c.loop-name.at
+    c.loop-name.base_offsets.entries c.note.new.base_offsets.entries e
+    c.loop-name.invariant (rw c.bytes-text.ensures c.in_ok-note.ensures)
 
 pub returns : goal.returns
-returns c = all_indexed c.args.section.now c.loop-name.at c.loop-name.held.entries
+returns c = all_indexed c.args.section.now c.loop-name.at c.loop-name.base_offsets.entries
     (cc) c.loop-name.invariant

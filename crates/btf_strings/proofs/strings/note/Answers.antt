@@ -4,5 +4,5 @@ use Rattle.btf_strings.proofs.strings.note.Goals as goal
 
 pub returns-in_ok-insert-in-None : goal.returns-in_ok-insert-in-None
 returns-in_ok-insert-in-None c =
-    noted_now c.args.text c.args.at c.args.held.now.entries c.insert.new.self.entries
+    noted_now c.args.text c.args.at c.args.base_offsets.now.entries c.insert.new.self.entries
     (sym c.in-None.ensures.value) c.in_ok-insert-in-None.ensures.updates.0

@@ -36,7 +36,7 @@ pub returns-clause-way : goal.returns-clause-way
 returns-clause-way c = λ pointer f. record {
   at = c.loop-y.at;
   chain = c.loop-y.invariant.chain;
-  size = c.found_at-size.ensures
+  size = c.known_size-size.ensures
       ∙ way_size c.args.types.now pointer c.args.found.now c.loop-y.found c.loop-y.path.items
       c.loop-y.at c.args.x c.loop-y.invariant f (sym c.in_default.ensures);
   right = found_way c.args.types.now pointer c.args.found.now c.loop-y.found c.loop-y.path.items

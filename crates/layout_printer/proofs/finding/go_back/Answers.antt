@@ -29,5 +29,5 @@ loop-y-preserved c =
     slice_get_read types
     (length types) c.in-Some.y c.index-types-y.result refl lt c.index-types-y.is in
     return_on types c.args.pointer c.args.found.now c.loop-y.found c.loop-y.path.items
-    c.pop.new.self.items c.loop-y.size c.sized-size.result c.in-Some.y c.index-types-y.result
-    c.loop-y.invariant items there c.sized-size.ensures
+    c.pop.new.self.items c.loop-y.size c.size_over-size.result c.in-Some.y c.index-types-y.result
+    c.loop-y.invariant items there c.size_over-size.ensures

@@ -1,6 +1,6 @@
 use Rattle.std.proofs.Common.{◌≡◌, ◌*◌, ◌/◌, ◌++◌, List, ap, ◌∙◌, arith}
 use Rattle.std.proofs.lemmas.Result.{on_ok_weaker}
-use Rattle.layout_printer.specs.Text.{crossed_text}
+use Rattle.layout_printer.specs.Text.{boundary_line}
 use Rattle.layout_printer.specs.Lines.{greatest_line}
 use Rattle.layout_printer.specs.declared.slots.Slot.{Slot}
 use Rattle.layout_printer.proofs.Boundaries.{boundary_none, boundary_some}
@@ -13,18 +13,20 @@ returns-then-number-greatest c =
     c.args.out.now.items c.line_of-number.ensures.value g c.if-number-greatest.true
 
 pub overflow_mul-number : goal.overflow_mul-number
-overflow_mul-number c = let e : c.line_of-number.result * c.from.result ≡ c.line_of-number.result
-    * c.args.line = ap (λ n. c.line_of-number.result * n) c.from.ensures in
+overflow_mul-number c =
+    let e : c.line_of-number.result * c.from.result ≡ c.line_of-number.result * c.args.line =
+    ap (λ n. c.line_of-number.result * n) c.from.ensures in
     omega (arith, e, c.line_of-number.ensures.within)
 
 pub put_boundary_line-requires : goal.put_boundary_line-requires
-put_boundary_line-requires c = let e : c.line_of-number.result * c.from.result ≡ c.line_of-number.result
-    * c.args.line = ap (λ n. c.line_of-number.result * n) c.from.ensures in
+put_boundary_line-requires c =
+    let e : c.line_of-number.result * c.from.result ≡ c.line_of-number.result * c.args.line =
+    ap (λ n. c.line_of-number.result * n) c.from.ensures in
     omega (arith, e, c.line_of-number.ensures.within)
 
 pub returns : goal.returns
 returns c = on_ok_weaker c.put_boundary_line.result
-    (λ (e : c.put_boundary_line.new.out.items ≡ c.args.out.now.items ++ crossed_text
+    (λ (e : c.put_boundary_line.new.out.items ≡ c.args.out.now.items ++ boundary_line
     c.line_of-number.result (c.line_of-number.result * c.from.result) (c.args.slot.now.start
     / 8)) (earlier : List Slot) (g : c.args.greatest ≡ greatest_line c.args.line earlier).
     e ∙ ap (λ t. c.args.out.now.items ++ t)

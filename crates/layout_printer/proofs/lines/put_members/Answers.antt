@@ -1,6 +1,6 @@
 use Rattle.std.proofs.Common.{◌++◌, ◌∙◌, ap, false, get_or, take, arith}
 use Rattle.layout_printer.specs.Text.{slot_text}
-use Rattle.layout_printer.specs.Declarations.{Written}
+use Rattle.layout_printer.specs.Declarations.{DeclParts}
 use Rattle.layout_printer.specs.declared.slots.Slot.{Slot}
 use Rattle.layout_printer.proofs.Membering.{members_more}
 use Rattle.layout_printer.proofs.Boundaries.{greatest_more}
@@ -17,7 +17,7 @@ loop-place-preserved c =
           c.args.out.now.items c.loop-place.out.items c.put_member.new.out.items
           c.loop-place-test.true c.loop-place.invariant.written
           (c.in_ok-put_member.ensures earlier c.loop-place.invariant.greatest
-          ∙ ap (λ (w : Written). c.loop-place.out.items
+          ∙ ap (λ (w : DeclParts). c.loop-place.out.items
           ++ slot_text c.args.line earlier w (get_or slots c.loop-place.place none))
           c.in_ok-declaration.ensures);
       greatest =

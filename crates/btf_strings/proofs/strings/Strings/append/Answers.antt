@@ -12,8 +12,8 @@ placed c =
     c.in_ok-insert.ensures.entries
     ∙ insert_entry-new
     (λ (a b : List ℕ). bytes_eq a b) c.self.inside.places c.args.name c.args.at
-    (is_new (option_copied c.self.inside.base) c.self.inside.held.entries c.self.inside.own.items
-    c.self.inside.places.entries c.args.name c.self.invariant
+    (is_new (option_copied c.self.inside.base) c.self.inside.base_offsets.entries
+    c.self.inside.own.items c.self.inside.places.entries c.args.name c.self.invariant
     (ap (λ (t : Names). offset_of t c.args.name) c.self.view_is ∙ c.requires.new))
 
 pub invariant_of-self-2 : goal.invariant_of-self-2
@@ -23,7 +23,7 @@ invariant_of-self-2 c =
     ∙ ap (λ (xs : List ℕ). xs ++ 0 ∷ []) (c.in_ok-extend_from_slice.ensures.items
     ∙ ap₂ (λ (xs ys : List ℕ). xs ++ ys) c.reserve.ensures.items c.bytes-bytes.ensures) in
     rw (own, placed c)
-    (kept_with_one_more (option_copied c.self.inside.base) c.self.inside.held.entries
+    (kept_with_one_more (option_copied c.self.inside.base) c.self.inside.base_offsets.entries
     c.self.inside.own.items c.self.inside.places.entries c.args.name c.args.at c.self.invariant
     (c.requires.at ∙ ap (λ (t : Names). next_offset t) (sym c.self.view_is)) c.requires.room)
 

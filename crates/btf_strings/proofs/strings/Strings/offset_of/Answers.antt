@@ -28,7 +28,7 @@ returns-in-Some-clause-value c =
     let same : length c.bytes-bytes.result.now ≡ length c.args.name =
     ap (λ (xs : List ℕ). length xs) c.bytes-bytes.ensures in
     found_in_base
-    (option_copied c.self.inside.base) c.self.inside.held.entries c.self.inside.own.items
+    (option_copied c.self.inside.base) c.self.inside.base_offsets.entries c.self.inside.own.items
     c.self.inside.places.entries c.args.name c.in-Some.at.now c.self.invariant (omega arith)
     (sym c.in-Some.ensures.value)
     ∙ ap (λ (t : Names). offset_of t c.args.name) c.self.view_is
@@ -47,7 +47,7 @@ returns-in-None-clause-value c =
     ap (λ (xs : List ℕ). length xs) c.bytes-bytes.ensures in
     c.copied.ensures
     ∙ c.get-in-None.ensures.value
-    ∙ found_in_own (option_copied c.self.inside.base) c.self.inside.held.entries
+    ∙ found_in_own (option_copied c.self.inside.base) c.self.inside.base_offsets.entries
     c.self.inside.own.items c.self.inside.places.entries c.args.name c.self.invariant
     (omega arith)
     (sym c.in-None.ensures.value)
