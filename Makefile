@@ -30,8 +30,8 @@ test:
 # every definition on the way from `run` to bytes, and every edit, in the folder made
 pages:
 	mkdir -p made
-	python3 -B checks/lib/definitions.py . made/DEFINITIONS.md
-	python3 -B checks/lib/bugs.py . made/EDITS.md
+	python3 -B checks/lib/definitions.py made/DEFINITIONS.md
+	python3 -B checks/lib/bugs.py made/EDITS.md
 
 # PAHOLE=path measures another program, RUNS=n times each row so often, VMLINUX=path names a kernel,
 # REAL=folder one of other programs (tools/real-programs.sh builds some). It also runs the check of
