@@ -46,7 +46,8 @@ def wrong_links(page):
 def check_page(page):
     paths = [path for block in blocks(read(page)) for path in paths_of(*block)]
     faults = [f"no {word}" for word, files in paths if not files]
-    tell(f"paths of {page}", [*faults, *wrong_options(page), *wrong_links(page)], f"{len(paths)} paths")
+    faults += [*wrong_options(page), *wrong_links(page)]
+    tell(f"paths of {page}", faults, f"{len(paths)} paths")
 
 
 def check_proof():
