@@ -2,13 +2,13 @@
 # encodes a file with it, `make test` is the gate and the repository's own checks, `make pages` lists
 # all definitions and edits. What takes long is run by hand: `make measure`, `make turns` and `make
 # drawn` (docs/BENCHMARKS.md), `make agree`, `make ways` and `make kernels` (docs/COMPAT.md), `make
-# plants`, `make edits`, `make unseen` and `make memory` (docs/CONTRIBUTING.md).
+# damage`, `make plants`, `make edits`, `make unseen` and `make memory` (docs/CONTRIBUTING.md).
 PROGRAM = crates/pahole/out/pahole
 
 SHELL = bash
 
-.PHONY: pahole install demo test pages measure turns drawn agree ways kernels plants unseen edits \
-  memory
+.PHONY: pahole install demo test pages measure turns drawn damage agree ways kernels plants unseen \
+  edits memory
 
 pahole:
 	@. checks/lib/toolchain.sh
@@ -30,12 +30,13 @@ test:
 # every definition on the way from `run` to bytes, and every edit, in the folder made
 pages:
 	mkdir -p made
-	python3 -B checks/lib/definitions.py . made/DEFINITIONS.md
-	python3 -B checks/lib/bugs.py . made/EDITS.md
+	python3 -B checks/lib/definitions.py made/DEFINITIONS.md
+	python3 -B checks/lib/bugs.py made/EDITS.md
 
 # PAHOLE=path measures another program, RUNS=n times each row so often, VMLINUX=path names a kernel,
-# REAL=folder one of other programs (tools/real-programs.sh builds some). It also runs the check of
-# growth over files five times as large, and with LARGE=1 that of damage (10,000 runs)
+# MODULES=folder its modules, NEWEST=path a newer pahole of dwarves, and REAL=folder other programs
+# (PROGRAMS=postgres tools/real-programs.sh builds the one that docs/BENCHMARKS.md has). MORE=1 has
+# more rows, and runs the check of growth over files five times as large
 measure:
 	bash tools/measure.sh $(VMLINUX)
 
@@ -47,6 +48,10 @@ turns:
 # default 100) that the dice of SEED=n draw
 drawn:
 	python3 -B tools/drawn.py $(PROGRAM) $(or $(COUNT),100) $(SEED)
+
+# damages files so often as RUNS=n says, by the dice of SEED=n, in JOBS=n processes
+damage:
+	RUNS=$(RUNS) SEED=$(SEED) JOBS=$(JOBS) bash checks/damage.sh
 
 # whether Debian's tool pahole, or one whose path is PEER, writes the same types for FILES='a b',
 # compared by what they are; FUNCS=1 looks at functions, too

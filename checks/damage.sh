@@ -1,13 +1,13 @@
 #!/usr/bin/env bash
-# Damages real files, and small ones that are made to be hostile, RUNS times (by default 3,000),
-# always the same way: bytes are changed, copied from elsewhere, left out or put in, a number is set
-# to the least or the greatest, or the file is cut off, half of the time in debugging information.
-# Each time the built program, with options that change from run to run, ends within seconds with
-# status 0, 1, 3 or 5, by no signal, stores or prints nothing unless it ends with 0, and complains
-# one line of its form, or nothing on 0. The real files are the program of demo/ for this machine
-# and, where compilers for them are installed, for others, of DWARF 4 and 5, as relocatable objects,
-# as dwz leaves it, and with type tags of clang; BTF files, and split tables over a base, of which
-# one or the other is damaged.
+# Damages real files, and small ones that are made to be hostile, RUNS times (by default 3,000), as
+# the dice of the number SEED have it, in JOBS processes (by default one). Bytes are changed, copied
+# from elsewhere, left out or put in, a number is set to the least or the greatest, or the file is
+# cut off, half of the time in debugging information. Each time the built program, with options that
+# change from run to run, ends within ten seconds with status 0, 1, 3 or 5, by no signal, stores or
+# prints nothing unless it ends with 0, and complains one line of its form, or nothing on 0. The
+# real files are the program of demo/ for this machine and, where compilers for them are installed,
+# for others, of DWARF 4 and 5, as relocatable objects, as dwz leaves it, and with type tags of
+# clang; BTF files, and split tables over a base, of which one or the other is damaged.
 set -u
 export LC_ALL=C
 . "$(dirname "$0")/lib/program.sh"
@@ -47,4 +47,5 @@ tables() {
     "$program" --btf_encode_detached=btf.split --btf_base=btf.base elf.1
 }
 (tables) || echo "failed damage: the base or the table over it can't be made"
-python3 -B "$root/checks/lib/damage.py" "$program" "$scratch" ${RUNS:+"$RUNS"}
+python3 -B "$root/checks/lib/damage.py" "$program" "$scratch" "${RUNS:-3000}" \
+  "${SEED:-20261127}" "${JOBS:-1}"

@@ -8,6 +8,6 @@ export LC_ALL=C.UTF-8
 root=$(cd "$(dirname "$0")/.." && pwd) || exit 2
 . "$root/checks/lib/need.sh"
 need docs python3
-python3 -B "$root/checks/lib/docs.py" "$root"
-python3 -B "$root/checks/lib/bugs.py" "$root"
-python3 -B "$root/checks/lib/errors.py" "$root"
+for script in docs bugs errors; do
+  python3 -B "$root/checks/lib/$script.py"
+done

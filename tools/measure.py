@@ -1,7 +1,11 @@
-"""measure.py PROGRAM ROOT FOLDER RUNS [VMLINUX]: the rows of docs/BENCHMARKS.md. Each row is a run
-of PROGRAM over an input that is found on this machine or made in FOLDER: its time, its memory,
-and what came of it. Prints the rows as a table, with the machine and the tools, and a line
-`skipped NAME: ..` or `failed NAME: ..` on standard error for a row that there is not."""
+"""measure.py PROGRAM ROOT FOLDER RUNS [VMLINUX]: every number of README.md's table and of the
+tables of docs/BENCHMARKS.md. Each row is a run of PROGRAM, or of dwarves' pahole, over an input
+that is found on this machine or made in FOLDER: its time, its memory, and what came of it. Prints
+the rows as a table, with the machine and the tools, then README.md's table and how the programs
+stand to each other; and a line `skipped NAME: ..` or `failed NAME: ..` on standard error for a row
+that there is not. NEWEST is the path of a newer pahole to measure beside the one that is installed,
+MODULES the folder of the kernel's modules, where that isn't beside it, REAL that of other programs;
+with MORE=1 there are rows that no page has."""
 import collections
 import glob
 import json
@@ -16,8 +20,9 @@ import sys
 import time
 
 sys.path.append(os.path.join(os.path.dirname(os.path.abspath(__file__)), "..", "checks", "lib"))
+import hostile
 from btf import KINDS as BTF_KINDS, count, kinds
-from made import KINDS, Made
+from made import Made
 
 KERNELS = "/usr/lib/debug/boot/vmlinux-*"
 PACKAGE = (
@@ -29,6 +34,7 @@ TIMER = "/usr/bin/time"
 
 Run = collections.namedtuple("Run", "wall used memory")
 Row = collections.namedtuple("Row", "what given words")
+Peer = collections.namedtuple("Peer", "name path")
 # what each made input shows; its numbers are counted
 MADE_ROWS = {
     "apart": "units whose types all differ",
@@ -43,19 +49,21 @@ KERNEL, FUNCS = "a kernel, types alone", "a kernel with functions"
 KERNEL_LAYOUT = "a layout of a kernel"
 TABLE = "the layouts of a running kernel's BTF"
 OVER = "a program over that BTF"
-PEER = "dwarves"
 ONE = "one thread"
-# modules of a kernel that stand beside it, in ../lib/modules, and are encoded over its table
-MODULES = ["xfs.ko", "btrfs.ko", "mac80211.ko", "amdgpu.ko"]
+# modules of a kernel, which are encoded over its table
+MODULES = ["amdgpu.ko", "xfs.ko"]
 MADE = "a made input of 2,100,224 types"
-MODULE, MODULE_PEER = "{}, types alone", "{}, dwarves"
 MADE_NUMBER, MADE_LINE = 8388607, b"units 1024, entries 2100224, types 16387, bytes 398366\n"
-# other programs, which tools/real-programs.sh builds: the files of the folder REAL, each by another
-# program too
-REAL, REAL_PEER = "{} with functions", "{}, dwarves"
-
-
-said = []
+# files over which the work grows with the square, with so many of what makes each; whether dwarves'
+# pahole is measured, too
+SQUARES = {
+    "structures of one long name": (10_000, True),
+    "units at different offsets of one table": (5_000, True),
+    "relocations of the same bytes": (10_000, True),
+    "layouts of typedefs of one structure": (2_000, False),
+}
+said, taken = [], {}
+MORE = os.environ.get("MORE")
 
 
 def say(line):
@@ -126,7 +134,8 @@ def outcome(folder):
     stored = f"{folder}/o"
     if os.path.exists(stored):
         table = read(stored)
-        return f"{number(len(table))} bytes of BTF, {number(count(table))} types"
+        structures = f"{number(kinds(table)['STRUCT'])} structures"
+        return f"{number(len(table))} bytes of BTF, {number(count(table))} types, {structures}"
     printed = read(f"{folder}/printed")
     lines = printed.count(b"\n")
     return f"{number(lines)} line{'s' * (lines != 1)}"
@@ -151,6 +160,7 @@ def show(row, folder, runs, look=lambda row: None):
         outcome(folder),
     ]
     print(f"| {' | '.join(cells)} |", flush=True)
+    taken[row.what] = run
     look(row)
     return read(stored) if os.path.exists(stored) else b""
 
@@ -163,7 +173,17 @@ def tool(words, pattern=r"(.*)"):
     return found[1] if found else None
 
 
-def machine(program, runs):
+def installed_peers():
+    """dwarves' pahole that is installed, and the one that is named."""
+    for path in ("pahole", os.environ.get("NEWEST", "")):
+        version = path and tool([path, "--version"], r"v(\S+)")
+        if version:
+            yield Peer(f"dwarves {version}", path)
+        else:
+            say(f"skipped dwarves {path or 'of NEWEST'}: it is not there")
+
+
+def machine(program, runs, peers):
     """What this was measured on, and with."""
     model = re.search(r"^model name\s*:\s*(.*)$", read("/proc/cpuinfo").decode(), re.M)
     memory = int(re.search(r"MemTotal:\s*(\d+)", read("/proc/meminfo").decode())[1]) * 1024
@@ -171,7 +191,7 @@ def machine(program, runs):
         "": tool(["rt", "version"]),
         "Python ": platform.python_version(),
         "hyperfine ": tool(["hyperfine", "--version"], r"hyperfine (\S+)"),
-        "pahole ": tool(["pahole", "--version"], r"v(\S+)"),
+        **{peer.name: "" for peer in peers},
     }
     name = model[1] if model else platform.machine()
     load = os.getloadavg()[0]
@@ -179,7 +199,7 @@ def machine(program, runs):
         f"Machine: {os.cpu_count()} processors ({name}), {round(memory / 1e9)} GB, "
         f"Linux {platform.release()}, at a load of {load:.1f}."
     )
-    print(f"Tools: {', '.join(what + version for what, version in told.items() if version)}.")
+    print(f"Tools: {', '.join(what + it for what, it in told.items() if it is not None)}.")
     each = "that of one run" if runs == 1 else f"the median of {runs} runs"
     print(f"The program has {number(os.path.getsize(program))} bytes. Each time is {each}.")
     print()
@@ -187,44 +207,73 @@ def machine(program, runs):
     print("|---|---|---|---|---|---|", flush=True)
 
 
-def kernel(program, folder, runs, named):
-    """A kernel with its DWARF: its table with functions and without them, by one thread and by
-    more, each beside that of dwarves, and a layout. Answers the tables: without functions, with
-    them, and that of dwarves."""
+def kernel_path(named):
+    """The kernel that is named, or the last one that is installed with its DWARF."""
     found = [named] if named else sorted(glob.glob(KERNELS))
-    if not found:
-        say(f"skipped {KERNEL}: there is no {KERNELS}; the package {PACKAGE}")
-        return b"", b"", b""
-    path, most = os.path.abspath(found[-1]), min(os.cpu_count(), 256)
+    return os.path.abspath(found[-1]) if found else None
+
+
+def threads_told(threads):
+    return ONE if threads == 1 else f"`-j{threads}`"
+
+
+def kernel(program, folder, runs, path, peers):
+    """A kernel with its DWARF: its table with functions and without them, by one thread and by
+    four, beside those of dwarves. Answers the tables: without functions, with them, and that of
+    dwarves."""
     inputs = iter([f"`{os.path.basename(path)}`, {number(os.path.getsize(path))} bytes"])
 
     def row(what, threads, *words):
-        told = ONE if threads == 1 else f"`-j{threads}`"
         words = [*words, "--btf_encode_detached=o", path] + [f"-j{threads}"] * (threads > 1)
-        return show(Row(f"{what}, {told}", next(inputs, "the same"), words), folder, runs)
+        name = f"{what}, {threads_told(threads)}"
+        return show(Row(name, next(inputs, "the same"), words), folder, runs)
 
-    has_peer = tool(["pahole", "--version"], r"v(\S+)")
-    if not has_peer:
-        say(f"skipped {PEER}: it is not installed")
-    funcs, theirs = [], [b""]
-    for threads in (1, most):
+    funcs, ours, theirs = [], [], [b""]
+    for threads in (1, 4):
         funcs.append(row(FUNCS, threads, program, "--funcs"))
-        if has_peer:
-            theirs.append(row(PEER, threads, "pahole"))
-    ours = [row(KERNEL, threads, program) for threads in sorted({1, 2, most})]
+        theirs += [row(peer.name, threads, peer.path) for peer in peers]
+        ours.append(row(KERNEL, threads, program))
     for what, tables in ((FUNCS, funcs), (KERNEL, ours)):
         if len(set(tables)) > 1:
             say(f"failed {what}: another table by another number of threads")
-    words = [program, "-C", "list_head", path]
-    show(Row(KERNEL_LAYOUT, "the same, `-C list_head`", words), folder, runs)
+    if MORE:
+        words = [program, "-C", "list_head", path]
+        show(Row(KERNEL_LAYOUT, "the same, `-C list_head`", words), folder, runs)
     return ours[0], funcs[0], theirs[-1]
+
+
+def cells_of(run):
+    return f"{seconds(run.wall)} | {seconds(run.used)} | {number(round(run.memory / 1e6))} MB"
+
+
+def print_readme(peers):
+    """The table of README.md."""
+    print("\n| Program | Stores | Time | CPU time | Peak memory |\n|---|---|---|---|---|")
+    told = [("this pahole", "types and functions", FUNCS)]
+    told += [(peer.name, "types, functions, variables", peer.name) for peer in peers]
+    for name, stores, what in [*told, ("this pahole", "types", KERNEL)]:
+        for threads, option in ((1, ""), (4, ", `-j4`")):
+            run = taken.get(f"{what}, {threads_told(threads)}")
+            if run:
+                print(f"| {name}{option} | {stores} | {cells_of(run)} |")
+
+
+def print_ratios(peers):
+    """How this program stands to each other one on the kernel."""
+    print("\n| Beside | Stores | CPU time, one thread | Time, `-j4` |\n|---|---|---|---|")
+    for peer in peers:
+        for what in (FUNCS, KERNEL):
+            one, its_one = (taken[f"{name}, {ONE}"] for name in (what, peer.name))
+            four, its_four = (taken[f"{name}, `-j4`"] for name in (what, peer.name))
+            ratios = f"{one.used / its_one.used:.2f} | {four.wall / its_four.wall:.2f}"
+            print(f"| {peer.name} | {what} | {ratios} |")
 
 
 def read_back(folder):
     """A reader of what is stored over the kernel's table, where bpftool is installed: it tells
     where that reads another number of types."""
     if not shutil.which("bpftool"):
-        say(f"skipped {MODULE.format('read back')}: bpftool is not installed")
+        say("skipped modules read back: bpftool is not installed")
         return lambda row: None
 
     def look(row):
@@ -240,48 +289,52 @@ def read_back(folder):
     return look
 
 
-def modules(program, folder, runs, named, base):
-    """Modules of the kernel over the table that was made of it, each by another program too."""
-    found = [named] if named else sorted(glob.glob(KERNELS))
-    place = os.path.dirname(os.path.dirname(os.path.abspath(found[-1]))) if found else ""
-    has_peer = tool(["pahole", "--version"], r"v(\S+)")
+def beside(row, folder, runs, peers, look=lambda row: None):
+    """A row of this program, and one of each other program, whose words have its path first."""
+    show(row, folder, runs, look)
+    for peer in peers:
+        words = [peer.path, *(word for word in row.words[1:] if word != "--funcs")]
+        name = f"{row.what.split(',')[0].removesuffix(' with functions')}, {peer.name}"
+        show(Row(name, "the same", words), folder, runs)
+
+
+def modules(program, folder, runs, path, base, peers):
+    """Modules of the kernel over the table that was made of it, each by the others, too."""
+    top = os.path.dirname(os.path.dirname(path))
+    place = os.environ.get("MODULES") or f"{top}/lib/modules"
     with open(f"{folder}/base", "wb") as file:
         file.write(base)
     reader = read_back(folder)
     for name in MODULES:
-        paths = glob.glob(f"{place}/lib/modules/*/kernel/**/{name}", recursive=True)
+        paths = glob.glob(f"{place}/**/{name}", recursive=True)
         if not base or not paths:
-            say(f"skipped {name}: it does not stand beside a kernel that is measured")
+            say(f"skipped {name}: it is not in {place}")
             continue
         given = f"{number(os.path.getsize(paths[0]))} bytes, over the kernel's table"
         words = [program, "--btf_encode_detached=o", "--btf_base=base", paths[0]]
-        show(Row(MODULE.format(name), given, words), folder, runs, reader)
-        if has_peer:
-            words = ["pahole", "--btf_base=base", "--btf_encode_detached=o", paths[0]]
-            show(Row(MODULE_PEER.format(name), "the same", words), folder, runs)
+        beside(Row(f"{name}, types alone", given, words), folder, runs, peers, reader)
 
 
-def real_programs(program, folder, runs):
-    """Programs that users have, each by another program too."""
-    has_peer = tool(["pahole", "--version"], r"v(\S+)")
+def real_programs(program, folder, runs, peers):
+    """Programs that users have, which tools/real-programs.sh builds, each by the others, too."""
     for path in sorted(glob.glob(f"{os.environ.get('REAL', '')}/*")):
         if not os.path.isfile(path) or read(path)[:4] != b"\x7fELF":
             continue
-        name = os.path.basename(path)
-        given = f"{number(os.path.getsize(path))} bytes"
-        show(
-            Row(REAL.format(name), given, [program, "--btf_encode_detached=o", "--funcs", path]),
-            folder,
-            runs,
-        )
-        if has_peer:
-            show(
-                Row(
-                    REAL_PEER.format(name), "the same", ["pahole", "--btf_encode_detached=o", path]
-                ),
-                folder,
-                runs,
-            )
+        name, given = os.path.basename(path), f"{number(os.path.getsize(path))} bytes"
+        words = [program, "--btf_encode_detached=o", "--funcs", path]
+        beside(Row(f"{name} with functions", given, words), folder, runs, peers)
+
+
+def squares(program, folder, peers):
+    """Files over which the work is known to grow with the square."""
+    for kind in hostile.KINDS:
+        if kind.name in SQUARES:
+            count, has_peers = SQUARES[kind.name]
+            data = kind.file(count)
+            with open(f"{folder}/a", "wb") as file:
+                file.write(data)
+            row = Row(kind.name, f"{number(len(data))} bytes", [program, *kind.words(count)])
+            beside(row, folder, 1, peers if has_peers else [])
 
 
 def made_number(program, folder, runs):
@@ -350,28 +403,35 @@ def made_inputs(program, root, folder, runs):
         os.remove(path)
 
 
-def phases(program, root, named):
+def phases(program, root, path):
     """What each phase takes over a kernel with one worker."""
-    found = [named] if named else sorted(glob.glob(KERNELS))
-    if found:
-        print(flush=True)
-        subprocess.run(
-            [sys.executable, "-B", f"{root}/tools/phases.py", program, found[-1]], check=False
-        )
+    print(flush=True)
+    subprocess.run([sys.executable, "-B", f"{root}/tools/phases.py", program, path], check=False)
 
 
 def main():
     program, root, folder, runs = os.path.abspath(sys.argv[1]), *sys.argv[2:4], int(sys.argv[4])
-    machine(program, runs)
-    ours, funcs, theirs = kernel(program, folder, runs, sys.argv[5] if len(sys.argv) > 5 else None)
-    modules(program, folder, runs, sys.argv[5] if len(sys.argv) > 5 else None, ours)
+    peers = list(installed_peers())
+    path = kernel_path(sys.argv[5] if len(sys.argv) > 5 else None)
+    machine(program, runs, peers)
+    tables = []
+    if path:
+        tables = kernel(program, folder, runs, path, peers)
+        modules(program, folder, runs, path, tables[0], peers)
+    else:
+        say(f"skipped {KERNEL}: there is no {KERNELS}; the package {PACKAGE}")
+    real_programs(program, folder, runs, peers)
     table(program, root, folder, runs)
-    real_programs(program, folder, runs)
-    made_number(program, folder, runs)
-    made_inputs(program, root, folder, runs)
-    if ours and funcs and theirs:
-        compare(ours, funcs, theirs)
-    phases(program, root, sys.argv[5] if len(sys.argv) > 5 else None)
+    squares(program, folder, peers)
+    if MORE:
+        made_number(program, folder, runs)
+        made_inputs(program, root, folder, runs)
+    if tables:
+        print_readme(peers)
+        print_ratios(peers)
+    if tables and MORE:
+        compare(*tables)
+        phases(program, root, path)
     return any(line.startswith("failed ") for line in said)
 
 

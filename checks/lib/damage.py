@@ -1,18 +1,20 @@
-"""damage.py PROGRAM FOLDER [RUNS]: runs PROGRAM so often (by default RUNS of this file) on
-damaged copies of FOLDER's files elf.*, btf.base and btf.split, and of small ones of all kinds of
-hostile.py, with options that change from run to run."""
+"""damage.py PROGRAM FOLDER RUNS SEED JOBS: runs PROGRAM so often on damaged copies of FOLDER's
+files elf.*, btf.base and btf.split, and of small ones of all kinds of hostile.py, with options that
+change from run to run. The dice of SEED draw them, and those of the numbers behind it where the
+runs are dealt to several JOBS."""
 import collections
 import glob
+import multiprocessing
 import os
 import random
 import re
 import subprocess
 import sys
+import time
 
 import hostile
 from elf import sections
 
-RUNS = 3000
 SECONDS = 10
 # how a run may end: 2 is for words alone, and 4 for want of memory, which no small file needs
 STATUSES = (0, 1, 3, 5)
@@ -170,26 +172,39 @@ def run(program, folder, words):
     return ended.returncode, wrong(ended.returncode, ended.stderr, ended.stdout, is_stored)
 
 
-def main():
-    program, folder = os.path.abspath(sys.argv[1]), sys.argv[2]
-    runs = int(sys.argv[3]) if len(sys.argv) > 3 else RUNS
-    dice = random.Random(20261127)
-    ends, bad, real, made = collections.Counter(), 0, list(plans(folder)), list(plans_of_made())
+def part(program, source, runs, seed):
+    """So many runs in a folder of their own: how often each status came, the longest time, and what
+    is wrong."""
+    folder = f"{source}/{seed}"
+    os.mkdir(folder)
+    dice = random.Random(seed)
+    ends, longest, faults = collections.Counter(), 0, []
+    real, made = list(plans(source)), list(plans_of_made())
     for number in range(runs):
         file, name, others, lists = dice.choice(made if dice.random() < PART else real)
         write(f"{folder}/{name}", damaged(file, dice))
         for other, data in others.items():
             write(f"{folder}/{other}", data)
-        words = dice.choice(lists)
+        words, began = dice.choice(lists), time.monotonic()
         status, fault = run(program, folder, words)
+        longest = max(longest, time.monotonic() - began)
         ends[status] += 1
         if fault:
-            print(f"failed damage {number} {' '.join(words)}: {fault}")
-            bad += 1
-    if not bad:
-        counts = ", ".join(f"{ends[status]} with status {status}" for status in sorted(ends))
-        print(f"passed damage: {runs} damaged copies of {len(real) + len(made)} files, {counts}")
-    return bad != 0
+            faults.append(f"failed damage {seed} {number} {' '.join(words)}: {fault}")
+    return ends, longest, faults
+
+
+def main():
+    program, folder = os.path.abspath(sys.argv[1]), sys.argv[2]
+    runs, seed, jobs = map(int, sys.argv[3:])
+    parts = [(program, folder, runs // jobs, seed + job) for job in range(jobs)]
+    with multiprocessing.Pool(jobs) as pool:
+        ends, longest, faults = zip(*pool.starmap(part, parts))
+    ends, wrong = sum(ends, collections.Counter()), sum(faults, [])
+    counts = ", ".join(f"{ends[one]} with status {one}" for one in sorted(ends, key=str))
+    told = f"{ends.total()} damaged copies, {counts}; the longest run took {max(longest):.1f} s"
+    print(*wrong, f"{'told' if wrong else 'passed'} damage: {told}", sep="\n")
+    return bool(wrong)
 
 
 if __name__ == "__main__":

@@ -1,142 +1,110 @@
-"""docs.py ROOT: what README.md and docs/ name is there, and what has to be told there is told."""
-import glob
-import os
+"""What README.md and docs/ name is there, and what has to be told there is told."""
 import re
-import sys
 
-ROOT = os.path.abspath(sys.argv[1])
+from pages import CRATES, PAGES, alone, found, read, tell
+
 CODE, NAME = re.compile(r"`([^`]+)`"), re.compile(r"[A-Za-z]\w*")
-# a path of the repository, or a definition's file without its folder
-PATH = re.compile(r"(?:[\w.-]+/)+[\w.*-]*|[\w-]+\.(?:md|sh|py|txt)|[A-Z]\w*\.antt")
-
-
-def read(path):
-    with open(os.path.join(ROOT, path), encoding="utf-8") as file:
-        return file.read()
-
-
-def found(pattern):
-    """The paths below ROOT of a pattern, in order."""
-    paths = glob.glob(f"{ROOT}/{pattern}", recursive=True)
-    return [os.path.relpath(path, ROOT) for path in sorted(paths)]
-
-
-def stems(pattern):
-    """The names of the files of a pattern, without their endings."""
-    return {os.path.splitext(os.path.basename(path))[0] for path in found(pattern)}
+PATH = re.compile(r"(?:[\w.-]+/)+[\w.*-]*|[\w-]+\.(?:md|sh|py|txt|antt)")
 
 
 def blocks(text):
-    """The lines of tables, and the paragraphs; examples, which are indented, are left out."""
+    """The lines of tables, and the paragraphs, each with the crate that it begins with; examples,
+    which are indented, are left out."""
     for block in re.split(r"\n\s*\n", text):
-        if not block.startswith("    "):
-            yield from block.split("\n") if block.startswith("|") else [block]
+        for part in block.split("\n") if block.startswith("|") else [block]:
+            if not block.startswith("    "):
+                yield part, re.match(r"(?:\*\*(\w+)\*\*)?", part)[1]
 
 
-CRATES = re.findall(r"^([^#\s:]+)", read("crates.txt"), re.M)
+def paths_of(block, crate):
+    """Each path that a block names, and the files that it may be: it begins at the top, at
+    crates/, or at the block's crate, or is a folder that each crate has."""
+    for word in filter(PATH.fullmatch, CODE.findall(block)):
+        places = ["", "crates/", f"crates/{crate}/", *["crates/*/"] * word.endswith("/")]
+        yield word, [path for place in places for path in found(place + word)]
 
 
-def wrong_links(page):
-    """Links of a page that lead to no file or to no heading of it, and options of no table."""
+def wrong_options(page):
+    """Options of examples that are in no table."""
     table = read("crates/command_line/specs/Options.antt") + '"--help" "--version" "--explain="'
     for command in re.findall(r"^    (?:\$ )?pahole ([^|<>&\n]*)", read(page), re.M):
         for option in re.findall(r"(?<!\S)(?:--\w+=?|-\w)", command):
             if f'"{option}"' not in table:
                 yield f"no option {option}"
+
+
+def wrong_links(page):
+    """Links that lead to no file, or to no heading of it."""
     for path, anchor in re.findall(r"\]\(([^)#]*)#?([^)]*)\)", read(page)):
-        file = os.path.normpath(os.path.join(os.path.dirname(page), path)) if path else page
+        file = f"{page.rpartition('/')[0]}/{path}".lstrip("/") if path else page
         heads = re.findall(r"^#+ (.*)", read(file), re.M) if found(file) else []
         names = {re.sub(r"[^\w -]", "", head.lower()).replace(" ", "-") for head in heads}
         if not found(file) or anchor and anchor not in names:
             yield f"no {path}#{anchor}"
 
 
-def check_paths(page):
-    """Each path is one from the repository's top, from crates/, from a crate that its block, its
-    heading or the last block on one crate names, or a folder that each crate has."""
-    faults, heading, number = list(wrong_links(page)), "", 0
-    for block in blocks(read(page)):
-        if re.match(r"#|\*\*\w+\*\*", block):
-            heading = block if block.startswith("#") else block.split(" ")[0]
-        named = [one for one in NAME.findall(heading + " " + block) if one in CRATES]
-        folder = None
-        for word in filter(PATH.fullmatch, CODE.findall(block)):
-            number += 1
-            places = ["", "crates", *(f"crates/{crate}" for crate in named)]
-            if "/" not in word and word.endswith(".antt"):
-                places = [folder] if folder else [f"crates/{crate}/specs" for crate in named]
-            there = [path for place in places for path in found(os.path.join(place, word))]
-            if not there and not (word.endswith("/") and found(f"crates/*/{word}")):
-                faults.append(f"{word} in {block[:60]!r}")
-            elif there and word.endswith(".antt"):
-                folder = os.path.dirname(there[0])
-    return faults, f"{number} paths"
+def check_page(page):
+    paths = [path for block in blocks(read(page)) for path in paths_of(*block)]
+    faults = [f"no {word}" for word, files in paths if not files]
+    faults += [*wrong_options(page), *wrong_links(page)]
+    tell(f"paths of {page}", faults, f"{len(paths)} paths")
 
 
 def check_proof():
-    """What the page on proofs names and quotes is there, up to what no clause can refuse: each
-    definition is in a file that its row, or the text above the table, names, or in the crate that
-    its paragraph is on; what a row quotes stands so in such a file; and each crate with definitions
-    has a paragraph."""
+    """The page on proofs, up to what no clause can refuse: each definition is in a file that its
+    row, or else the text above the table, names, or in its paragraph's crate; what a row quotes
+    stands so in such a file; and each crate with definitions has a paragraph."""
     faults, number, told, above = [], 0, set(), []
-    for block in blocks(read("docs/PROOF.md").partition("## What no clause can refuse")[0]):
-        words, crate = CODE.findall(block), re.match(r"\*\*(\w+)\*\*", block)
-        is_row = block.startswith("|")
-        paths = [word for word in words if re.fullmatch(r"\w+/(?:specs|src)/\w+\.\w+", word)]
-        if crate and crate[1] in CRATES:
-            told.add(crate[1])
-            paths += [path[7:] for path in found(f"crates/{crate[1]}/s*/**/*.*t")]
-        elif not is_row:
-            above = paths
+    for block, crate in blocks(read("docs/PROOF.md").partition("## What no clause can refuse")[0]):
+        files = [path for _, some in paths_of(block, crate) for path in some if path[-1] == "t"]
+        if crate in CRATES:
+            told.add(crate)
+            files += found(f"crates/{crate}/s*/**/*.*t")
+        elif not block.startswith("|"):
+            above = files
             continue
-        text = " ".join(read(f"crates/{path}") for path in paths or above)
-        text = " ".join(text.split())
-        for word in words:
+        text = " ".join(" ".join(map(read, files or above)).split())
+        for word in CODE.findall(block):
             is_name = NAME.fullmatch(word) and (not word.islower() or "_" in word)
-            if is_name and word not in CRATES or is_row and re.search(r" [≡=:→]", word):
+            is_quoted = block.startswith("|") and re.search(r" [≡=:→]", word)
+            if is_name and word not in CRATES or is_quoted:
                 number += 1
                 if not re.search(rf"(?<!\w){re.escape(word)}(?!\w)", text):
                     faults.append(f"{word} is not there: {block[:60]!r}")
-    faults += [f"nothing on {one}" for one in set(CRATES) - told if found(f"crates/{one}/specs")]
-    return faults, f"{number} definitions, {len(told)} crates"
+    defining = {path.split("/")[1] for path in found("crates/*/specs")}
+    faults += [f"nothing on {one}" for one in sorted(defining - told)]
+    tell("proof", faults, f"{number} definitions, {len(told)} crates")
 
 
 def check_map():
     """The map has each crate, and each file of its definitions."""
-    rows = re.findall(r"^\|([^|]*)\|[^|]*\|([^|]*)\|$", read("docs/ARCHITECTURE.md"), re.M)
-    told = {crate: set(CODE.findall(row[1])) for row in rows for crate in CODE.findall(row[0])}
-    faults = [f"{crate} is in the map or the list alone" for crate in set(CRATES) ^ set(told)]
-    for crate, names in told.items():
-        files = stems(f"crates/{crate}/specs/*.antt") - {"Lib"}
-        faults += [f"{crate}: {name} is in one alone" for name in sorted(files ^ names)]
-    return faults, f"{len(told)} crates"
-
-
-def misplaced(edit):
-    """The texts that an edit of tools/unseen changes and that don't stand once in their file."""
-    text = read(f"tools/unseen/{edit}.edit")
-    crate = re.search(r"^crate: (\w+)", text, re.M)[1]
-    for part in re.split(r"^file: ", text, flags=re.M)[1:]:
-        path, whole = part.split("\n")[0].strip(), read(f"crates/{crate}/{part.split()[0]}")
-        for old in re.findall(r"^old: (.*)", part, re.M):
-            if whole.count(old.strip()) != 1:
-                yield f"{edit} changes a text that does not stand once in {path}"
+    told, row = set(), re.compile(r"^\|([^|]*)\|[^|]*\|([^|]*)\|$", re.M)
+    for crates, names in row.findall(read("docs/ARCHITECTURE.md")):
+        for crate in CODE.findall(crates):
+            told |= {crate, *(f"crates/{crate}/specs/{name}.antt" for name in CODE.findall(names))}
+    files = [path for path in found("crates/*/specs/*.antt") if not path.endswith("/Lib.antt")]
+    tell("architecture", alone(told, {*CRATES, *files}), f"{len(CRATES)} crates")
 
 
 def check_unseen():
-    """The page on what is proved names each edit that no clause refuses, and no other, and each
-    finds what it changes."""
+    """The page on proofs names each edit that no clause refuses, and no other, and each text that
+    one changes stands once in its file."""
     part = read("docs/PROOF.md").partition("## What no clause can refuse")[2].partition("\n## ")[0]
     told = set(re.findall(r"`([a-z]+(?:_[a-z]+)+)`", part)) - set(CRATES)
-    there = stems("tools/unseen/*.edit")
-    faults = [f"{name} is in one alone" for name in sorted(there ^ told)]
-    faults += [fault for name in sorted(there) for fault in misplaced(name)]
-    return faults, f"{len(there)} edits"
+    edits = found("tools/unseen/*.edit")
+    faults = alone(told, {re.split(r"[/.]", edit)[2] for edit in edits})
+    for edit in edits:
+        crate = re.search(r"^crate: (\w+)", read(edit), re.M)[1]
+        for file, rest in re.findall(r"^file: (\S+)((?:\n.*)*?)(?=\nfile: |\Z)", read(edit), re.M):
+            whole = read(f"crates/{crate}/{file}")
+            for old in re.findall(r"^old: (.*)", rest, re.M):
+                if whole.count(old.strip()) != 1:
+                    faults.append(f"{edit} changes a text that does not stand once in {file}")
+    tell("unseen edits", faults, f"{len(edits)} edits")
 
 
-CHECKS = {"proof": check_proof, "architecture": check_map, "unseen edits": check_unseen}
-for name in ["README.md", *found("docs/*.md")]:
-    CHECKS[f"paths of {name}"] = lambda page=name: check_paths(page)
-for name, check in CHECKS.items():
-    wrong, seen = check()
-    print(f"failed docs {name}: {'; '.join(wrong)}" if wrong else f"passed docs {name}: {seen}")
+check_proof()
+check_map()
+check_unseen()
+for each in PAGES:
+    check_page(each)

@@ -464,6 +464,22 @@ def typedefs_below_names_of_btf(n):
     return btf(BTF_INT + chain_of_typedefs(5 * n) + words, texts)
 
 
+def typedefs_of_one_structure(n):
+    """Typedefs of a structure without a name that has as many members: each has its layout."""
+    table = (
+        ROOT
+        + INT
+        + abbreviation(3, Tag.STRUCTURE_TYPE, 1, WIDE_SIZE)
+        + abbreviation(4, Tag.MEMBER, 0, NAME, TYPE, PLACE)
+        + abbreviation(5, Tag.TYPEDEF, 0, NAME, TYPE)
+    )
+    parts = [b"\4m%d\0" % i + struct.pack("<II", FIRST, 4 * i) for i in range(n)]
+    shown = struct.pack("<I", FIRST + len(INT_ENTRY))
+    names = b"".join(b"\5t%d\0" % i + shown for i in range(n))
+    body = INT_ENTRY + struct.pack("<BI", 3, 4 * n) + b"".join(parts) + b"\0" + names
+    return file(table, unit(body))
+
+
 def encoding(n):
     return ["--btf_encode_detached=o", "a"]
 
@@ -478,6 +494,10 @@ def encoding_over_it(n):
 
 def showing(n):
     return ["-F", "btf", "-s", "a"]
+
+
+def showing_layouts(n):
+    return ["a"]
 
 
 def showing_one(n):
@@ -573,6 +593,14 @@ KINDS = [
         prototypes_of_chosen_pairs,
         16_384,
         has_larger=False,
+    ),
+    Kind(
+        "layouts of typedefs of one structure",
+        typedefs_of_one_structure,
+        250,
+        showing_layouts,
+        has_larger=False,
+        is_square=True,
     ),
     Kind("members of one structure", members, 16_383, has_larger=False),
     Kind("functions in each other", functions_in_each_other, 12_500, encoding_functions),
