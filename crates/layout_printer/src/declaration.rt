@@ -1,6 +1,6 @@
 //! C declarations of types.
 ghost use Rattle.std.specs.Prelude.{◌≡◌, ◌∷◌, ◌++◌, ◌+◌, ◌==◌, ◌<◌, ◌≤◌, List, [], ℕ, OnOk, IfOk};
-ghost use Rattle.std.specs.Prelude.{codes, true, if◌then◌else◌};
+ghost use Rattle.std.specs.Prelude.{codes, if◌then◌else◌};
 ghost use Rattle.c_model.specs.declared.graph.Ref.{Ref};
 ghost use Rattle.layout_printer.specs.Sizes.{type_of};
 ghost use Rattle.layout_printer.specs.Declarations.{DeclParts, around, attribute, bound, decl};
@@ -171,11 +171,12 @@ fn write_type(
             Ok(None)
         }
         Shape::Annotation => {
-            annotate(alloc, types, t.label.name.bytes(), target, draft)?;
+            let word = attribute(alloc, t.label.name.bytes())?;
+            qualify(alloc, types, &word, true, target, draft)?;
             Ok(Some(target))
         }
         Shape::Pointer => {
-            add_star(alloc, leads_to_list(types, target), &mut draft.name)?;
+            draft.name = pointer_name(alloc, leads_to_list(types, target), &draft.name)?;
             Ok(Some(target))
         }
         Shape::Qualifier => {
@@ -279,23 +280,6 @@ fn with_attribute(alloc: Global, word: &[u8], back: &[u8]) -> Result<Vec<u8>, Al
     Ok(out)
 }
 
-/// Writes a type tag: its attribute, where `qualify` puts it.
-fn annotate(
-    alloc: Global,
-    types: &[CType<'_>],
-    tag: &[u8],
-    target: Ref,
-    draft: &mut Draft,
-) -> Result<(), AllocError>
-    ensures { OnOk result ((rest : Ref → List ℕ → DeclParts) →
-        around draft.new.front.items (rest target draft.new.name.items) draft.new.back.items
-        ≡ around draft.old.front.items (with_word true rest types.now (attribute tag.now) target
-        draft.old.name.items) draft.old.back.items) }
-{
-    let word = attribute(alloc, tag)?;
-    qualify(alloc, types, &word, true, target, draft)
-}
-
 /// The attribute that a type tag is written as.
 fn attribute(alloc: Global, tag: &[u8]) -> Result<Vec<u8>, AllocError>
     ensures { IfOk result (λ v. v.items ≡ attribute tag.now) }
@@ -310,15 +294,6 @@ fn attribute(alloc: Global, tag: &[u8]) -> Result<Vec<u8>, AllocError>
         ],
     )?;
     Ok(out)
-}
-
-/// Makes what stands for a name that of a pointer; in parentheses before an array or a function.
-fn add_star(alloc: Global, nested: bool, name: &mut Vec<u8>) -> Result<(), AllocError>
-    ensures { OnOk result (name.new.items ≡ (if nested then
-        codes "(*" ++ (name.old.items ++ codes ")") else codes "*" ++ name.old.items)) }
-{
-    *name = pointer_name(alloc, nested, name)?;
-    Ok(())
 }
 
 /// What stands for the name of a pointer; in parentheses before an array or a function.

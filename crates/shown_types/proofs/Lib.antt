@@ -4,3 +4,4 @@ pub mod Texts
 pub mod Choices
 pub mod Naming
 pub mod Keeping
+pub mod Alike

@@ -2,3 +2,4 @@
 pub mod Listed
 pub mod Shown
 pub mod ByName
+pub mod Laws

@@ -102,7 +102,7 @@ Chooses types from names (Err Memory) = ⊤
 abbrev pub line_end : Style → TypeLayout → List ℕ
 line_end style shown =
     if style.sizes then
-    layout.joined (codes "\t" ∷ decimal shown.size ∷ codes "\t" ∷ decimal
+    layout.concat (codes "\t" ∷ decimal shown.size ∷ codes "\t" ∷ decimal
     (layout.byte_holes shown.slots) ∷ codes "\n" ∷ [])
     else []
 

@@ -18,9 +18,11 @@ pub mod by_name;
 pub mod choosing;
 mod counting;
 pub mod fault;
+pub mod laws;
 pub mod listed;
 mod shared;
 pub mod showing;
 
 pub use fault::ShowFault;
+pub use laws::same_is_shown;
 pub use showing::{Style, show};
