@@ -95,9 +95,9 @@ def run_once(words, folder):
 
 def measure(words, folder, runs):
     """The status of a first run, its memory, and the times of `runs` more by hyperfine, or else
-    the median of as many."""
+    the median of as many; with one run those of the first."""
     status, first = run_once(words, folder)
-    if status != 0:
+    if status != 0 or runs == 1:
         return status, first
     if shutil.which("hyperfine"):
         told = f"{folder}/told"
@@ -251,9 +251,11 @@ def print_readme(peers):
     print("\n| Program | Stores | Time | CPU time | Peak memory |\n|---|---|---|---|---|")
     told = [("this pahole", "types and functions", FUNCS)]
     told += [(peer.name, "types, functions, variables", peer.name) for peer in peers]
-    for name, stores, what in [*told, ("this pahole", "types", KERNEL)]:
-        for threads, option in ((1, ""), (4, ", `-j4`")):
+    alone = ("this pahole", "types", KERNEL)
+    for threads, rows in ((1, told), (4, told), (1, [alone]), (4, [alone])):
+        for name, stores, what in rows:
             run = taken.get(f"{what}, {threads_told(threads)}")
+            option = f", `-j{threads}`" if threads > 1 else ""
             if run:
                 print(f"| {name}{option} | {stores} | {cells_of(run)} |")
 
