@@ -2,7 +2,7 @@
 # The examples of the README, of the manual page and of docs/GUIDE.md: the built program prints of
 # the program of demo/ what they show.
 set -u
-export LC_ALL=C.UTF-8
+export LC_ALL=C.UTF-8 PATH=$PATH:/usr/sbin:/sbin
 . "$(dirname "$0")/lib/program.sh"
 
 need examples cc python3

@@ -95,9 +95,9 @@ def run_once(words, folder):
 
 def measure(words, folder, runs):
     """The status of a first run, its memory, and the times of `runs` more by hyperfine, or else
-    the median of as many."""
+    the median of as many; with one run those of the first."""
     status, first = run_once(words, folder)
-    if status != 0:
+    if status != 0 or runs == 1:
         return status, first
     if shutil.which("hyperfine"):
         told = f"{folder}/told"
@@ -134,8 +134,7 @@ def outcome(folder):
     stored = f"{folder}/o"
     if os.path.exists(stored):
         table = read(stored)
-        structures = f"{number(kinds(table)['STRUCT'])} structures"
-        return f"{number(len(table))} bytes of BTF, {number(count(table))} types, {structures}"
+        return f"{number(count(table))} types, {number(kinds(table)['STRUCT'])} structures"
     printed = read(f"{folder}/printed")
     lines = printed.count(b"\n")
     return f"{number(lines)} line{'s' * (lines != 1)}"
@@ -251,9 +250,11 @@ def print_readme(peers):
     print("\n| Program | Stores | Time | CPU time | Peak memory |\n|---|---|---|---|---|")
     told = [("this pahole", "types and functions", FUNCS)]
     told += [(peer.name, "types, functions, variables", peer.name) for peer in peers]
-    for name, stores, what in [*told, ("this pahole", "types", KERNEL)]:
-        for threads, option in ((1, ""), (4, ", `-j4`")):
+    alone = ("this pahole", "types", KERNEL)
+    for threads, rows in ((1, told), (4, told), (1, [alone]), (4, [alone])):
+        for name, stores, what in rows:
             run = taken.get(f"{what}, {threads_told(threads)}")
+            option = f", `-j{threads}`" if threads > 1 else ""
             if run:
                 print(f"| {name}{option} | {stores} | {cells_of(run)} |")
 
@@ -326,15 +327,21 @@ def real_programs(program, folder, runs, peers):
 
 
 def squares(program, folder, peers):
-    """Files over which the work is known to grow with the square."""
+    """Files over which the work is known to grow with the square: the CPU time of each program."""
+    names = ["Case", "File", "This pahole", *(peer.name for peer in peers)]
+    print(f"\n| {' | '.join(names)} |\n{'|---' * len(names)}|")
     for kind in hostile.KINDS:
-        if kind.name in SQUARES:
-            count, has_peers = SQUARES[kind.name]
-            data = kind.file(count)
-            with open(f"{folder}/a", "wb") as file:
-                file.write(data)
-            row = Row(kind.name, f"{number(len(data))} bytes", [program, *kind.words(count)])
-            beside(row, folder, 1, peers if has_peers else [])
+        if kind.name not in SQUARES:
+            continue
+        size, has_peers = SQUARES[kind.name]
+        data, cells = kind.file(size), []
+        with open(f"{folder}/a", "wb") as file:
+            file.write(data)
+        for path in [program, *(peer.path for peer in peers if has_peers)]:
+            status, run = measure([path, *kind.words(size)], folder, 1)
+            cells.append(seconds(run.used) if status == 0 else f"status {status}")
+        cells += ["-"] * (1 + len(peers) - len(cells))
+        print(f"| {kind.name} | {number(len(data))} bytes | {' | '.join(cells)} |", flush=True)
 
 
 def made_number(program, folder, runs):
@@ -422,10 +429,10 @@ def main():
         say(f"skipped {KERNEL}: there is no {KERNELS}; the package {PACKAGE}")
     real_programs(program, folder, runs, peers)
     table(program, root, folder, runs)
-    squares(program, folder, peers)
     if MORE:
         made_number(program, folder, runs)
         made_inputs(program, root, folder, runs)
+    squares(program, folder, peers)
     if tables:
         print_readme(peers)
         print_ratios(peers)

@@ -5,7 +5,8 @@
 # `crate: NAME`; it may change several files, each behind a line `file: PATH` of its own, and a line
 # `and: TEXT` adds one behind the new one. What its proof needs besides lies in a folder of the
 # edit's name, each file with `.txt` behind its name, and is put beside the crate's. `passed` is
-# what is proved. No check runs this, for each edit costs a check of its crate: `make unseen`.
+# what is proved. No check runs this, for each edit costs a check of its crate: `make unseen`. CHECK
+# is what checks a crate in its folder, by default `rt check`.
 set -u
 export LC_ALL=C.UTF-8
 root=$(cd "$(dirname "$0")/.." && pwd) || exit 2
@@ -61,7 +62,7 @@ for name in "${edits[@]}"; do
   if ! why=$(apply "$edit" "$folder" 2>&1); then
     echo "failed $name: $why"
     failed=1
-  elif (cd "$folder" && rt check) >"$scratch/log" 2>&1; then
+  elif (cd "$folder" && ${CHECK:-rt check}) >"$scratch/log" 2>&1; then
     echo "passed $name: $crate is proved with it, as docs/PROOF.md says"
   else
     why=$(grep -m 1 -E ': error|error\[' "$scratch/log" || tail -n 1 "$scratch/log")

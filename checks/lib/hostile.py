@@ -395,6 +395,7 @@ BTF_KIND_PTR = 2 << 24
 BTF_KIND_ARRAY = 3 << 24
 BTF_KIND_STRUCT = 4 << 24
 BTF_KIND_TYPEDEF = 8 << 24
+BTF_KIND_FUNC_PROTO = 13 << 24
 BTF_INT = [0, BTF_KIND_INT, 4, 32]
 
 
@@ -420,6 +421,18 @@ def arrays_of_btf(n):
     """Arrays of one item in each other, and a structure with a member of the outermost."""
     arrays = [word for i in range(n) for word in (0, BTF_KIND_ARRAY, 0, i + 1, 1, 1)]
     return btf(BTF_INT + arrays + [3, BTF_KIND_STRUCT | 1, 4, 5, n + 1, 0], b"\0t\0s\0m\0")
+
+
+def prototypes_of_btf(n):
+    """Prototypes of 16 parameters, each the integer or void: no two have the same of these, so each
+    has a key of its own, and many of these keys differ in their last words alone."""
+    parameters = 16
+    words = []
+    for i in range(n):
+        shown = [i >> k & 1 for k in range(parameters - 1)] + [1]
+        words += [0, BTF_KIND_FUNC_PROTO | parameters, 0]
+        words += [word for each in shown for word in (0, each)]
+    return btf(BTF_INT + words, b"\0")
 
 
 def ends_of_one_text_of_btf(n):
@@ -550,6 +563,13 @@ KINDS = [
     Kind("attributes without bytes beside texts", attributes_without_bytes_beside_texts, 4_000),
     Kind("a chain of pointers", pointers, 4_000),
     Kind("a chain of pointers in a base", pointers_of_btf, 12_500, encoding_over_it),
+    Kind(
+        "prototypes of different keys in a base",
+        prototypes_of_btf,
+        5_000,
+        encoding_over_it,
+        has_larger=False,
+    ),
     Kind("blocks in each other", blocks, 25_000),
     Kind("types in each other", types_in_each_other, 12_500),
     Kind("entries that are no members", entries_that_are_no_members, 12_500),

@@ -22,6 +22,9 @@ LARGE = [
     ("units of one table of abbreviations", hostile.units_of_one_table, 125_000, 160),
     ("blocks in each other", hostile.blocks, 500_000, 40),
 ]
+# with LARGE=1 in the environment: more types than a table holds, which is error 111
+if os.environ.get("LARGE"):
+    LARGE.append(("more pointers than types", hostile.pointers_of_one_byte, 8_388_700, 175))
 # the same of those of hostile.py, of which each is four times the least one, where it can be
 OF_ALL, TIMES = 100, 4
 
