@@ -1,6 +1,6 @@
 -- What one step makes of what was read so far.
 use Rattle.std.proofs.Common.{◌≡◌, ℕ, ◌<◌, ◌≤◌, ◌+◌, ◌==◌, List, [], ◌∷◌, ◌++◌, length, Option}
-use Rattle.std.proofs.Common.{None, Some, if◌then◌else◌, refl, sym, ap, ◌∙◌, subst, arith}
+use Rattle.std.proofs.Common.{None, Some, if◌then◌else◌, refl, sym, ap, ◌∙◌, subst, arith, false}
 use Rattle.std.specs.Prelude.{slice_set}
 use Rattle.std.proofs.lemmas.List.{length-append, length-set}
 use Rattle.std.proofs.lemmas.List.Elements.{All-weaker, All-pop, All-push}
@@ -29,7 +29,7 @@ use Rattle.c_types.specs.Opened.{pointer_by}
 use Rattle.c_types.specs.Pointers.{tag_in, tag_made}
 use Rattle.c_types.specs.Types.{listed}
 use Rattle.c_types.specs.Walking.{pointer_in}
-use Rattle.c_types.specs.Readings.{TakesTag}
+use Rattle.c_types.specs.Readings.{TakesTag, TakesRowOf}
 use Rattle.c_types.proofs.OpenPointers.{tag_untold}
 use Rattle.c_types.proofs.Pointing.{stands_out, is_pointer, unkept, tag_row, tag_comes, tag_filled}
 use Rattle.c_types.proofs.Pointing.{tag_least, tag_pointed}
@@ -37,10 +37,13 @@ use Rattle.type_attributes.specs.declared.fault.TypeFault.TheVariants.{Memory}
 use Rattle.c_types.specs.declared.open.LastPointer.{LastPointer}
 use Rattle.c_types.specs.Readings.{types_with, least_with, with_pointer, IsFirst, IsKept}
 use Rattle.std.proofs.lemmas.List.{append-nil}
-use Rattle.std.proofs.lemmas.Option.{none-some}
+use Rattle.std.proofs.lemmas.Option.{none-some, same_Some}
 use Rattle.type_attributes.specs.Attributes.{target_attr}
 use Rattle.c_types.specs.Pointers.{own_target, pointer_row}
-use Rattle.c_types.specs.Types.{made_in, refused_in}
+use Rattle.c_types.specs.Types.{made_in, refused_in, row_of}
+use Rattle.c_types.specs.Rows.{StartsOne}
+use Rattle.c_types.specs.declared.rows.RowStart.TheVariants.{Parent, Whole}
+use Rattle.dwarf_abbrev.specs.declared.constants.TheConstants.{DW_TAG_pointer_type}
 use Rattle.c_types.specs.Walking.{opened_pointer}
 use Rattle.c_types.specs.Readings.{pointer_at}
 use Rattle.c_types.proofs.Pointing.{pointer_comes}
@@ -317,23 +320,66 @@ settles_last depth r p kept deep = record {
   pointed = λ d le. last_pointed r.opens p d depth deep le;
 }
 
--- an entry that has no row
-pub none_taken : (s : Scope) (depth : ℕ) (old : Read) (row : Option Row) → row ≡ None
-    → AreAbove depth old.opens
-    → Takes s depth None (λ es. listed (made_in row)) (λ es. refused_in row) old old
-none_taken s depth old row none above = record {
-  types = λ es. rw none (sym (append-nil (types_with s old es)));
-  least = λ es later. rw none refl;
-  pointed = λ d. pointed_unopened old.opens depth d above;
+-- an entry that has no row, one whose row is open and one whose row is whole
+pub none_taken : (s : Scope) (e : Given) (old : Read) → (e.tag == DW_TAG_pointer_type) ≡ false
+    → ((es : List Given) → row_of s e es ≡ None) → AreAbove e.depth old.opens
+    → TakesRowOf s e old old
+none_taken s e old other none above = record {
+  types = λ es. sym (append-nil (types_with s old es)) ∙ ap (λ (o : Option Row).
+      types_with s old es ++ listed (made_in o)) (sym (none es));
+  least = λ es later. ap (λ (o : Option Row). least_with s old es (refused_in o ++ later))
+      (sym (none es));
+  pointed = λ d. rw other (pointed_unopened old.opens e.depth d above);
+}
+
+pub open_taken : (s : Scope) (e : Given) (depth : ℕ) (k : OpenType) (old new : Read)
+    → (e.tag == DW_TAG_pointer_type) ≡ false → depth ≡ e.depth
+    → StartsOne s e.depth (row_of s e) (Parent k) → Begins depth k old new
+    → TakesRowOf s e old new
+open_taken s e depth k old new other same start b =
+    let h = begun_taken s e depth k None start.row old new same start.starts.own
+    start.starts.comes b in
+    record {
+      types = λ es. h.types es ∙ ap (λ (o : Option Row). types_with s old es ++ listed (made_in o))
+          (sym (start.is es));
+      least = λ es later. h.least es later ∙ ap (λ (o : Option Row).
+          least_with s old es (refused_in o ++ later)) (sym (start.is es));
+      pointed = λ d. rw other (h.pointed d);
+    }
+
+pub row_taken : (s : Scope) (e : Given) (one : SourceType) (found : Option TypeFault)
+    (old new : Read) → (e.tag == DW_TAG_pointer_type) ≡ false
+    → StartsOne s e.depth (row_of s e) (Whole one found) → AreAbove e.depth old.opens
+    → Joins one found old new → TakesRowOf s e old new
+row_taken s e one found old new other start above h =
+    let k = whole_taken s e.depth one found (λ es. listed (made_in (row_of s e es)))
+    (λ es. refused_in (row_of s e es)) old new above h
+    (λ es. ap (λ (t : SourceType). t ∷ []) (start.starts.made (children_of e.depth es))
+    ∙ ap (λ (o : Option Row). listed (made_in o)) (sym (start.is es)))
+    (λ es. start.starts.refused (children_of e.depth es)
+    ∙ ap (λ (o : Option Row). noted None (refused_in o)) (sym (start.is es))) in
+    record { types = k.types; least = k.least; pointed = λ d. rw other (k.pointed d) }
+
+-- and a pointer
+pub pointer_row_taken : (s : Scope) (e : Given) (old new : Read) → e.tag ≡ DW_TAG_pointer_type
+    → TakesRow s e (Some (own_target s.sections e)) (pointer_row s.sections e) old new
+    → TakesRowOf s e old new
+pointer_row_taken s e old new is h = rw is h
+
+-- a row that needs no children
+pub plain_starts : (s : Scope) (depth : ℕ) (o : Option Row) (one : SourceType)
+    (found : Option TypeFault) → made_in o ≡ Some one → found ≡ noted None (refused_in o)
+    → StartsOne s depth (λ (es : List Given). o) (Whole one found)
+plain_starts s depth None one found m n = absurd (none-some one m)
+plain_starts s depth (Some r) one found m n = record {
+  row = λ kids. r;
+  is = λ es. refl;
+  starts = record { made = λ kids. sym (same_Some r.made one m); refused = λ kids. n };
 }
 
 pub unmade : (row : Option Row) → made_in row ≡ None → row ≡ None
 unmade None h = refl
 unmade (Some r) h = absurd (none-some r.made (sym h))
-
-pub made_some : (row : Option Row) (t : SourceType) → made_in row ≡ Some t
-    → t ∷ [] ≡ listed (made_in row)
-made_some row t h = rw h refl
 
 -- a pointer was taken
 pub pointer_taken : (s : Scope) (e : Given) (depth at : ℕ) (own : Target) (old new : Read)

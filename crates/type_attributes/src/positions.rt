@@ -351,11 +351,10 @@ pub fn prepare(
 ) -> Result<(), AllocError>
     requires known { IfSome ctx.old.extents (λ x. SayExtents (scope ctx.old) x.rows.items) }
     requires rising { Rises ctx.old.start.entries }
-    ensures form { OnOk result (ctx.new.form ≡ ctx.old.form) }
-    ensures version { OnOk result (ctx.new.version ≡ ctx.old.version) }
-    ensures start { OnOk result (ctx.new.start ≡ ctx.old.start) }
-    ensures known { OnOk result (IfSome ctx.new.extents
-        (λ x. SayExtents (scope ctx.new) x.rows.items)) }
+    ensures form { ctx.new.form ≡ ctx.old.form }
+    ensures version { ctx.new.version ≡ ctx.old.version }
+    ensures start { ctx.new.start ≡ ctx.old.start }
+    ensures known { IfSome ctx.new.extents (λ x. SayExtents (scope ctx.new) x.rows.items) }
     ensures ready { OnOk result (IsReady ctx.new entry.now) }
 {
     if ctx.extents.is_some() || !needs_extents(ctx, entry) {
