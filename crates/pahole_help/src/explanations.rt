@@ -102,8 +102,8 @@ Values: e_machine
 Cause: It is a `.o` file or kernel module for another machine, such as i386 (3),
   s390x (22), RISC-V (243) or BPF (247).
 What to do: Link the object. Of a BPF object, take its own BTF: `llvm-objcopy
-  --dump-section .BTF=OUT FILE COPY`, then `-F btf`. Modules for such machines can't
-  be read.
+  --dump-section .BTF=OUT FILE COPY`, then `-F btf`. A module: `s390x-linux-gnu-ld
+  -e 0 --unresolved-symbols=ignore-all -o OUT FILE`.
 ",
     },
     Explanation {
