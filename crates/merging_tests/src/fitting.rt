@@ -1,9 +1,11 @@
 //! What the choice asks of function entries, tested.
-ghost use Rattle.std.specs.Prelude.{◌<◌, ◌≤◌, All, IsTrue, length};
+ghost use Rattle.std.specs.Prelude.{◌<◌, ◌≤◌, ◌≢◌, All, IsTrue, length};
+ghost use Rattle.c_model.specs.declared.kinds.TheConstants.{BTF_KIND_FUNC};
 ghost use Rattle.c_model.specs.Graph.{RefersWithin};
 ghost use Rattle.dw_base.specs.Texts.{HasNoNul};
 
-use c_model::Graph;
+use c_model::kinds::BTF_KIND_FUNC;
+use c_model::{CType, Graph};
 use func_types::Func;
 use small_graphs::fitting::{is_text, refer_below};
 
@@ -25,6 +27,18 @@ fn have_protos(limit: u32, funcs: &[Func<'_>]) -> bool
 {
     for func in funcs {
         if func.proto >= limit {
+            return false;
+        }
+    }
+    true
+}
+
+/// Whether none of these nodes is a FUNC.
+pub fn are_no_funcs(nodes: &[CType<'_>]) -> bool
+    ensures { IsTrue result → All (λ t. t.label.kind ≢ BTF_KIND_FUNC) nodes.now }
+{
+    for node in nodes {
+        if node.label.kind == BTF_KIND_FUNC {
             return false;
         }
     }

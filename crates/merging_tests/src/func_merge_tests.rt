@@ -3,7 +3,7 @@ ghost use Rattle.std.specs.Prelude.{◌≡◌, All, IfSome};
 ghost use Rattle.base_merge.specs.Merging.{CanBeBase};
 ghost use Rattle.c_model.specs.Kinds.{IsWellFormed};
 
-use crate::fitting::{are_named, are_protos};
+use crate::fitting::{are_named, are_no_funcs, are_protos};
 use crate::functions::{Function, GLOBAL, LOCAL, entries, has_funcs};
 use crate::rows::{FileType, btf, graph_of, table_of};
 use base_merge::PartedGraph;
@@ -165,7 +165,11 @@ fn choose<'a, R: Threads + Sync>(
     requires well { All IsWellFormed graph.now.nodes }
 {
     let funcs = entries(alloc, case.rows)?;
-    if !are_protos(graph, case.plain, &funcs) || !are_named(&funcs) || !is_fitting(graph) {
+    if !are_protos(graph, case.plain, &funcs)
+        || !are_named(&funcs)
+        || !are_no_funcs(graph.nodes())
+        || !is_fitting(graph)
+    {
         return Err(Fail::from("no graph of prototypes and entries"));
     }
     let protos = Protos {

@@ -1,15 +1,8 @@
-use Rattle.std.proofs.Common.{rules}
 use Rattle.unit_encoder.proofs.graph.encode_packed.Goals as goal
 
-pub encode_by-requires : goal.encode_by-requires
-encode_by-requires g c = (
-  search rules,
-  (
-    search rules,
-    record {
-      few = c.requires.few;
-      readable = c.requires.readable;
-      files = λ t. cc;
-    },
-  ),
-)
+pub encode_by-requires-clause-usable : goal.encode_by-requires-clause-usable
+encode_by-requires-clause-usable g c κs within = record {
+  few = c.requires.few;
+  readable = c.requires.readable;
+  files = λ t. cc;
+}
