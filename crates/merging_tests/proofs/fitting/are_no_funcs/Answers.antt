@@ -10,7 +10,7 @@ loop-node-preserved c =
     All-more (λ (t : CType). t.label.kind ≢ BTF_KIND_FUNC) c.args.nodes.now c.loop-node.node-index
     c.node-item.result c.loop-node-test.true c.loop-node.invariant
     (subst (λ (t : CType). t.label.kind ≢ BTF_KIND_FUNC) c.node-item.is
-    c.if-kind-BTF_KIND_FUNC.false)
+    c.if-node-eq-BTF_KIND_FUNC.false)
 
 pub returns : goal.returns
 returns c t = rw (take_all c.loop-node.node-index c.args.nodes.now c.loop-node-test.false) at
