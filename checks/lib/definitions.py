@@ -41,7 +41,7 @@ def definitions(path):
 
 # the names of all definitions on the way, by file; a name that a file defines is its own
 seen = {}
-clauses = re.findall(r"^    ensures .*", read(START).partition("fn run_words")[0], re.M)
+clauses = re.findall(r"^    ensures .*", read(START).partition("fn refuse_words")[0], re.M)
 todo = [(START, word) for word in NAME.findall(" ".join(clauses))]
 while todo:
     path, name = todo.pop()

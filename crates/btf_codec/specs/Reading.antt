@@ -20,6 +20,7 @@ use Rattle.c_model.specs.declared.graph.Ref.{Ref}
 use Rattle.c_model.specs.declared.graph.Ref.TheVariants.{Void, Node}
 use Rattle.btf_codec.specs.Fields.{bit_of, has_size, layout_of, own_targets, part_layout}
 use Rattle.btf_codec.specs.declared.format.TheConstants.{BTF_VERSION, HEADER_LEN, VERSION, FLAGS}
+use Rattle.btf_codec.specs.declared.format.TheConstants.{MAGIC_LOW, MAGIC_HIGH}
 use Rattle.btf_codec.specs.declared.format.TheConstants.{HDR_LEN, TYPE_OFF, TYPE_LEN, STR_OFF}
 use Rattle.btf_codec.specs.declared.format.TheConstants.{STR_LEN, NAME_OFF, INFO, SIZE, TYPE}
 use Rattle.btf_codec.specs.declared.format.TheConstants.{TAIL, TYPE_HEAD, ARRAY_TYPE}
@@ -267,8 +268,9 @@ decoded_type strings w = type_by (layout_in w) strings w
 
 -- the byte order that the magic number shows
 abbrev pub magic_order : ℕ → ℕ → Option Order
-magic_order a b = if a == 0x9f && b == 0xeb then Some Little else if a == 0xeb && b == 0x9f
-    then Some Big else None
+magic_order a b = if a == MAGIC_LOW && b == MAGIC_HIGH then Some Little
+    else if a == MAGIC_HIGH && b == MAGIC_LOW then Some Big
+    else None
 
 abbrev pub is_same_order : Order → Order → Bool
 is_same_order Little Little = true

@@ -8,7 +8,8 @@ ghost use Rattle.btf_codec.specs.Reading.{sections_of, word_in};
 
 use crate::fault::BtfFault;
 use crate::format::{
-    BTF_VERSION, FLAGS, HDR_LEN, HEADER_LEN, STR_LEN, STR_OFF, TYPE_LEN, TYPE_OFF, VERSION,
+    BTF_VERSION, FLAGS, HDR_LEN, HEADER_LEN, MAGIC_HIGH, MAGIC_LOW, STR_LEN, STR_OFF, TYPE_LEN,
+    TYPE_OFF, VERSION,
 };
 use crate::pieces::{head_of, word_in};
 use dw_base::Order;
@@ -25,9 +26,9 @@ fn byte_at(bytes: &[u8], place: usize) -> u8
 fn magic_order(first: u8, second: u8) -> Option<Order>
     ensures { result ≡ magic_order first second }
 {
-    if first == 0x9f && second == 0xeb {
+    if first == MAGIC_LOW && second == MAGIC_HIGH {
         Some(Order::Little)
-    } else if first == 0xeb && second == 0x9f {
+    } else if first == MAGIC_HIGH && second == MAGIC_LOW {
         Some(Order::Big)
     } else {
         None

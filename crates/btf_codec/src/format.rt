@@ -4,6 +4,12 @@
 /// The magic number, of 2 bytes. Their order is the byte order of the file.
 pub const BTF_MAGIC: u16 = 0xeb9f;
 
+/// Its low byte, with which a little-endian file begins.
+pub const MAGIC_LOW: u8 = 0x9f;
+
+/// Its high byte, with which a big-endian file begins.
+pub const MAGIC_HIGH: u8 = 0xeb;
+
 /// The version of the format.
 pub const BTF_VERSION: u8 = 1;
 

@@ -7,9 +7,9 @@ use Rattle.std.specs.Str.{bytes_eq}
 use Rattle.std.proofs.lemmas.List.{length-append, drop_at}
 use Rattle.dw_base.specs.Texts.{text_from, text_of, HasNoNul}
 use Rattle.dw_base.proofs.Texts.{bytes_eq_same, bytes_eq_true}
-use Rattle.btf_strings.specs.Names.{offset_among, terminated}
+use Rattle.btf_strings.specs.Names.{offset_among, with_nul}
 use Rattle.btf_strings.specs.Kept.{ArePlaced, names_of, value_of}
-use Rattle.btf_strings.proofs.Texts.{text_terminated}
+use Rattle.btf_strings.proofs.Texts.{text_with_nul}
 
 -- the value that is kept of a name is its offset
 chosen : (t : Bool) (v at : ℕ) (a b : Option ℕ) → v ≡ at → a ≡ b
@@ -28,15 +28,15 @@ value_is at (e ∷ es) name h =
 
 -- one name more is placed behind the others
 pub placed_more : (at : ℕ) (es : List (List ℕ × ℕ)) (e : List ℕ × ℕ) → ArePlaced at es
-    → e.1 ≡ at + length (flat_map terminated (names_of es)) → e.1 ≤ 0x00ff_ffff
+    → e.1 ≡ at + length (flat_map with_nul (names_of es)) → e.1 ≤ 0x00ff_ffff
     → ArePlaced at (es ++ e ∷ [])
 placed_more at [] e h is le = (omega (arith, is), omega (arith, is, le), tt)
 placed_more at (f ∷ es) e h is le =
-    let l : length (terminated f.0 ++ flat_map terminated (names_of es))
-    ≡ length f.0 + 1 + length (flat_map terminated (names_of es)) =
+    let l : length (with_nul f.0 ++ flat_map with_nul (names_of es))
+    ≡ length f.0 + 1 + length (flat_map with_nul (names_of es)) =
     omega (
       arith,
-      length-append (terminated f.0) (flat_map terminated (names_of es)),
+      length-append (with_nul f.0) (flat_map with_nul (names_of es)),
       length-append f.0 (0 ∷ []),
     ) in
     (h.0, h.1, placed_more (at + length f.0 + 1) es e h.2 (omega (arith, is, l)) le)
@@ -48,7 +48,7 @@ step_none true at o e = cc
 step_none false at o e = (refl, e)
 
 pub found_last : (at : ℕ) (ns : List (List ℕ)) (name : List ℕ) → offset_among at ns name ≡ None
-    → offset_among at (ns ++ name ∷ []) name ≡ Some (at + length (flat_map terminated ns))
+    → offset_among at (ns ++ name ∷ []) name ≡ Some (at + length (flat_map with_nul ns))
 unfolding offset_among
 found_last at [] name e =
     let t : bytes_eq name name ≡ true = bytes_eq_true name name refl in
@@ -57,11 +57,11 @@ found_last at [] name e =
 found_last at (n ∷ ns) name e =
     let s = step_none (bytes_eq name n) at (offset_among (at + length n + 1) ns name) e in
     let t : bytes_eq name n ≡ false = s.0 in
-    let l : at + length n + 1 + length (flat_map terminated ns)
-    ≡ at + length (terminated n ++ flat_map terminated ns) =
+    let l : at + length n + 1 + length (flat_map with_nul ns)
+    ≡ at + length (with_nul n ++ flat_map with_nul ns) =
     omega (
       arith,
-      length-append (terminated n) (flat_map terminated ns),
+      length-append (with_nul n) (flat_map with_nul ns),
       length-append n (0 ∷ []),
     ) in
     rw t (found_last (at + length n + 1) ns name s.1 ∙ ap (λ (m : ℕ). Some m) l)
@@ -99,30 +99,30 @@ has_offset at (n ∷ ns) name = any_step (bytes_eq name n) at (offset_among (at 
 text_step : (p n name : List ℕ) (ns : List (List ℕ)) (at from : ℕ) (t : Bool) → HasNoNul name
     → from ≡ length p → bytes_eq name n ≡ t
     → (offset_among (from + length n + 1) ns name ≡ Some at
-    → text_of ((p ++ terminated n) ++ flat_map terminated ns) at ≡ Some name)
+    → text_of ((p ++ with_nul n) ++ flat_map with_nul ns) at ≡ Some name)
     → (if t then Some from else offset_among (from + length n + 1) ns name) ≡ Some at
-    → text_of (p ++ (terminated n ++ flat_map terminated ns)) at ≡ Some name
+    → text_of (p ++ (with_nul n ++ flat_map with_nul ns)) at ≡ Some name
 unfolding text_of
 text_step p n name ns at from true clean is e later h =
     let q : from ≡ at = cc in
-    let d : drop at (p ++ (terminated n ++ flat_map terminated ns)) ≡ terminated n ++ flat_map
-    terminated ns = drop_at p (terminated n ++ flat_map terminated ns) at (sym is ∙ q) in
+    let d : drop at (p ++ (with_nul n ++ flat_map with_nul ns)) ≡ with_nul n ++ flat_map
+    with_nul ns = drop_at p (with_nul n ++ flat_map with_nul ns) at (sym is ∙ q) in
     let s : name ≡ n = bytes_eq_same name n e in
-    rw d (ap (λ (m : List ℕ). text_from (terminated m ++ flat_map terminated ns)) (sym s)
-    ∙ text_terminated name (flat_map terminated ns) clean)
+    rw d (ap (λ (m : List ℕ). text_from (with_nul m ++ flat_map with_nul ns)) (sym s)
+    ∙ text_with_nul name (flat_map with_nul ns) clean)
 text_step p n name ns at from false clean is e later h = ap (λ (xs : List ℕ). text_of xs at)
-    (sym (append_assoc p (terminated n) (flat_map terminated ns))) ∙ later h
+    (sym (append_assoc p (with_nul n) (flat_map with_nul ns))) ∙ later h
 
 pub text_among : (p : List ℕ) (ns : List (List ℕ)) (name : List ℕ) (at from : ℕ) → HasNoNul name
     → from ≡ length p → offset_among from ns name ≡ Some at
-    → text_of (p ++ flat_map terminated ns) at ≡ Some name
+    → text_of (p ++ flat_map with_nul ns) at ≡ Some name
 unfolding offset_among
 text_among p [] name at from clean is e = cc
 text_among p (n ∷ ns) name at from clean is e =
     text_step p n name ns at from (bytes_eq name n) clean is refl
     (λ (h : offset_among (from + length n + 1) ns name ≡ Some at).
-    text_among (p ++ terminated n) ns name at (from + length n + 1) clean
-    (omega (arith, length-append p (terminated n), length-append n (0 ∷ []))) h)
+    text_among (p ++ with_nul n) ns name at (from + length n + 1) clean
+    (omega (arith, length-append p (with_nul n), length-append n (0 ∷ []))) h)
     e
 
 -- no offset among placed names is past the last

@@ -6,7 +6,7 @@ use Rattle.std.specs.Option.{option_or}
 use Rattle.std.specs.List.{flat_map}
 use Rattle.std.proofs.lemmas.List.{flat_map_more, map-append}
 use Rattle.btf_strings.specs.Names.{Names, base_offset, first_offset, first_string, next_offset}
-use Rattle.btf_strings.specs.Names.{offset_among, offset_of, own_section, stands_whole, terminated}
+use Rattle.btf_strings.specs.Names.{offset_among, offset_of, own_section, stands_whole, with_nul}
 use Rattle.btf_strings.specs.Kept.{IsKept, IsSection, IsSound, names_of, value_of}
 use Rattle.btf_strings.proofs.Among.{offset_near, placed_more, value_is}
 use Rattle.btf_strings.proofs.Least.{least_passes}
@@ -55,8 +55,8 @@ kept_with_one_more base base_offsets own places name at kept is near =
       bytes =
           append_assoc own name (0 ∷ [])
           ∙ ap (λ (xs : List ℕ). xs ++ (name ++ 0 ∷ [])) kept.bytes
-          ∙ flat_map_more terminated (first_string base) (names_of places) name
-          ∙ ap (λ (ns : List (List ℕ)). first_string base ++ flat_map terminated ns)
+          ∙ flat_map_more with_nul (first_string base) (names_of places) name
+          ∙ ap (λ (ns : List (List ℕ)). first_string base ++ flat_map with_nul ns)
           (sym (names_more places (name, at)));
       placed = placed_more (first_offset base) places (name, at) kept.placed
           (is ∙ next_is (record { base = base; own = names_of places })) near;

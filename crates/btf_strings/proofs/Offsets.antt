@@ -9,7 +9,7 @@ use Rattle.dw_base.specs.Texts.{text_from, text_of, HasNoNul}
 use Rattle.dw_base.proofs.Texts.{bytes_eq_same}
 use Rattle.btf_strings.specs.Names.{Names, all_strings, base_offset, base_section}
 use Rattle.btf_strings.specs.Names.{begins_string, first_offset, first_string, is_text, next_offset}
-use Rattle.btf_strings.specs.Names.{offset_among, offset_of, own_section, stands_whole, terminated}
+use Rattle.btf_strings.specs.Names.{offset_among, offset_of, own_section, stands_whole, with_nul}
 use Rattle.btf_strings.specs.Kept.{IsSection}
 use Rattle.btf_strings.proofs.Among.{found_last, found_still, text_among}
 use Rattle.btf_strings.proofs.Least.{least_passes}
@@ -44,13 +44,13 @@ absent t (b ∷ bs) e = let h =
     record { some = omega arith; base = h.0; own = h.1 }
 
 -- where the next name comes
-pub next_is : (t : Names) → next_offset t ≡ first_offset t.base + length (flat_map terminated t.own)
+pub next_is : (t : Names) → next_offset t ≡ first_offset t.base + length (flat_map with_nul t.own)
 unfolding own_section
 next_is t = omega (
   arith,
   length-append (base_section t.base) (first_string t.base
-      ++ flat_map terminated t.own),
-  length-append (first_string t.base) (flat_map terminated t.own),
+      ++ flat_map with_nul t.own),
+  length-append (first_string t.base) (flat_map with_nul t.own),
 )
 
 -- an appended name has the place where it was appended
@@ -110,7 +110,7 @@ own_text : (t : Names) (name : List ℕ) (at : ℕ) → HasNoNul name → offset
 unfolding own_section
 own_text t name at clean e =
     ap (λ (xs : List ℕ). text_of xs at)
-    (sym (append_assoc (base_section t.base) (first_string t.base) (flat_map terminated t.own)))
+    (sym (append_assoc (base_section t.base) (first_string t.base) (flat_map with_nul t.own)))
     ∙ text_among (base_section t.base ++ first_string t.base) t.own name at (first_offset t.base)
     clean (sym (length-append (base_section t.base) (first_string t.base))) e
 

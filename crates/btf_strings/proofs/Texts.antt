@@ -113,13 +113,13 @@ text_of_more xs ys at text e =
     rw (drop-append-le at xs ys le) (text_from_more (drop at xs) ys text e)
 
 -- a name with its NUL is a text
-pub text_terminated : (name rest : List ℕ) → HasNoNul name
+pub text_with_nul : (name rest : List ℕ) → HasNoNul name
     → text_from ((name ++ 0 ∷ []) ++ rest) ≡ Some name
 unfolding text_from
-text_terminated [] rest h = refl
-text_terminated (b ∷ bs) rest h =
+text_with_nul [] rest h = refl
+text_with_nul (b ∷ bs) rest h =
     let n : (b == 0) ≡ false = ne_eqb b 0 (h 0 0 (omega arith)) in
     rw (
       n,
-      text_terminated bs rest (λ (k d : ℕ) (lt : k < length bs). h (suc k) d (omega arith)),
+      text_with_nul bs rest (λ (k d : ℕ) (lt : k < length bs). h (suc k) d (omega arith)),
     ) refl

@@ -25,12 +25,12 @@ first_string None = 0 ∷ []
 first_string (Some section) = []
 
 -- a name and its NUL
-abbrev pub terminated : List ℕ → List ℕ
-terminated name = name ++ 0 ∷ []
+abbrev pub with_nul : List ℕ → List ℕ
+with_nul name = name ++ 0 ∷ []
 
 -- the own section
 unfoldable pub own_section : Names → List ℕ
-own_section t = first_string t.base ++ flat_map terminated t.own
+own_section t = first_string t.base ++ flat_map with_nul t.own
 
 -- offsets count on from the base's section
 abbrev pub all_strings : Names → List ℕ

@@ -17,7 +17,7 @@ use Rattle.layout_printer.specs.Layout.{IsStructure}
 use Rattle.layout_printer.specs.declared.slots.TypeLayout.{TypeLayout}
 use Rattle.shown_types.specs.Listed.{is_structure, is_named, nameless_by, nameless_at, structure_by}
 use Rattle.shown_types.specs.Listed.{structure_at}
-use Rattle.shown_types.specs.Shown.{value_at, lacks, lacking_of, no_size, IsShown}
+use Rattle.shown_types.specs.Shown.{value_at, lacks, unsized_member, no_size, IsShown}
 use Rattle.shown_types.proofs.Ranges.{find_none, find_at}
 
 -- a structure or union is there
@@ -105,12 +105,12 @@ lacks_not types pointer t k n p at e =
 no_size_at :
     (types : List CType) (pointer x s : ℕ) (t : CType)
     → structure_at types x ≡ Some s → slice_get types s ≡ Some t
-    → no_size types pointer x ≡ lacking_of types pointer t
+    → no_size types pointer x ≡ unsized_member types pointer t
 unfolding no_size
 no_size_at types pointer x s t is at =
     ap (λ (o : Option ℕ).
-    option_and_then (lacking_of types pointer) (option_and_then (slice_get types) o)) is
-    ∙ ap (λ (o : Option CType). option_and_then (lacking_of types pointer) o) at
+    option_and_then (unsized_member types pointer) (option_and_then (slice_get types) o)) is
+    ∙ ap (λ (o : Option CType). option_and_then (unsized_member types pointer) o) at
 
 pub laid_out :
     (types : List CType) (pointer x s : ℕ) (shown : TypeLayout)

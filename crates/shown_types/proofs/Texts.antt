@@ -16,7 +16,7 @@ use Rattle.shown_types.specs.declared.fault.ShowFault.{ShowFault}
 use Rattle.shown_types.specs.declared.fault.ShowFault.TheVariants.{NoName, NoSize, Memory}
 use Rattle.shown_types.specs.declared.showing.Style.{Style}
 use Rattle.shown_types.specs.Shown.{no_size, first_no_size, IsShown, has_holes, piece, separator}
-use Rattle.shown_types.specs.Shown.{joined_by, whole, put_for, ShowsPlace, ShowsPlaces}
+use Rattle.shown_types.specs.Shown.{join_with, whole, put_for, ShowsPlace, ShowsPlaces}
 
 abbrev Pair : Type 0
 Pair = ℕ × TypeLayout
@@ -31,8 +31,8 @@ is_begun (x ∷ xs) = true
 -- one text more at the end
 joined-push :
     (between : List ℕ) (texts : List (List ℕ)) (text : List ℕ)
-    → joined_by between (texts ++ text ∷ [])
-    ≡ joined_by between texts ++ ((if is_begun texts then between else []) ++ text)
+    → join_with between (texts ++ text ∷ [])
+    ≡ join_with between texts ++ ((if is_begun texts then between else []) ++ text)
 joined-push between [] text = append-nil text
 joined-push between (x ∷ xs) text =
     let f : List ℕ → List ℕ = λ y. between ++ y in
@@ -76,7 +76,7 @@ piece-is types style p false e =
 
 -- a text has begun where one of a type is there
 begun-is : (types : List CType) (style : Style) (ps : List Pair)
-    → is_text (joined_by (separator style) (map (piece types style) ps))
+    → is_text (join_with (separator style) (map (piece types style) ps))
     ≡ is_begun (map (piece types style) ps)
 begun-is types style [] = refl
 begun-is types style (p ∷ ps) =
@@ -132,7 +132,7 @@ more_text types style pairs p true e =
     ∙ ap (λ (c : Bool). old ++ ((if c then separator style else []) ++ piece types style p))
     (text-is old ∙ begun-is types style (kept style pairs))
     ∙ sym (joined-push (separator style) texts (piece types style p))
-    ∙ sym (ap (joined_by (separator style))
+    ∙ sym (ap (join_with (separator style))
     (ap (map (piece types style)) (kept-push style pairs p true e)
     ∙ map-append (piece types style) (kept style pairs) (p ∷ [])))
 more_text types style pairs p false e =
@@ -141,7 +141,7 @@ more_text types style pairs p false e =
     ++ (if c then (if not (length old == 0) then separator style else []) ++ piece types style p
     else [])) e
     ∙ append-nil old
-    ∙ sym (ap (λ (ps : List Pair). joined_by (separator style) (map (piece types style) ps))
+    ∙ sym (ap (λ (ps : List Pair). join_with (separator style) (map (piece types style) ps))
     (kept-push style pairs p false e ∙ append-nil (kept style pairs)))
 
 or_none : (o p : Option ℕ) → o ≡ None → option_or o p ≡ p

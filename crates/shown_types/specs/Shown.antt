@@ -32,14 +32,14 @@ lacks types pointer t k =
     is_none (bits_of types pointer t.label.flag (value_at t.label.parts k) (target_at t.targets k))
 
 -- the id of the type of a structure's first member without a size
-abbrev pub lacking_of : List CType → ℕ → CType → Option ℕ
-lacking_of types pointer t =
+abbrev pub unsized_member : List CType → ℕ → CType → Option ℕ
+unsized_member types pointer t =
     option_map (λ (k : ℕ). id_of (target_at t.targets k))
     (find (lacks types pointer t) (range_with_len 0 (length t.label.parts)))
 
 -- the same of the structure that the type in a place shows
 unfoldable pub no_size : List CType → ℕ → ℕ → Option ℕ
-no_size types pointer x = option_and_then (lacking_of types pointer)
+no_size types pointer x = option_and_then (unsized_member types pointer)
     (option_and_then (slice_get types) (structure_at types x))
 
 -- and of the first place that has one
@@ -68,13 +68,13 @@ piece types style p =
 abbrev pub separator : Style → List ℕ
 separator style = if style.sizes then [] else 10 ∷ []
 
-abbrev pub joined_by : List ℕ → List (List ℕ) → List ℕ
-joined_by between [] = []
-joined_by between (x ∷ xs) = x ++ flat_map (λ (y : List ℕ). between ++ y) xs
+abbrev pub join_with : List ℕ → List (List ℕ) → List ℕ
+join_with between [] = []
+join_with between (x ∷ xs) = x ++ flat_map (λ (y : List ℕ). between ++ y) xs
 
 abbrev pub whole : List CType → Style → List (ℕ × TypeLayout) → List ℕ
 whole types style pairs =
-    joined_by (separator style) (map (piece types style) (filter (has_holes style) pairs))
+    join_with (separator style) (map (piece types style) (filter (has_holes style) pairs))
 
 -- the text of some places: each with its layout
 pub record IsText (types : List CType) (pointer : ℕ) (style : Style)
