@@ -1,10 +1,10 @@
 //! Units in bytes, and their functions.
 use c_model::Part;
-use c_types::{TypeFault, UnitTypes, types_of_unit};
+use c_types::{TypeFault, read_abbrevs};
 use dwarf_forms::FormFault;
 use elf_sections::Image;
 use entry_tree::{WalkFault, units};
-use func_entries::{FuncEntry, UnitFuncs, functions_of_unit};
+use func_entries::{FuncEntries, FuncEntry, entries_of_unit_with};
 use small_files::bytes::{info_of, plain_file};
 use small_files::texts::{append, name_of, put_targets};
 use std::alloc::{AllocError, Global};
@@ -69,11 +69,8 @@ fn line(alloc: Global, one: &FuncEntry<'_>) -> Result<String, AllocError> {
     Ok(text)
 }
 
-/// The functions and the types of a unit.
-type UnitRead<'a> = (UnitFuncs<'a>, UnitTypes<'a>);
-
-/// The functions and the types of the first unit of a file, or the first refusal.
-fn functions_in<'a>(alloc: Global, file: &'a [u8]) -> Result<UnitRead<'a>, TypeFault> {
+/// The functions of the first unit of a file, or the first refusal.
+fn functions_in<'a>(alloc: Global, file: &'a [u8]) -> Result<FuncEntries<'a>, TypeFault> {
     let Ok(image) = Image::read(file) else {
         return Err(TypeFault::Memory);
     };
@@ -87,9 +84,8 @@ fn functions_in<'a>(alloc: Global, file: &'a [u8]) -> Result<UnitRead<'a>, TypeF
     if unit.end.saturating_sub(unit.at) >= 1 << 32 {
         return Err(TypeFault::Memory);
     }
-    let funcs = functions_of_unit(alloc, &image, unit)?;
-    let types = types_of_unit(alloc, &image, unit)?;
-    Ok((funcs, types))
+    let abbrevs = read_abbrevs(alloc, &image, unit)?;
+    entries_of_unit_with(alloc, &image, unit, &abbrevs)?.funcs
 }
 
 /// The functions are these lines.
@@ -106,30 +102,14 @@ fn check_lines(
     Ok(())
 }
 
-/// Whether the places of types that the functions tell are those of the unit's types.
-fn has_places(found: &UnitFuncs<'_>, types: &UnitTypes<'_>) -> bool {
-    let (places, types_there) = (found.places.items(), types.types.items());
-    if places.len() != types_there.len() {
-        return false;
-    }
-    for (place, one) in places.iter().zip(types_there) {
-        if *place != one.at {
-            return false;
-        }
-    }
-    found.has_array == types.has_array
-}
-
-/// Holds the functions of a unit of these entries against lines, and the places against the unit's
-/// types.
+/// Holds the functions of a unit of these entries against lines.
 fn compare(rt: &impl Abort, alloc: Global, entries: &[u8], wanted: &[&str]) -> Result<(), Fail> {
     let mut bytes = Vec::from_slice(alloc, &[1])?;
     bytes.extend_from_slice(entries)?;
     bytes.push(0)?;
     let file = unit_file(alloc, &bytes)?;
-    let (found, types) = functions_in(alloc, &file)?;
-    check_lines(rt, alloc, found.funcs.items(), wanted)?;
-    assert!(rt; has_places(&found, &types), "{entries:?}");
+    let found = functions_in(alloc, &file)?;
+    check_lines(rt, alloc, found.items(), wanted)?;
     Ok(())
 }
 
@@ -208,10 +188,7 @@ fn count(alloc: Global, entries: &[u8]) -> Result<usize, TypeFault> {
     let Ok(file) = unit_file(alloc, entries) else {
         return Err(TypeFault::Memory);
     };
-    match functions_in(alloc, &file) {
-        Ok((found, _)) => Ok(found.funcs.items().len()),
-        Err(fault) => Err(fault),
-    }
+    Ok(functions_in(alloc, &file)?.items().len())
 }
 
 /// Units, and how many functions they have, or their refusals.

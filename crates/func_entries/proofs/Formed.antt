@@ -21,7 +21,6 @@ use Rattle.c_types.proofs.Formed.Names.{IsNamedCleanly, name_clean}
 use Rattle.c_types.proofs.Formed.Refused.{first_empty, second_empty}
 use Rattle.c_types.proofs.Formed.Units.{entries_clean}
 use Rattle.func_entries.specs.declared.entries.FuncEntry.{FuncEntry}
-use Rattle.func_entries.specs.declared.entries.UnitFuncs.{UnitFuncs}
 use Rattle.func_entries.specs.Functions.{some_refused, has_name, is_function, function_at}
 use Rattle.func_entries.specs.Functions.{function_refused, functions_of, refusals_of}
 use Rattle.func_entries.specs.Laws.{protos_of, IsName, FunctionsAreFormed, FunctionsAreNamed}
@@ -69,14 +68,14 @@ proto_formed c e after clean all is none =
 
 pub functions_formed : FunctionsAreFormed
 functions_formed file unit =
-    in_unit file unit (λ (u : UnitFuncs). AreFormed (protos_of u.funcs))
+    in_unit file unit (λ (u : List FuncEntry). AreFormed (protos_of u))
     (All-nil (λ (t : SourceType). IsFormed t.label (length t.targets)))
-    (λ (declarations : List Declaration) (base : ℕ) (u : UnitFuncs) (e : functions_in
+    (λ (declarations : List Declaration) (base : ℕ) (u : List FuncEntry) (e : functions_in
     (scope_of file unit declarations base) (entries_of file unit declarations).ending ≡ Ok u).
     let s = scope_of file unit declarations base in
     let walk = entries_of file unit declarations in
     let a = in_walk s walk.ending u e in
-    subst (λ (v : UnitFuncs). AreFormed (protos_of v.funcs)) a.1
+    subst (λ (v : List FuncEntry). AreFormed (protos_of v)) a.1
     (All-map (λ (t : SourceType). IsFormed t.label (length t.targets))
     (λ (f : FuncEntry). f.proto) (functions_of s.sections walk.entries)
     (functions_all s.sections HasFormed IsNamedCleanly (proto_formed s.sections) walk.entries
@@ -107,13 +106,13 @@ name_is c e after clean all is none =
 
 pub functions_named : FunctionsAreNamed
 functions_named file unit =
-    in_unit file unit (λ (u : UnitFuncs). All (λ (f : FuncEntry). IsName f.name) u.funcs)
+    in_unit file unit (λ (u : List FuncEntry). All (λ (f : FuncEntry). IsName f.name) u)
     (All-nil (λ (f : FuncEntry). IsName f.name))
-    (λ (declarations : List Declaration) (base : ℕ) (u : UnitFuncs) (e : functions_in
+    (λ (declarations : List Declaration) (base : ℕ) (u : List FuncEntry) (e : functions_in
     (scope_of file unit declarations base) (entries_of file unit declarations).ending ≡ Ok u).
     let s = scope_of file unit declarations base in
     let walk = entries_of file unit declarations in
     let a = in_walk s walk.ending u e in
-    subst (λ (v : UnitFuncs). All (λ (f : FuncEntry). IsName f.name) v.funcs) a.1
+    subst (λ (v : List FuncEntry). All (λ (f : FuncEntry). IsName f.name) v) a.1
     (functions_all s.sections (λ (f : FuncEntry). IsName f.name) IsNamedCleanly
     (name_is s.sections) walk.entries (entries_clean file unit declarations) a.0))

@@ -13,7 +13,6 @@ use Rattle.type_attributes.specs.declared.source.SourceType.{SourceType}
 use Rattle.type_attributes.specs.Scopes.{scope_of}
 use Rattle.type_attributes.specs.Ordered.{AreInOrder, LieIn}
 use Rattle.func_entries.specs.declared.entries.FuncEntry.{FuncEntry}
-use Rattle.func_entries.specs.declared.entries.UnitFuncs.{UnitFuncs}
 use Rattle.func_entries.specs.Functions.{is_function, function_at, functions_of}
 use Rattle.func_entries.specs.Laws.{protos_of, FunctionsRise}
 use Rattle.func_entries.specs.Units.{functions_in}
@@ -47,18 +46,18 @@ all_in_order c (e ∷ es) h = one_first (is_function c e) (function_at c e es) (
 
 pub functions_in_order : FunctionsRise
 functions_in_order file unit =
-    in_unit file unit (λ (u : UnitFuncs). AreInOrder (protos_of u.funcs)
-    × LieIn unit.first unit.end (protos_of u.funcs)) (
+    in_unit file unit (λ (u : List FuncEntry). AreInOrder (protos_of u)
+    × LieIn unit.first unit.end (protos_of u)) (
       tt,
       All-nil (λ (t : SourceType). (unit.first ≤ t.at) × (t.at < unit.end)),
     )
-    (λ (declarations : List Declaration) (base : ℕ) (u : UnitFuncs) (e : functions_in
+    (λ (declarations : List Declaration) (base : ℕ) (u : List FuncEntry) (e : functions_in
     (scope_of file unit declarations base) (entries_of file unit declarations).ending ≡ Ok u).
     let s = scope_of file unit declarations base in
     let walk = entries_of file unit declarations in
     let placed = entries_placed file unit declarations in
-    subst (λ (v : UnitFuncs). AreInOrder (protos_of v.funcs)
-    × LieIn unit.first unit.end (protos_of v.funcs)) (in_walk s walk.ending u e).1 (
+    subst (λ (v : List FuncEntry). AreInOrder (protos_of v)
+    × LieIn unit.first unit.end (protos_of v)) (in_walk s walk.ending u e).1 (
       all_in_order s.sections walk.entries placed.0,
       all_stand (λ (n : ℕ). (unit.first ≤ n) × (n < unit.end)) s.sections walk.entries placed.1,
     ))

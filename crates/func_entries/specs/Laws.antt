@@ -3,12 +3,9 @@ use Rattle.std.specs.Prelude.{◌≡◌, ◌<◌, ℕ, List, length, map, All, O
 use Rattle.dw_base.specs.Texts.{HasNoNul}
 use Rattle.entry_tree.specs.declared.unit.Unit.{Unit}
 use Rattle.type_attributes.specs.declared.source.SourceType.{SourceType}
-use Rattle.type_attributes.specs.declared.source.UnitTypes.{UnitTypes}
 use Rattle.c_types.specs.Formed.{AreFormed}
 use Rattle.type_attributes.specs.Ordered.{AreInOrder, LieIn}
-use Rattle.c_types.specs.Types.{types_of_unit_of}
 use Rattle.func_entries.specs.declared.entries.FuncEntry.{FuncEntry}
-use Rattle.func_entries.specs.declared.entries.UnitFuncs.{UnitFuncs}
 use Rattle.func_entries.specs.Units.{functions_of_unit_of}
 
 abbrev pub protos_of : List FuncEntry → List SourceType
@@ -20,22 +17,15 @@ IsName name = (0 < length name) × HasNoNul name
 
 -- the prototypes of a unit of any file are formed, and its functions are named
 abbrev pub FunctionsAreFormed : Type 0
-FunctionsAreFormed = (file : List ℕ) (unit : Unit) (u : UnitFuncs)
-    → functions_of_unit_of file unit ≡ Ok u → AreFormed (protos_of u.funcs)
+FunctionsAreFormed = (file : List ℕ) (unit : Unit) (fs : List FuncEntry)
+    → functions_of_unit_of file unit ≡ Ok fs → AreFormed (protos_of fs)
 
 abbrev pub FunctionsAreNamed : Type 0
-FunctionsAreNamed = (file : List ℕ) (unit : Unit) (u : UnitFuncs)
-    → functions_of_unit_of file unit ≡ Ok u → All (λ (f : FuncEntry). IsName f.name) u.funcs
+FunctionsAreNamed = (file : List ℕ) (unit : Unit) (fs : List FuncEntry)
+    → functions_of_unit_of file unit ≡ Ok fs → All (λ (f : FuncEntry). IsName f.name) fs
 
 -- the functions stand in the order of their entries, behind the unit's header and before its end
 abbrev pub FunctionsRise : Type 0
 FunctionsRise =
-    (file : List ℕ) (unit : Unit) (u : UnitFuncs) → functions_of_unit_of file unit ≡ Ok u
-    → AreInOrder (protos_of u.funcs) × LieIn unit.first unit.end (protos_of u.funcs)
-
--- the places are those of the unit's types, where these are not refused
-abbrev pub PlacesAreTypes : Type 0
-PlacesAreTypes =
-    (file : List ℕ) (unit : Unit) (u : UnitFuncs) (t : UnitTypes)
-    → functions_of_unit_of file unit ≡ Ok u → types_of_unit_of file unit ≡ Ok t
-    → (u.places ≡ map (λ (s : SourceType). s.at) t.types) × (u.has_array ≡ t.has_array)
+    (file : List ℕ) (unit : Unit) (fs : List FuncEntry) → functions_of_unit_of file unit ≡ Ok fs
+    → AreInOrder (protos_of fs) × LieIn unit.first unit.end (protos_of fs)

@@ -1,5 +1,5 @@
-//! The functions of a unit, as they are given back.
-use c_types::SourceType;
+//! What one walk over a unit finds.
+use c_types::{SourceType, TypeFault, UnitTypes};
 use dw_base::{Listed, Name};
 
 /// A function of a unit: a subprogram entry that has a name and is no mere declaration.
@@ -17,16 +17,11 @@ pub struct FuncEntry<'a> {
 /// A list of functions. Contracts see it as the list.
 pub type FuncEntries<'a> = Listed<FuncEntry<'a>>;
 
-/// A list of offsets in `.debug_info`. Contracts see it as the list.
-pub type Offsets = Listed<u64>;
-
-/// The functions of a unit, and where its types stand.
+/// The types and the functions of a unit.
 #[derive(Drop)]
-pub struct UnitFuncs<'a> {
-    /// The functions in the order of their entries.
-    pub funcs: FuncEntries<'a>,
-    /// The offsets of the entries that are types, in order.
-    pub places: Offsets,
-    /// Whether one of these types is an array.
-    pub has_array: bool,
+pub struct UnitEntries<'a> {
+    /// The types.
+    pub types: UnitTypes<'a>,
+    /// The functions in the order of their entries, or the first refusal of one of them.
+    pub funcs: Result<FuncEntries<'a>, TypeFault>,
 }

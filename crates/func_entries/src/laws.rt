@@ -1,6 +1,5 @@
 //! What the definitions say of every unit. Each function does nothing: its contract is the law.
 ghost use Rattle.func_entries.specs.Laws.{FunctionsAreFormed, FunctionsAreNamed, FunctionsRise};
-ghost use Rattle.func_entries.specs.Laws.{PlacesAreTypes};
 
 /// The prototypes of a unit where nothing is refused are well formed, however their targets are
 /// linked.
@@ -17,10 +16,4 @@ pub fn functions_are_named()
 /// the unit's first entry on and before its end.
 pub fn functions_rise()
     ensures { FunctionsRise }
-{}
-
-/// The places that come with the functions are those of the unit's types, and tell of arrays as
-/// these do.
-pub fn places_are_types()
-    ensures { PlacesAreTypes }
 {}

@@ -19,16 +19,18 @@ use Rattle.unit_graph.specs.declared.links.Out.{Out}
 use Rattle.unit_graph.proofs.Formed.{IsFine, fits, units_fine}
 use Rattle.unit_graph.proofs.Within.{linked_fine}
 use Rattle.unit_encoder.specs.Faults.{unit_faults as graph_faults}
+use Rattle.unit_encoder.specs.Functions.{functions_from}
 use Rattle.unit_encoder.specs.Graph.{graph_of, linked as graph_linked, told_out as graph_out}
 use Rattle.unit_encoder.specs.declared.fault.EncodeFault.{EncodeFault}
 use Rattle.unit_encoder.specs.declared.fault.EncodeFault.TheVariants.{NodesTooMany as GraphTooMany}
+use Rattle.unit_encoder.specs.declared.functions.FileFunc.{FileFunc}
+use Rattle.unit_encoder.specs.declared.functions.UnitFault.{UnitFault}
 use Rattle.func_types.specs.Faults.{unit_faults}
-use Rattle.func_types.specs.Prototypes.{func_with, functions_from, linked, numbered}
+use Rattle.func_types.specs.Prototypes.{func_with, linked, numbered}
 use Rattle.func_types.specs.Prototypes.{prototypes_in, prototypes_of_units, sources_by}
 use Rattle.func_types.specs.Prototypes.{sources_in, told_out}
 use Rattle.func_types.specs.declared.fault.FuncFault.{FuncFault}
 use Rattle.func_types.specs.declared.fault.FuncFault.TheVariants.{NodesTooMany as ProtosTooMany}
-use Rattle.func_types.specs.declared.file_funcs.FileFunc.{FileFunc}
 use Rattle.func_types.specs.declared.protos.Func.{Func}
 use Rattle.func_types.specs.declared.protos.Protos.{Protos}
 use Rattle.func_types.proofs.Following.{refs_below}
@@ -148,7 +150,7 @@ module _ (most : ℕ) (units : List FileUnit) (nodes : List CType)
   Known r = (p : Protos Shape) → r ≡ Ok p → AreProtos most p
 
   protos_out : (fs : List FileFunc) (r : Result (List CType) Out)
-      → functions_from 0 [] units ≡ Ok fs → length nodes + 2 * length fs ≤ most
+      → functions_from 0 units ≡ Ok fs → length nodes + 2 * length fs ≤ most
       → nodes_from (sources_in units) [] (prototypes_in (length nodes) fs) ≡ r
       → Known (told_out units nodes fs r)
   protos_out fs (Err o) read le e p is = absurd (cc)
@@ -192,14 +194,14 @@ module _ (most : ℕ) (units : List FileUnit) (nodes : List CType)
       else told_out units nodes fs
       (nodes_from (sources_in units) [] (prototypes_in (length nodes) fs))
 
-  protos_counted : (fs : List FileFunc) (b : Bool) → functions_from 0 [] units ≡ Ok fs
+  protos_counted : (fs : List FileFunc) (b : Bool) → functions_from 0 units ≡ Ok fs
       → nat_lt most (length nodes + 2 * length fs) ≡ b → Known (protos_by fs b)
   protos_counted fs true read e p is = absurd (cc)
   protos_counted fs false read e p is =
       protos_out fs (nodes_from (sources_in units) [] (prototypes_in (length nodes) fs)) read
       (ltb-false most (length nodes + 2 * length fs) e) refl p is
 
-  protos_read : (r : Result (List FileFunc) UnitRefusal) → functions_from 0 [] units ≡ r
+  protos_read : (r : Result (List FileFunc) UnitFault) → functions_from 0 units ≡ r
       → Known (linked most units nodes (unit_faults r))
   protos_read (Err u) read p is = absurd (cc)
   protos_read (Ok fs) read p is =
@@ -207,4 +209,4 @@ module _ (most : ℕ) (units : List FileUnit) (nodes : List CType)
 
   pub protos_known : (p : Protos Shape) → prototypes_of_units most units nodes ≡ Ok p
       → AreProtos most p
-  protos_known = protos_read (functions_from 0 [] units) refl
+  protos_known = protos_read (functions_from 0 units) refl

@@ -13,7 +13,7 @@ use small_files::units::{push_units, units_of_two};
 use std::alloc::{AllocError, Global};
 use std::test::Fail;
 use std::thread::Threads;
-use unit_encoder::{EncodeFault, encode, encode_files};
+use unit_encoder::{EncodeFault, UnitsToRead, encode, encode_files};
 use unit_graph::UnitAt;
 use world_io::{Gate, OpenGate};
 
@@ -364,8 +364,12 @@ fn answer_of_two<R: Threads + Sync>(
     if all.len() as u64 >= 1 << 32 {
         return Ok(Ok(String::new(alloc)));
     }
-    match encode_files(rt, alloc, &OpenGate, jobs, 8, all.as_slice()) {
-        Ok(graph) => Ok(Ok(line(alloc, &graph.packed().unpack(alloc)?)?)),
+    let units = UnitsToRead {
+        units: all.as_slice(),
+        funcs: false,
+    };
+    match encode_files(rt, alloc, &OpenGate, jobs, 8, units) {
+        Ok(types) => Ok(Ok(line(alloc, &types.graph.packed().unpack(alloc)?)?)),
         Err(fault) => Ok(Err(fault)),
     }
 }

@@ -19,7 +19,7 @@ pub mod tables;
 pub mod tags;
 
 pub use links::{Out, link_targets};
-pub use pieces::{cut_of, push_moved_rows};
+pub use pieces::push_moved_rows;
 pub use places::{NodePlace, NodePlaces};
 pub use sources::UnitAt;
 pub use tables::{KeptTable, KeptTables, types_by};

@@ -5,8 +5,8 @@ use Rattle.c_types.specs.Parents.{Descends}
 use Rattle.c_types.proofs.Parenthood.{coming_descends}
 use Rattle.func_entries.proofs.unit.read_unit.Goals as goal
 
-pub read_functions-requires-clause-descending : goal.read_functions-requires-clause-descending
-read_functions-requires-clause-descending c =
-    subst (λ (w : Coming). Descends 0 w.entries) (sym c.new-2.ensures.all)
+pub read_entries-requires-clause-descending : goal.read_entries-requires-clause-descending
+read_entries-requires-clause-descending c =
+    subst (λ (w : Coming). Descends 0 w.entries) (sym c.new.ensures.all)
     (coming_descends (within c.context-form.result) c.args.abbrevs.now
     c.args.unit.now.first c.args.unit.now.first 0)
